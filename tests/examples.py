@@ -1,6 +1,7 @@
 #!/usr/bin/env python3
-"""Reads the examples of files, examples/*.csv, with Python's own `csv`: the header of each, and as many fields in each row. Where the
-program has been built, runs it on them as the README does, and compares what it writes. The gate does not run this.
+"""Tests the example files, examples/*.csv, with Python's own `csv`: each has its header, and as many fields in each row.
+
+If the program is built, runs it on them as the README does, and compares its output. The gate does not run this.
 
     tests/examples.py
 """
@@ -17,7 +18,7 @@ HEADERS = {
     "export": "subject,lrn,cic",
     "findings": "subject,finding",
 }
-# the words behind `--windows`, the file that is read, and the one that is written
+# The words after `--windows`, the file that is read, and the one that is written.
 RUNS = [
     (["bulk", "--feed", "examples/carriers.http"], "bulk", "bulk-report"),
     (["export", "--feed", "examples/first-port.http"], None, "export"),
@@ -37,7 +38,7 @@ def text_of(name):
 
 
 def has_form(name):
-    """The file has its header, and each row as many fields."""
+    """Tests that the file has its header, and each row as many fields."""
     with open(path_of(name), encoding="utf-8", newline="") as file:
         header, *rows = list(csv.reader(file, strict=True))
     return header == HEADERS[name].split(",") and all(len(row) == len(header) for row in rows)

@@ -1,15 +1,15 @@
 #!/usr/bin/env python3
-"""Lines of definitions and proofs that are longer than 100 columns.
+"""Tests that lines of definitions and proofs have at most 100 columns.
 
 usage: tests/lines.py [--break]
 
-It names each line that could be broken, and fails where there is one. An import stays one line, since
+Names each longer line that can be broken, and fails if there is one. An import stays one line, since
 `rt fmt` puts each of its names on a line of its own; a text is one word, and so is a goal's name; and
-`rt fmt` joins a bracket to the `in` before it. With --break the lines of definitions and proofs are
-broken, and `rt fmt` lays out what is broken, until nothing changes.
+`rt fmt` joins a bracket to the `in` before it. With --break, breaks the lines and has `rt fmt` lay
+them out, until nothing changes.
 
-A line is broken behind the bracket of a long record or tuple, so that each of its parts gets a line;
-else before an operator, behind `=` or `in`, or between arguments, where brackets are least deep."""
+A line is broken after the bracket of a long record or tuple, so that each of its parts gets a line;
+else before an operator, after `=` or `in`, or between arguments, where brackets are least deep."""
 import glob
 import os
 import re
@@ -27,7 +27,7 @@ IMPORTS = ("use ", "pub use ", "ghost use ")
 
 
 def words_of(text):
-    """The words of a line, each with its column and the depth of its brackets; a text is one word."""
+    """Returns the words of a line, each with its column and the depth of its brackets; a text is one word."""
     words, depth, start, least, at = [], 0, None, 0, 0
     while at < len(text):
         char = text[at]
@@ -51,7 +51,7 @@ def words_of(text):
 
 
 def rank(word, before):
-    """How well a line is broken before this word: 0 is best, 9 tears an operator from what it takes."""
+    """Returns how well a line breaks before this word: 0 is best, 9 tears an operator from its operand."""
     if before in ("=", "in") or before.endswith(";"):
         return 0
     for place, operators in enumerate(BEFORE):
@@ -63,7 +63,7 @@ def rank(word, before):
 
 
 def breaks_of(text):
-    """Where the line may be broken: column, depth, rank. Never between a λ and its dot."""
+    """Returns where the line may be broken: column, depth, rank. Never between a λ and its dot."""
     words, binders, found = words_of(text), [], []
     for (_, before, _), (column, word, depth) in zip([(0, "|", 0), *words], words):
         if not any(it <= depth for it in binders) and before not in NEVER_BEHIND and word not in NEVER_BEFORE:
@@ -95,7 +95,7 @@ def has_comma(inside):
 
 
 def parts_begin(text):
-    """Behind the bracket of the outermost long record or tuple, if the line has one and no text."""
+    """Returns the place after the bracket of the outermost long record or tuple, if the line has one and no text."""
     found, depth = None, 0
     for place, char in enumerate(text if '"' not in text else ""):
         if char in OPENING:
@@ -113,7 +113,7 @@ def parts_begin(text):
 
 
 def broken(line):
-    """The line in two, or as it is."""
+    """Returns the line in two parts, or as it is."""
     bare = line.lstrip(" ")
     indent = line[:len(line) - len(bare)]
     if bare.startswith("-- "):

@@ -1,13 +1,13 @@
 #!/usr/bin/env python3
-"""What the built program makes of files that the program before it wrote, read with stock SQLite.
+"""Tests the migration of files in the first format by the built program, with stock SQLite.
 
-The statements of these files stand in crates/sql_tests/src/earlier.rt alone, where a test moves them in memory. Here the module of
-Python writes each of them into a file, the program moves it, and the module reads it again. Then the program is asked the rest of the
-worked story in whose middle the file was made: each answer has to be that of the story, to the byte.
+Only crates/sql_tests/src/earlier.rt has the statements of these files; a test there migrates them in memory. Here Python's own SQLite
+module writes each into a file, the program migrates the file, and the module reads it. Each file is from the middle of a worked story:
+the program gets the rest of that story, and each answer must be the story's, to the byte.
 
     tests/moved_files.py      (build first: cd crates/npacd && rt run -- --help)
 
-The gate runs it behind `rt ci`, which leaves the program that it has proved and run.
+The gate runs it after `rt ci`, which leaves the program that it has proved and run.
 """
 import os
 import re
@@ -22,26 +22,26 @@ import stories
 TOP = Path(__file__).resolve().parent.parent
 PROGRAM = TOP / "crates" / "npacd" / "out" / "npacd"
 STATEMENTS = TOP / "crates" / "sql_tests" / "src" / "earlier.rt"
-# the statements of every file, before its own
+# The statements of every file, before its own.
 BEGUN = ("SCHEMA", "REGISTRY")
 
-# the seconds after which a feed counts as one without an end
+# After this many seconds a feed counts as endless.
 LIMIT = 60
 
-# each file, the story, and how many of its messages the program before this one was asked
+# Each file, its story, and how many of the story's messages precede the file.
 FILES = {
     "SENDING": ("failed-block", 16),
     "FAILED": ("failed-block", 34),
     "PARTLY_FAILED": ("failed-block-jump", 14),
 }
 
-# the tables whose rows stay where they are, and those that get a row or none
+# The tables whose rows stay where they are, and those that get a row or none.
 STAYING = ("carrier", "lrn", "code", "block", "broadcast", "wait")
 TABLES = (*STAYING, "version", "clock", "next_routing", "window_set", "version2", "clock2")
 
 
 def statements_of(name):
-    """The texts of a constant of the test: one, or a list of them."""
+    """Returns the texts of a constant of the test: one, or a list."""
     text = STATEMENTS.read_text(encoding="utf-8")
     found = re.search(rf"(?:const|static) {name}: [^=]*=(.*?\"[\s,\]]*);\n", text, re.DOTALL)
     texts = re.findall(r'"((?:[^"\\]|\\\n)*)"', found[1])
@@ -49,7 +49,7 @@ def statements_of(name):
 
 
 def write_file(file, name):
-    """Has stock SQLite write a file, with pages and a log as the program's files have them."""
+    """Writes a file with stock SQLite, with pages and a log as the program's files have them."""
     database = sqlite3.connect(file, isolation_level=None)
     database.execute("PRAGMA page_size = 4096")
     database.execute("PRAGMA journal_mode = WAL")
@@ -67,14 +67,14 @@ def answers_of(rows):
 
 
 def feed(file, text=b""):
-    """The exit of a feed over the file, and what it writes."""
+    """Returns the exit status of a feed over the file, and its output."""
     words = [PROGRAM, "feed", "--windows", stories.WINDOWS, "--db", file]
     ran = subprocess.run(words, input=text, capture_output=True, check=False, timeout=LIMIT)
     return ran.returncode, ran.stdout, ran.stderr
 
 
 def content_of(file):
-    """What stock SQLite thinks of the file, what it lists, and the rows of each table."""
+    """Returns the result of stock SQLite's check of the file, its schema, and the rows of each table."""
     database = sqlite3.connect(file)
     ask = lambda query: database.execute(query).fetchall()
     listed = ask("SELECT type, name, tbl_name, sql FROM sqlite_schema")
@@ -86,7 +86,7 @@ def content_of(file):
 
 
 def moved(rows):
-    """The rows of a file that was moved: docs/FILES.md says what becomes of which."""
+    """Returns the expected rows of a migrated file, as docs/FILES.md describes them."""
     one, now, next_id, *windows = rows["clock"][0]
     return {name: rows[name] for name in STAYING} | {
         "version": [],
@@ -99,7 +99,7 @@ def moved(rows):
 
 
 def checked(name, story, count, folder):
-    """What is looked at of one file, and whether it is as it has to be."""
+    """Returns the checks of one file, and whether each holds."""
     file, other = (os.path.join(folder, f"{name}{end}.db") for end in ("", "-of-today"))
     told = stories.rows_of(story, stories.names_of_all(), True)
     begun, rest = told[:count], told[count:]

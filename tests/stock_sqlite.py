@@ -1,7 +1,7 @@
-"""What stock SQLite finds in a register's file, and what the program makes of a file that was changed by hand.
+"""Tests a register's file with stock SQLite, and the program with files that were changed by hand.
 
-The wanted rows are worked out from docs/RULES.md and docs/FILES.md for the messages below. What it finds in files that the program has
-moved, and what the program then answers, is looked at by tests/moved_files.py.
+The expected rows are worked out from docs/RULES.md and docs/FILES.md for the messages below. tests/moved_files.py tests the files that
+the program has migrated, and its answers then.
 """
 import os
 import shutil
@@ -18,8 +18,8 @@ from moved_files import found_in_all
 TN, LRN = "2025331234", "2025440000"
 PARTIES = f'"new":"AAAA","old":"BBBB","tn":"{TN}"'
 
-# A port that was activated at minute 100, and whose number is then routed without a carrier's code, which nobody has acknowledged yet;
-# and a block that its donor, who uses one of its numbers, gave to the pool and nobody acknowledged.
+# A port that is activated at minute 100, and whose number is then routed without a carrier code, which nobody has acknowledged;
+# and a block that its donor, who uses one of its numbers, gave to the pool, which nobody has acknowledged.
 MESSAGES = [
     ("NPAC", "/carriers", '{"spid":"AAAA"}'),
     ("NPAC", "/carriers", '{"spid":"BBBB"}'),
@@ -36,14 +36,14 @@ MESSAGES = [
     ("BBBB", "/blocks/donate", '{"block":"2025337","lrn":"2025330000","used":["001"]}'),
 ]
 
-# how many rows each table has then: versions of the port, and of the one number of the block that is in use; the tables of an earlier
-# form have none
+# How many rows each table has then: versions of the port, and of the one number of the block that is in use. The tables of an older
+# format have none.
 COUNTS = {
     "carrier": 2, "lrn": 2, "code": 1, "block": 1, "version": 0, "broadcast": 2, "wait": 4, "clock": 0, "next_routing": 1,
     "window_set": 1, "version2": 2, "clock2": 1,
 }
 
-# one look-up of each table, and what docs/FILES.md tells an operator to ask
+# One look-up of each table, and the queries that docs/FILES.md gives an operator.
 QUERIES = [
     ("SELECT count(*) FROM carrier WHERE spid = 'AAAA'", [(1,)]),
     ("SELECT spid FROM lrn WHERE lrn = 2025440000", [("AAAA",)]),
@@ -62,7 +62,7 @@ QUERIES = [
      [(100, 1, 2, 2025331234), (100, 2, 1, 2025337001)]),
 ]
 
-# values that are none of each column's type
+# Values that are not of their column's type.
 SPOILED = {
     "carrier": {"spid": ["AB1", "aaaa", ""]},
     "lrn": {"lrn": [-1, 10**10], "spid": ["A"]},
@@ -83,13 +83,13 @@ SPOILED = {
     "clock2": {"one": [-1, 1], "now": [-1], "next_id": [-1], "present": [0, 1_001]},
 }
 
-# what docs/FILES.md says is not judged: what a version in another status would have
+# Values that the program does not judge, as docs/FILES.md says: those that a version in another status would have.
 TAKEN = [
     ("version2", "release", -1),
     ("version2", "cancelled_by", "both"),
 ]
 
-# other schemas, and a row in a table of an earlier form
+# Other schemas, and a row in a table of an older format.
 SCHEMAS = [
     "CREATE TABLE more (one INTEGER PRIMARY KEY) STRICT",
     "ALTER TABLE carrier ADD COLUMN name TEXT",
@@ -103,14 +103,14 @@ SCHEMAS = [
 
 
 def run(file, text="", windows=WINDOWS):
-    """The exit and what is said of a feed over the file."""
+    """Returns the exit status and the report of a feed over the file."""
     words = [PROGRAM, "feed", "--windows", windows, "--db", file]
     ran = subprocess.run(words, input=text.encode(), capture_output=True, check=False)
     return ran.returncode, ran.stderr.decode().strip(), ran.stdout
 
 
 def changed(original, folder, statement, *values):
-    """A copy of the file in which a statement was carried out by hand."""
+    """Returns a copy of the file in which a statement was executed by hand."""
     file = os.path.join(folder, "changed.db")
     shutil.copy(original, file)
     database = sqlite3.connect(file, isolation_level=None)
@@ -121,7 +121,7 @@ def changed(original, folder, statement, *values):
 
 
 def is_refused(file, fault="npacd: storage", status=3, windows=WINDOWS):
-    """Whether the program refuses the file with this fault, and leaves it as it was."""
+    """Returns whether the program refuses the file with this fault, and leaves it as it was."""
     with open(file, "rb") as before:
         was = before.read()
     found = run(file, windows=windows)[:2]
@@ -140,7 +140,7 @@ def check_rows(file):
 
 
 def windows_of(file):
-    """The columns of a set that hold windows."""
+    """Returns the columns of a set that have windows."""
     database = sqlite3.connect(file)
     names = [row[1] for row in database.execute("PRAGMA table_info(window_set)")]
     database.close()
@@ -148,7 +148,7 @@ def windows_of(file):
 
 
 def with_value(file, folder, table, column, value):
-    """A copy of the file in which the first row of the table has this value by hand."""
+    """Returns a copy of the file in which the first row of the table was given this value by hand."""
     first = f"rowid = (SELECT min(rowid) FROM {table})"
     return changed(file, folder, f"UPDATE OR REPLACE {table} SET {column} = ? WHERE {first}", value)
 

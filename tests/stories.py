@@ -1,9 +1,9 @@
 #!/usr/bin/env python3
-"""Makes what the crate `stories` is run on, and what it must print, of the files of tests/stories.
+"""Tests stories: makes the input and the expected output of the crate `stories` from tests/stories.
 
 tests/stories.py           writes crates/stories/data, args and stdout, and the examples
-tests/stories.py --check   says which of them are not what it would write
-tests/stories.py --play    runs the built program, and names the rows that it answers otherwise
+tests/stories.py --check   names the files that differ from what it would write
+tests/stories.py --play    runs the built program, and names the rows with another answer
 
 tests/stories/README.md says how a story is written.
 """
@@ -22,15 +22,15 @@ CRATE = HERE.parent / "crates" / "stories"
 EXAMPLES = HERE.parent / "examples"
 WINDOWS = EXAMPLES / "windows.toml"
 
-# the stories that are examples too: a stream of messages, and its answers
+# The stories that are examples too: a stream of messages, and its answers.
 SHOWN = ("block", "carrier", "first-port", "modified-for-some", "windows-of-broadcasts")
 
 NUMBERS = {"attempt", "due", "id", "ids", "in_force", "minute", "now", "open", "release", "set", "since"}
-# the windows are numbers too
+# The windows are numbers too.
 NUMBERS |= {"initial_concurrence", "final_concurrence", "pending_retention", "broadcast"}
 NUMBERS |= {"conflict_restriction", "conflict_resolution", "conflict_expiration"}
 NUMBERS |= {"cancellation_initial", "cancellation_final"}
-# the keys of lists: of texts or numbers, and of what `let` has named
+# The keys of lists: of texts or numbers, and of what `let` has named.
 LISTS = {"ids", "used"}
 NAMED_LISTS = {"downloads", "rows"}
 PHRASES = {
@@ -44,12 +44,12 @@ PHRASES = {
     503: "Service Unavailable",
 }
 ENDS = {"input", "closed", "bad_head", "too_large", "cut_body"}
-# between the connections of a story
+# The byte between the connections of a story.
 BREAK = "\x1e"
 
 
 class Mistake(Exception):
-    """What is wrong with a story, and where."""
+    """A mistake in a story, and where it is."""
 
 
 @dataclass
@@ -67,7 +67,7 @@ class End:
 
 @dataclass
 class Names:
-    """What `let` has named: the fields of bodies, and texts."""
+    """The names that `let` has given: to the fields of bodies, and to texts."""
 
     fields: dict[str, dict[str, str]] = field(default_factory=dict)
     texts: dict[str, str] = field(default_factory=dict)
@@ -75,19 +75,19 @@ class Names:
 
 @dataclass
 class Piece:
-    """A piece of what the program has to print, and which line of which story wants it."""
+    """A piece of the expected output, and the line of a story that expects it."""
 
     where: str
     text: str
 
 
 def between(low: str, high: str) -> list[str]:
-    """The numbers from one to another, each with as many digits as the first has."""
+    """Returns the numbers from `low` to `high`, each with as many digits as `low`."""
     return [str(number).zfill(len(low)) for number in range(int(low), int(high) + 1)]
 
 
 def items(text: str) -> list[str]:
-    """The items of a list: one by one, `001..100` for each from one to another, `001*9` for nine times one."""
+    """Returns the items of a list, where `001..100` is each from one to the other, and `001*9` is one nine times."""
     made: list[str] = []
     for part in text.split(","):
         if ends := re.fullmatch(r"(\d+)\.\.(\d+)", part):
@@ -100,7 +100,7 @@ def items(text: str) -> list[str]:
 
 
 def value(key: str, text: str, names: Names) -> str:
-    """A value as JSON writes it."""
+    """Returns a value as JSON writes it."""
     if text in ("null", "true", "false") or text[:1] in ("[", "{"):
         return text
     if key in NAMED_LISTS:
@@ -111,12 +111,12 @@ def value(key: str, text: str, names: Names) -> str:
 
 
 def object_of(fields: dict[str, str], names: Names) -> str:
-    """Fields as an object of JSON, with the keys in rising order."""
+    """Returns fields as a JSON object, with ascending keys."""
     return "{" + ",".join(f'"{key}":{value(key, fields[key], names)}' for key in sorted(fields)) + "}"
 
 
 def fields_of(words: list[str], names: Names) -> dict[str, str]:
-    """The fields that words say: a name's first, if the first word is one, and then `key=value`."""
+    """Returns the fields that words give: those of a name, if the first word is one, and then each `key=value`."""
     fields: dict[str, str] = {}
     if "=" not in words[0]:
         fields.update(names.fields[words.pop(0)])
@@ -127,7 +127,7 @@ def fields_of(words: list[str], names: Names) -> dict[str, str]:
 
 
 def body_of(text: str, names: Names) -> str:
-    """A body: JSON as it stands, texts, or fields, whose keys come in rising order."""
+    """Returns a body: JSON as it is, texts, or fields with ascending keys."""
     if not text or text[0] in "{[":
         return text
     if text.startswith("raw "):
@@ -136,7 +136,7 @@ def body_of(text: str, names: Names) -> str:
 
 
 def texts_of(text: str, names: Names) -> str:
-    """Texts in quotes, as JSON writes them, or names of such; `*N` behind one: it comes N times."""
+    """Joins texts in quotes, as JSON writes them, and names of texts; `*N` after one repeats it N times."""
     made = ""
     for part in re.findall(r'(?:"(?:[^"\\]|\\.)*"|[^\s"*]+)(?:\*\d+)?', text):
         one, times = part, 1
@@ -154,7 +154,7 @@ def asked(caller: str, path: str, body: str) -> str:
 
 
 def answer(text: str, names: Names) -> str:
-    """An answer: a status and a body, or a status, a refusal's name and its number."""
+    """Returns an answer from a status and a body, or from a status, a refusal's name and its number."""
     status, _, rest = text.partition(" ")
     if refused := re.fullmatch(r"(\w+) (\d+)", rest):
         body = f'{{"error":"{refused[1]}","number":{refused[2]}}}'
@@ -165,7 +165,7 @@ def answer(text: str, names: Names) -> str:
 
 
 def unrolled(lines: list[tuple[str, str]]) -> list[tuple[str, str]]:
-    """The lines, with those between `for` and `end` once for each number in place of `#`."""
+    """Returns the lines, those between `for` and `end` once for each number in place of `#`."""
     made: list[tuple[str, str]] = []
     repeated: list[tuple[str, str]] = []
     numbers: list[str] = []
@@ -184,7 +184,7 @@ def unrolled(lines: list[tuple[str, str]]) -> list[tuple[str, str]]:
 
 
 def said_by_each(lines: list[tuple[str, str]]) -> list[tuple[str, str]]:
-    """The lines, with a row of several callers once for each of them, and its answers behind each."""
+    """Returns the lines, a row of several callers once for each of them, with its answers after each."""
     made: list[tuple[str, str]] = []
     rows: list[list[tuple[str, str]]] = []
     for where, line in lines:
@@ -218,7 +218,7 @@ def let(line: str, names: Names) -> None:
 
 
 def add(where: str, line: str, rows: list[Row | End], names: Names, is_whole: bool) -> None:
-    """Adds what a line says to the rows."""
+    """Adds a line to the rows."""
     word, _, rest = line.partition(" ")
     if line.startswith(" "):
         last = rows[-1]
@@ -242,7 +242,7 @@ def add(where: str, line: str, rows: list[Row | End], names: Names, is_whole: bo
 
 
 def rows_of(name: str, names: Names, is_whole: bool) -> list[Row | End]:
-    """A story's rows, with those of the one that it comes after, or without."""
+    """Returns a story's rows, with or without those of the story that it comes after."""
     rows: list[Row | End] = []
     for where, line in lines_of(name):
         try:
@@ -261,7 +261,7 @@ def names_of_all() -> Names:
 
 
 def example(name: str) -> dict[Path, bytes]:
-    """A story of one connection as an example: its messages, and their answers."""
+    """Returns a story of one connection as an example: its messages, and their answers."""
     rows = [row for row in rows_of(name, names_of_all(), True) if isinstance(row, Row)]
     texts = {
         "http": "".join(row.asked for row in rows),
@@ -271,7 +271,7 @@ def example(name: str) -> dict[Path, bytes]:
 
 
 def told(name: str) -> tuple[str, list[Piece]]:
-    """What a story asks, and the pieces of what is to be printed of it."""
+    """Returns the messages of a story, and the pieces of its expected output."""
     rows = rows_of(name, names_of_all(), True)
     if not isinstance(rows[-1], End):
         rows.append(End(f"{name}.story", "input"))
@@ -290,7 +290,7 @@ def told(name: str) -> tuple[str, list[Piece]]:
 
 
 def made() -> tuple[dict[Path, bytes], list[Piece]]:
-    """The files of the crate, and the pieces of its standard output."""
+    """Returns the files of the crate, and the pieces of its standard output."""
     files = {CRATE / "data" / "w.toml": WINDOWS.read_bytes()}
     all_pieces: list[Piece] = []
     names = sorted(path.stem for path in STORIES.glob("*.story"))
@@ -306,7 +306,7 @@ def made() -> tuple[dict[Path, bytes], list[Piece]]:
 
 
 def differences(pieces: list[Piece], heard: str) -> list[str]:
-    """Where what was heard is not what is wanted: the first place of each story."""
+    """Returns where the output differs from what is expected: the first place of each story."""
     found, at, is_lost = [], 0, False
     for piece in pieces:
         is_title = piece.text.startswith("story ")
@@ -327,7 +327,7 @@ def differences(pieces: list[Piece], heard: str) -> list[str]:
 
 
 def notices(pieces: list[Piece]) -> bool:
-    """Whether each answer that is not the wanted one is noticed, and named by its line."""
+    """Returns whether each wrong answer is noticed, and named by its line."""
     wanted = [piece.text for piece in pieces]
     for place, piece in enumerate(pieces):
         other = "".join([*wanted[:place], piece.text[:-2], "~~", *wanted[place + 1 :]])

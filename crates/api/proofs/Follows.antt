@@ -1,4 +1,4 @@
--- A message is a list of the machine's inputs: the minute handed in beside it, and what it asks.
+-- A message as a list of the machine's inputs: the supplied minute, and what the message asks.
 use Rattle.std.proofs.Common.{◌≡◌, ◌⊎◌, ℕ, List, [], ◌∷◌, ◌++◌, Option, Some, None, Bool, true, false, refl, sym, subst, ◌∙◌, inl, inr}
 use Rattle.model.specs.Content.{Content}
 use Rattle.model.specs.Machine.{next, state_after}
@@ -15,7 +15,7 @@ use Rattle.numbers.specs.declared.spid.Spid.{Spid}
 use Rattle.api.specs.Serving.{RefinesReachable}
 use Rattle.api.specs.Step.{RespondsToAdmitted, RespondsTo, Dispatches, DispatchesPath, DispatchesCall, PathAsks, Step, IsUnavailable, IsTickUnavailable, ticked, caller_refusal}
 
--- some list of the machine's inputs leads there
+-- Holds if some inputs of the machine lead from `st` to `after`.
 abbrev Leads : State → State → Type 0
 Leads st after = (inputs : List Input) × (after ≡ state_after st inputs)
 
@@ -92,7 +92,7 @@ leads_on : (inputs more : List Input) (st : State)
 leads_on [] more st = refl
 leads_on (input ∷ inputs) more st = leads_on inputs more (next st input)
 
--- what follows the state before a message, and then the message
+-- A state that the machine can reach stays reachable after a message.
 pub follows_on : (offered : Bool) (tick : Option ℕ) (from to : ℕ) (st : State) (old new : Content)
     (request : Request) (body text : List ℕ) → RefinesReachable st old
     → ((mid : State) → Refines old mid → (after : State) × Step offered tick from to mid request

@@ -1,4 +1,4 @@
--- A run so far, and what is left of the input.
+-- The progress of a run, and the input left.
 use Rattle.std.proofs.Common.{◌≡◌, ℕ, ◌+◌, ◌≤◌, List, [], ◌∷◌, ◌++◌, take, length, vec_len, Option, Some, None, Ok, Bool, true, false, cond, refl, sym, ap, ◌∙◌, subst, inl, inr, arith, append-nil, length-append}
 use Rattle.std.specs.Prelude.{IfSome}
 use Rattle.std.specs.Io.KnownBytes.{Appends, IsAtEnd, prepend_known}
@@ -25,7 +25,7 @@ use Rattle.api.specs.declared.serving.End.TheVariants.{Input, Closed, Refused}
 use Rattle.api.specs.declared.serving.Fault.TheVariants as fault
 use Rattle.api.proofs.Follows.{follows_on}
 
--- k messages were carried out and answered, and so much of the input is left
+-- Holds if `k` messages were executed and answered, and `left` is the input left.
 pub record Going (offered : Bool) (from to : ℕ) (st : State) (new : Content) (input : List ℕ)
     (left had has : Option (List ℕ)) (before behind : Option (List (Option ℕ)))
     (k : ℕ) : Type 0 where
@@ -39,7 +39,7 @@ pub record Going (offered : Bool) (from to : ℕ) (st : State) (new : Content) (
   pub written : Appends had has (responses exchanges)
   pub left_is : left ≡ Some rest
 
--- from each state that the content stood for
+-- Holds if there is such progress from each state that the old content refines.
 abbrev pub Progress : (offered : Bool) → (from to : ℕ) → Content → Content
     → (all left had has : Option (List ℕ)) → (before behind : Option (List (Option ℕ))) → ℕ → Type 0
 Progress offered from to old new all left had has before behind k = (st : State) → Refines old st
@@ -56,7 +56,7 @@ pub at_rest : (left : Option (List ℕ)) (rest : List ℕ) (P : List ℕ → Typ
     → IfSome left P → P rest
 at_rest left rest P e p = subst (λ l. IfSome l P) e p
 
--- what is held is no more than the buffer has room for
+-- The buffer holds at most its size.
 pub held_ahead : (held : ReadBuffer) (unread : Option (List ℕ)) (rest : List ℕ)
     → vec_len held.bytes ≡ 8192 → remaining_input held unread ≡ Some rest → IsReadAhead rest unread
 held_ahead held unread rest size e =
@@ -68,7 +68,7 @@ held_ahead held unread rest size e =
       all = e;
     }
 
--- ---- the minutes handed in
+-- ---- the supplied minutes
 
 hands_in_more : (before mid behind : Option (List (Option ℕ))) (ticks : List (Option ℕ))
     (tick : Option ℕ) → ConsumesTicks before ticks mid → ConsumesTick mid tick behind
@@ -93,7 +93,7 @@ handed_none : (before : Option (List (Option ℕ))) → ConsumesTicks before [] 
 handed_none None = tt
 handed_none (Some told) = refl
 
--- ---- one exchange more
+-- ---- one more exchange
 
 responses-then : (xs : List Exchange) (x : Exchange)
     → responses (xs ++ x ∷ []) ≡ responses xs ++ x.answer
@@ -153,7 +153,7 @@ started offered n c held all had before e =
     subst (λ (h : List ℕ). Progress offered n n c c all (prepend_known h all) had had before before
     0) (sym e) (λ st s. (([], s), start_of offered n c all had before st s))
 
--- ---- whether what comes is the last
+-- ---- the end of serving
 
 open_of : (b : Bool) → cond b (Some Closed) None ≡ None → b ≡ false
 open_of true e = cc
@@ -176,7 +176,7 @@ closed_of false end e = cc
 some_inj : (a b : End) → Some a ≡ Some b → a ≡ b
 some_inj a b e = cc
 
--- with the bytes of the body read another way
+-- `Responds` holds for another reading of the same body.
 pub responds_on : (offered : Bool) (before behind : Option (List (Option ℕ))) (from to : ℕ)
     (next : NextMessage) (body body' text : List ℕ) (old new : Content) → body ≡ body'
     → Responds offered before behind from to next body text old new
@@ -187,7 +187,7 @@ responds_on offered before behind from to next body body' text old new same resp
 module _ (offered : Bool) (from between : ℕ) (old mid : Content)
     (all left had has : Option (List ℕ)) (before untold : Option (List (Option ℕ))) (k : ℕ)
     (progress : Progress offered from between old mid all left had has before untold k) where
-  -- what is told where no more was answered
+  -- The trace if no more messages were answered.
   abbrev told : List ℕ → Option (List ℕ) → IoTrace
   told input unread = record {
     input = input;
@@ -212,7 +212,7 @@ module _ (offered : Bool) (from between : ℕ) (old mid : Content)
     written = g.written;
   }
 
-  -- the input ended, or nothing more could be told of it
+  -- The input ended.
   pub ended : (unread : Option (List ℕ)) → IfSome left (λ rest. ParsesAs rest EndOfInput)
       → IfSome left (λ rest. IsAtEnd unread) → (st : State) → Refines old st
       → IfSome all (λ input. EndsAt Input offered from between st mid (told input unread) k)
@@ -245,7 +245,7 @@ module _ (offered : Bool) (from between : ℕ) (old mid : Content)
         inl (at_rest left g.rest (λ rest. IsReadAhead rest unread) g.left_is ahead),
       )) (progress st s).1
 
-  -- there are more messages than can be counted
+  -- There are more messages than can be counted.
   pub full : (unread : Option (List ℕ)) → k ≡ 18446744073709551615 → (st : State) → Refines old st
       → IfSome all (λ input. FailsAt (fault.Memory k) offered from between st mid
       (told input unread))
@@ -253,8 +253,8 @@ module _ (offered : Bool) (from between : ℕ) (old mid : Content)
       known all _ (λ input. FailsAt (fault.Memory k) offered from between st mid
       (told input unread)) (λ input g. (whole_of st input unread g, inr most)) (progress st s).1
 
-  -- something came, and was answered by the text: so much is left of the input, and what the buffer
-  -- holds of that was read
+  -- A message or a refusal came, and `text` answers it. `left'` is the input left, and the buffer
+  -- holds its beginning.
   module _ (to : ℕ) (new : Content) (held : ReadBuffer) (unread : Option (List ℕ))
       (size : vec_len held.bytes ≡ 8192) (behind : Option (List (Option ℕ)))
       (body text : List ℕ) where
@@ -276,7 +276,7 @@ module _ (offered : Bool) (from between : ℕ) (old mid : Content)
         subst (λ (c : Content). RefinesReachable st c) (sym responds.1) (progress st s).0
 
     module _ (has' : Option (List ℕ)) where
-      -- what is told then
+      -- The trace after this response.
       abbrev told' : List ℕ → IoTrace
       told' input = record {
         input = input;
@@ -287,7 +287,7 @@ module _ (offered : Bool) (from between : ℕ) (old mid : Content)
         written_after = has';
       }
 
-      -- the message, as it came and was answered
+      -- The message with its response.
       abbrev exchange : (request : Request) → Answered (NextMessage.Message request) → Exchange
       exchange request responds =
           record { tick = responds.0; request = request; body = body; answer = text }
@@ -465,7 +465,7 @@ module _ (offered : Bool) (from between : ℕ) (old mid : Content)
           known all _ (λ input. AfterPartialResponse offered from to st new (told' input) k)
           (part_of next comes reads responds sent st) (progress st s).1
 
--- no buffer was had, and nothing was read
+-- The buffers could not be allocated, and nothing was read.
 pub not_begun : (offered : Bool) (n : ℕ) (c : Content) (all had : Option (List ℕ))
     (before : Option (List (Option ℕ))) (st : State) → Refines c st
     → IfSome all (λ input. FailsAt (fault.Memory 0) offered n n st c (record {

@@ -1,4 +1,4 @@
--- But for want of the device or of memory, a message has one answer and one state after it.
+-- A message has one answer and leads to one state, unless the device or an allocation fails.
 use Rattle.std.proofs.Common.{◌≡◌, ◌⊎◌, ℕ, List, Bool, true, false, Option, Some, None, IsSomeAnd, inl, inr, ap, subst, sym, ◌∙◌}
 use Rattle.numbers.specs.declared.spid.Spid.{Spid}
 use Rattle.serde_json.specs.Data.{Data}
@@ -74,7 +74,7 @@ query_once st caller uri text said (inr (inr x)) (inr (inr y)) =
     subst (λ (u : TelUri). RespondsToUri st caller u text) e x.1.2 in
     uri_once st caller y.1.0 text said moved y.1.2
 
--- a call is refused for its caller in one way, or taken in one way
+-- A call has one response and one state after it.
 admitted_once : (st : State) (away : Option ℕ) (input : Input) (text said : List ℕ)
     (after later : State) → RespondsToAdmitted st away input text after
     → RespondsToAdmitted st away input said later → (text ≡ said) × (after ≡ later)
@@ -106,7 +106,7 @@ same_asked : (route : Route) (read : Option Data) (a b : ApiCall)
 same_asked route None a b x y = absurd x
 same_asked route (Some d) a b x y = same_form route d a b x y
 
--- a message on a path asks one thing at most
+-- A message on a path asks at most one thing.
 asks_once : (route : Route) (body : List ℕ) (a b : ApiCall) → PathAsks route body a
     → PathAsks route body b → a ≡ b
 asks_once (Version number) body a b x y =
@@ -183,7 +183,7 @@ tick_withheld : (from to : ℕ) (st : State) (tick : Option ℕ) (text : List �
 tick_withheld from to st None text after x = absurd x
 tick_withheld from to st (Some minute) text after x = withheld from to st text after x
 
--- a message may meet its end at the minute that is handed in, or after it
+-- A message has one response, whether it ends when the clock moves or later.
 step_once : (tick : Option ℕ) (from to from' to' : ℕ) (st : State) (route : Option Route)
     (method : Method) (caller : Option Spid) (body text said : List ℕ) (after later : State) →
     IsTickUnavailable from to st tick text after ⊎ Dispatches from to (ticked st tick) route method

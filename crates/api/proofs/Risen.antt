@@ -2,7 +2,7 @@
 use Rattle.std.proofs.Common.{◌≤◌, ℕ, arith}
 use Rattle.settle.specs.Reads.{HasDeviceFailed}
 
--- what rose while a message was served has risen after later messages
+-- A count that rose during a message has risen after later messages.
 pub risen_until : (from between to : ℕ) → HasDeviceFailed from between → between ≤ to
     → HasDeviceFailed from to
 risen_until from between to risen behind = grind arith

@@ -1,4 +1,4 @@
--- What the machine answers, and what refusals mean for a state.
+-- The machine's answers, and the meaning of refusals for a state.
 use Rattle.std.proofs.Common.{◌≡◌, ◌≢◌, ◌⊎◌, ℕ, ◌<◌, ◌≤◌, List, [], length, take, min, Bool, Option, Some, None, Result, Ok, Err, OnOk, OnErr, IfErr, IsSomeAnd, true, false, ◌∷◌, inl, inr, refl, ap, sym, subst, ◌∙◌, arith}
 use Rattle.std.proofs.lemmas.List.{length-take}
 use Rattle.std.specs.Prelude.{◌==◌, nat_lt, if◌then◌else◌}
@@ -54,7 +54,7 @@ pub never_refused : (st : State) (k : ℕ) → ¬ (MachineRefused k ≡ out st (
 unfolding out tests
 never_refused st k e = cc
 
--- a call answers that the device fails only where the count of its failures rose
+-- Holds if a call answers `Storage` only if the count of the device's failures rose.
 abbrev pub BlamesRightly : (from to : ℕ) → (old : Content) → Refusal → Type 0
 BlamesRightly from to old r = (st : State) → Refines old st → r ≡ Storage → HasDeviceFailed from to
 
@@ -80,9 +80,9 @@ pub blames_since : (from between to : ℕ) (old mid : Content) (r : Refusal) →
 blames_since from between to old mid r before behind same blames =
     λ st s e. risen-since from between to before behind (blames st (same st s) e)
 
--- ---- what a refusal means
+-- ---- the meaning of a refusal
 
--- the device's, memory's, or the machine's
+-- A refusal is `Storage`, `NoMemory` or one of the machine's.
 kind : (r : Refusal) → (r ≡ Storage) ⊎ ((r ≡ NoMemory) ⊎ (nat_lt (number_of r) 29 ≡ true))
 kind UnknownCarrier = inr (inr refl)
 kind NotAdmin = inr (inr refl)
@@ -115,7 +115,7 @@ kind Full = inr (inr refl)
 kind Storage = inl refl
 kind NoMemory = inr (inl refl)
 
--- the device or memory failed and nothing happened, or the machine refuses too
+-- Holds if the device or an allocation failed and the state stays, or if the machine refuses too.
 abbrev Judged : (from to : ℕ) → Refusal → State → Input → Content → Type 0
 Judged from to r st input new = (IsShort from to r × Refines new st)
     ⊎ ((out st input ≡ MachineRefused (number_of r)) × Refines new (next st input))
@@ -152,7 +152,7 @@ short_text r from to (inl x) = inl (
 short_text r from to (inr e) =
     inr (ap (λ (t : Refusal). failure_text (Refused t)) e ∙ text_by_number NoMemory)
 
--- the same of the text that tells it
+-- Holds if the response to the refusal is that of `Judged`.
 abbrev Outcome : (from to : ℕ) → Refusal → State → Input → Content → Type 0
 Outcome from to r st input new =
     ((((failure_text (Refused r) ≡ refusal_text 29) × HasDeviceFailed from to)
@@ -260,7 +260,7 @@ no_download st None new caller (Donate block used lrn cic) downloads e = cc
 no_download st None new caller (Assign block holder lrn cic) downloads e = cc
 no_download st None new caller (Release block) downloads e = cc
 
--- so many at most were asked for
+-- Holds if a call is a fetch of at least as many downloads.
 abbrev IsFetch : ModelCall → List Download → Type 0
 IsFetch called downloads = (n : ℕ) × (called ≡ QuestionCall (Fetch n)) × (length downloads ≤ n)
 
@@ -301,7 +301,7 @@ fetched_of st caller called downloads e =
 
 -- ---- a donation
 
--- a donation was asked for
+-- Holds if a call is a donation.
 abbrev IsDonation : ModelCall → Type 0
 IsDonation called = (block : ℕ) × (used : List ℕ) × (lrn : ℕ) × (cic : Option ℕ)
     × (called ≡ RequestCall (CommandRequest (Donate block used lrn cic)))
@@ -347,14 +347,14 @@ donated_of st caller called b ids e =
     donated_by st (refusal st (input_of caller called)) (accepted st (input_of caller called))
     caller called b ids e
 
--- it has so many ids at most
+-- A donation makes at most a hundred ids.
 few_donated : (st : State) (caller : ℕ) (called : ModelCall) (b : ℕ) (ids : List ℕ)
     → Donated b ids ≡ out st (input_of caller called) → IsDonation called → length ids ≤ 100
 few_donated st caller called b ids e is =
     donated_few st caller is.0 is.1 is.2 is.3 b ids
     (e ∙ ap (λ (k : ModelCall). out st (input_of caller k)) is.4)
 
--- ---- what was counted
+-- ---- the bounds of a reply
 
 not_outgrown : (st : State) (caller : ℕ) (c : ModelCall) (reply : Reply) (counted : ReplyBounds)
     → reply ≡ out st (input_of caller c) → AreReplyBounds st c counted → ¬ (Outgrows counted reply)
@@ -390,7 +390,7 @@ not_outgrown st caller c (WindowsSet now number) counted e is x = x
 
 -- ---- calls
 
--- a caller that may not make the call
+-- A call is refused for its caller.
 pub away_carried : (r : Refusal) (from to : ℕ) (new : Content) (st : State) (caller : ℕ)
     (called : ModelCall) → Refines new st → IsCallerRefused from to st caller called r →
     IsPerformed from to new st caller (RegisterCall called) (failure_text (Refused r))
@@ -403,7 +403,7 @@ away_carried r from to new st caller called s (inr e) = (
   s,
 )
 
--- what is told of a refusal
+-- The text of a refusal answers a call with this result.
 pub refused_as : {A : Type 0} (from to : ℕ) (new : Content) (st : State) (caller : ℕ)
     (asked : ApiCall) (result : Result A Failure) (body : List ℕ) (r : Refusal)
     → result ≡ Err (Refused r) →
@@ -414,7 +414,7 @@ refused_as from to new st caller asked result body r e x =
     (sym e) x
 
 module _ (from to : ℕ) (new : Content) (st : State) (caller : ℕ) (called : ModelCall) where
-  -- no room for what it answers
+  -- There is no memory for the reply.
   pub short_carried : (r : Refusal) → Refines new st → IsShort from to r
       → IsPerformed from to new st caller (RegisterCall called) (failure_text (Refused r))
   short_carried r s short = (st, inl (short_text r from to short, refl), s)
@@ -435,7 +435,7 @@ module _ (from to : ℕ) (new : Content) (st : State) (caller : ℕ) (called : M
       x.3,
     )
 
-    -- what the register refuses
+    -- The register refuses the call.
     pub refused_carried : (r : Refusal) (mid : Content)
         → SimulatesStep mid new (input_of caller called) (refused_with (number_of r))
         → BlamesRightly from to mid r → Refines mid st →
@@ -443,7 +443,7 @@ module _ (from to : ℕ) (new : Content) (st : State) (caller : ℕ) (called : M
     refused_carried r mid h blames s =
         refused_by r (outcome r from to mid new (input_of caller called) h blames st s)
 
-    -- and what it answers
+    -- The register replies to the call.
     pub reply_carried : {A : Type 0} (mid : Content) (reply : Reply) (counted : ReplyBounds)
         (result : Result A Failure) (body : List ℕ) → Refines mid st
         → AreReplyBounds st called counted →
@@ -458,7 +458,7 @@ module _ (from to : ℕ) (new : Content) (st : State) (caller : ℕ) (called : M
     reply_carried mid reply counted (Err failure) body s is h text more =
         absurd (not_outgrown st caller called reply counted (h st s).0 is more)
 
--- ---- who may ask for the ids of a number
+-- ---- the callers that may ask for the ids of a number
 
 known_by : (o : Option ℕ) → Known ≡ refused_or o Known → o ≡ None
 known_by None e = refl
@@ -494,7 +494,7 @@ unknown_turned_away r from to old new caller tn h blames st s =
     blames st
     s)
 
--- by what the register answers
+-- A caller that the register knows is admitted.
 pub known_or_not : (U : Type 0) (result : Result Unit Refusal) (old new : Content) (caller tn : ℕ)
     → (U → SimulatesStep old new (QuestionFrom caller Knows) (replied (λ done. Known) result)) →
     OnOk result (U → (st : State) → Refines old st
@@ -513,7 +513,7 @@ away_or_not U (Err r) from to old new caller tn h blames =
     λ u st s. unknown_turned_away r from to old new caller tn (h u)
     (λ st s e. blames u st s (ap Err e)) st s
 
--- ---- who may move the clock
+-- ---- the caller that may move the clock
 
 abbrev only_if : Bool → Option ℕ
 only_if b = if b then None else Some 2
@@ -577,7 +577,7 @@ refused_query_carried r from between to old mid new caller uri read tn before be
     mid r
     before behind (λ x y. y) blames) st (stays mid st caller Knows (h st s).1))
 
--- the body was written, or memory was wanting
+-- The body was written, or an allocation failed.
 told_or_short : {A : Type 0} (result : Result A Failure) (body wanted : List ℕ)
     → OnOk result (body ≡ wanted) → IfErr result (λ failure. failure ≡ Refused NoMemory)
     → (response_text result body ≡ success wanted) ⊎ (response_text result body ≡ refusal_text 30)
@@ -641,7 +641,7 @@ calls_carried from to new st route caller body d asked text e form x =
     subst (λ (o : Option Data). IsSomeAnd o (λ (given : Data). HasForm route given asked)) e form in
     (x.0, inr (inr (asked, asks, x.1)), x.2)
 
--- what the path asks is carried
+-- A path's request is dispatched.
 pub asked_carried : (from to : ℕ) (new : Content) (st : State) (IsAsked : ApiCall
     → Type 0) (asked : ApiCall) (caller : ℕ) (text : List ℕ) → IsAsked asked
     → IsPerformed from to new st caller asked text →
@@ -649,7 +649,7 @@ pub asked_carried : (from to : ℕ) (new : Content) (st : State) (IsAsked : ApiC
 asked_carried from to new st IsAsked asked caller text asks x =
     (x.0, inr (inr (asked, asks, x.1)), x.2)
 
--- or it asks nothing
+-- A message that asks nothing is refused.
 pub unasked_refused : {A : Type 0} (from to : ℕ) (new : Content) (st : State) (IsAsked : ApiCall
     → Type 0) (caller : ℕ) (result : Result A Failure) (body : List ℕ) (fault : MessageFault)
     → result ≡ Err (Message fault) → fault ≡ BadRequest →
@@ -661,7 +661,7 @@ unasked_refused from to new st IsAsked caller result body fault e bad none s =
     ∙ ap (λ (f : MessageFault). failure_text (Message f)) bad in
     (st, inr (inl (none, (text, refl))), s)
 
--- on a path that ends in no id, no telephone number and no count, the body asks
+-- On a path without id, telephone number and count, the body makes the request.
 pub path_carried : (from to : ℕ) (new : Content) (st : State) (route : Route) (caller : ℕ)
     (body text : List ℕ) → ((number : Option ℕ) → route ≢ Version number)
     → ((number : Option ℕ) → route ≢ Number number) → ((count : Option ℕ) → route ≢ Downloads count)
@@ -708,9 +708,9 @@ step_told offered from to new st request body text said e x = (
   x.2,
 )
 
--- ---- the minute that is handed in
+-- ---- the supplied minute
 
--- what is withheld since the message began, and not since the clock moved
+-- A failure after the clock moved is one since the message began.
 withheld_since : (from between to : ℕ) (st : State) (text : List ℕ) (after : State) → from ≤ between
     → between ≤ to → IsUnavailable between to st text after → IsUnavailable from to st text after
 withheld_since from between to st text after before behind (inl x, e) =
@@ -788,7 +788,7 @@ met_since from between to st tick route method caller body text after before beh
     inr (meets_since from between to (ticked st tick) route method caller body text after before
     behind x)
 
--- the clock moved, and then the message was carried out
+-- The clock moved, and then the message was executed.
 pub tick_then : (offered : Bool) (tick : Option ℕ) (from between to : ℕ) (old mid new : Content)
     (request : Request) (body text : List ℕ) → from ≤ between →
     ((st : State) → Refines old st → Refines mid (ticked st tick)) →
@@ -807,7 +807,7 @@ tick_then offered tick from between to old mid new request body text before move
       x.2,
     )
 
--- the clock's move was withheld
+-- The clock's move failed.
 pub tick_withheld : (offered : Bool) (tick : Option ℕ) (from to : ℕ) (old new : Content)
     (request : Request) (body text said : List ℕ) → from ≤ to → said ≡ text →
     ((st : State) → Refines old st → IsTickUnavailable from to st tick text st × Refines new st) →
@@ -834,7 +834,7 @@ move_refused : (st : State) (m k : ℕ) → MachineRefused k ≡ out st (ClockMo
 unfolding out tests
 move_refused st m k e = only_back (nat_lt m st.now) m k e
 
--- the device or memory failed, and nothing has happened
+-- Holds if the device or an allocation failed, and the state stays.
 abbrev WithholdsMove : (from to : ℕ) → Refusal → State → Content → Type 0
 WithholdsMove from to r st new = IsUnavailable from to st (failure_text (Refused r)) st
     × Refines new st

@@ -1,4 +1,4 @@
--- The answer that storage fails is no answer of the machine, nor that of a message that is refused.
+-- The response `storage` is neither an answer of the machine nor the response to a refused message.
 use Rattle.std.proofs.Common.{◌≡◌, ◌⊎◌, ◌≤◌, ◌<◌, ℕ, List, [], ◌∷◌, ◌++◌, length, get_or, decimal, codes, Bool, true, false, Option, Some, None, inl, inr, refl, ap, sym, subst, ◌∙◌, arith}
 use Rattle.std.specs.List.{list_any}
 use Rattle.std.specs.Prelude.{◌==◌, ◌&&◌, ◌||◌, if◌then◌else◌, ⊤}
@@ -27,11 +27,11 @@ use Rattle.http_messages.specs.declared.paths.Method.{Method}
 use Rattle.http_messages.specs.declared.paths.Route.{Route}
 use Rattle.http_messages.specs.Table.{allows_method, offered_route}
 
--- the text is not that of storage
+-- Holds if the text is not the response `storage`.
 abbrev Differs : List ℕ → Type 0
 Differs text = ¬ (text ≡ refusal_text 29)
 
--- ---- texts are told apart by the first digit of the status, behind `HTTP/1.1 `
+-- ---- texts differ in the first digit of the status, after `HTTP/1.1 `
 
 abbrev class_of : List ℕ → ℕ
 class_of text = get_or text 9 0
@@ -68,12 +68,12 @@ bad_uri : (fault : TelFault) → Differs (failure_text (Uri fault))
 unfolding failure_text
 bad_uri fault = by_class (failure_text (Uri fault)) 52 refl (omega arith)
 
--- ---- those of status 503 by the second digit of the body's length
+-- ---- texts of status 503 differ in the second digit of the body's length
 
 abbrev digit_of : List ℕ → ℕ
 digit_of text = get_or text 83 0
 
--- a refusal's body, with its number in digits
+-- The body of a refusal, with its number as digits.
 abbrev with_digits : (name digits : List ℕ) → List ℕ
 with_digits name digits = codes "{\"error\":\"" ++ name ++ codes "\",\"number\":" ++ digits ++ codes
     "}"
@@ -123,7 +123,7 @@ memory = by_digit (refusal_text 30) 51 memory_digit (omega arith)
 
 -- ---- the machine's refusals
 
--- the text of no test's number is that of storage
+-- Holds if no test's number has the response `storage`.
 abbrev AllDiffer : List (ℕ × Bool) → Type 0
 AllDiffer [] = ⊤
 AllDiffer (t ∷ ts) = Differs (refusal_text t.0) × AllDiffer ts
@@ -147,7 +147,7 @@ first_differs (t ∷ ts) all k e =
 by_number : (k : ℕ) → class_of (refusal_text k) ≡ 52 → Differs (refusal_text k)
 by_number k is = by_class (refusal_text k) 52 is (omega arith)
 
--- the numbers of what commands are refused for
+-- The numbers of the refusals of commands.
 abbrev command_numbers : List ℕ
 command_numbers =
     1 ∷ 2 ∷ 3 ∷ 4 ∷ 5 ∷ 6 ∷ 7 ∷ 8 ∷ 9 ∷ 10 ∷ 11 ∷ 12 ∷ 13 ∷ 14 ∷ 15 ∷ 16 ∷ 17 ∷ 18 ∷ 19 ∷ 20
@@ -238,7 +238,7 @@ differs_among (n ∷ ns) each k is = by_cases (differs_among ns each.1 k) (n == 
         subst (λ (m : ℕ). Differs (refusal_text m)) (equal_number n k e) each.0
     by_cases later false e f = later f
 
--- the tests have such numbers
+-- Whether the tests have such numbers.
 abbrev have_numbers : List (ℕ × Bool) → Bool
 have_numbers [] = true
 have_numbers (t ∷ ts) = list_any (λ n. n == t.0) command_numbers && have_numbers ts
@@ -292,7 +292,7 @@ all_differ st caller c = commands_differ st caller c
 
 -- ---- the machine's replies
 
--- the reply is of what was accepted
+-- Holds if the reply is to an accepted input.
 abbrev Accepts : Reply → Type 0
 Accepts reply = (k : ℕ) → ¬ (reply ≡ Refused k)
 
@@ -437,7 +437,7 @@ query_differs st caller uri (inr (inr x)) = uri_differs st caller x.1.0 x.1.2
 
 -- ---- messages
 
--- the device failed, and nothing has happened
+-- Holds if the device failed, and the state stays.
 abbrev Tells : (from to : ℕ) → (st after : State) → Type 0
 Tells from to st after = HasDeviceFailed from to × (after ≡ st)
 
@@ -480,7 +480,8 @@ meets_tell from to st None method caller body after x = absurd (no_path (sym x.0
 meets_tell from to st (Some route) method caller body after x =
     path_tells from to st route (allows_method route method) caller body after x
 
--- at the minute that is handed in, or after it
+-- The response `storage` implies a failure of the device, whether the clock's move failed or a
+-- later step.
 step_tells : (tick : Option ℕ) (from to : ℕ) (st : State) (route : Option Route) (method : Method)
     (caller : Option Spid) (body : List ℕ) (after : State) →
     IsTickUnavailable from to st tick (refusal_text 29) after

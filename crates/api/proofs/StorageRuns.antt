@@ -1,4 +1,4 @@
--- A run in which the device does not fail has no answer that storage fails.
+-- If the device does not fail during a run, no response of the run is `storage`.
 use Rattle.std.proofs.Common.{◌≡◌, ◌≢◌, ◌≤◌, ℕ, Bool, List, [], ◌∷◌, subst, arith}
 use Rattle.std.proofs.Math.Nat.{le_trans}
 use Rattle.std.proofs.lemmas.List.Elements.{All-nil, All-cons}
@@ -19,7 +19,7 @@ run_rises offered from to st end input rest [] run = let same : to ≡ from = ru
 run_rises offered from to st end input rest (x ∷ xs) run =
     le_trans run.5.rises (run_rises offered run.0 to run.1 end run.2 rest xs run.6)
 
--- the exchange has another answer
+-- Holds if the exchange has another response.
 abbrev IsClear : Exchange → Type 0
 IsClear x = x.answer ≢ refusal_text 29
 

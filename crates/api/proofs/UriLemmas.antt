@@ -1,4 +1,4 @@
--- A query's URI has one reading and one number at most.
+-- A query's URI has at most one reading and one number.
 use Rattle.std.proofs.Common.{◌≡◌, ℕ, List, ◌∷◌, Option, Some, None, option_map, true, false, inl, inr, sym, ◌∙◌}
 use Rattle.numbers.specs.Texts.{tn_text}
 use Rattle.numbers.proofs.DigitLemmas.{digits_of-injective}

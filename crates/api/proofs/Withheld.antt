@@ -1,4 +1,4 @@
--- What was written once a message was answered that storage or memory fails.
+-- What was written once a message was answered with `storage` or `no_memory`.
 use Rattle.std.proofs.Common.{◌≡◌, ◌≢◌, ◌⊎◌, ◌==◌, ℕ, List, [], ◌++◌, take, Option, Err, Bool, true, false, true≢false, refl, ap, sym, ◌∙◌, subst, inl, inr, append-nil, append_assoc}
 use Rattle.std.specs.Prelude.{⊤, IfSome}
 use Rattle.std.specs.Io.KnownBytes.{Appends}
@@ -25,7 +25,7 @@ use Rattle.api.proofs.Going.{Going, Progress, at_rest, known}
 
 module _ (offered : Bool) (from : ℕ) (old : Content) (all had : Option (List ℕ))
     (before : Option (List (Option ℕ))) where
-  -- the answer of the message was written whole
+  -- Holds if the response to that message was written in full.
   abbrev pub Past : (has : Option (List ℕ)) → Type 0
   Past has = (st : State) → Refines old st
       → IfSome all (λ input. (until : RunUntilUnavailable offered from st input before)
@@ -59,7 +59,7 @@ module _ (offered : Bool) (from : ℕ) (old : Content) (all had : Option (List �
   further_partly has has' text sent past =
       stops has' (further has has' (take sent.0 text) sent.2 past)
 
-  -- the messages so far, and then one that was answered so
+  -- The messages so far, and then one that was answered so.
   module _ (between : ℕ) (mid : Content) (left has : Option (List ℕ))
       (untold : Option (List (Option ℕ))) (k : ℕ) (progress : Progress offered from between old mid
       all left had has before untold k)
@@ -135,8 +135,7 @@ module _ (offered : Bool) (from : ℕ) (old : Content) (all had : Option (List �
         )
         part_of has' (NextMessage.Refused fault) comes sent withheld st input g = absurd withheld
 
--- a store that was usable is so still, or what is said of one that is not holds already, or from
--- this message on
+-- A store usable before the message stays usable, or stops with it, and then `Now` holds.
 judged : {Was Is Now Stopped : Type 0} → Was → Stopped ⊎ Is → (Was → Stopped → Now) → Is ⊎ Now
 judged was (inl stopped) starts = inr (starts was stopped)
 judged was (inr is) starts = inl is
@@ -150,7 +149,7 @@ pub already : {Was Then Now : Type 0} → Was ⊎ Then → (Then → Now) → Wa
 already (inl was) goes = inl was
 already (inr then) goes = inr (goes then)
 
--- ---- an answer, or a reply
+-- ---- an answer or a reply
 
 by_number : {Is : Type 0} (r : Refusal) (storage memory : Bool) → (number_of r == 29) ≡ storage
     → (number_of r == 30) ≡ memory → ((r ≢ Storage) × (r ≢ NoMemory) → Is)
@@ -170,7 +169,7 @@ pub refused_or : {Is : Type 0} (r : Refusal) → ((r ≢ Storage) × (r ≢ NoMe
     → IsUnavailableText (failure_text (Refused r)) ⊎ Is
 refused_or r stays = by_number r (number_of r == 29) (number_of r == 30) refl refl stays
 
--- a message that got no reply was answered that storage or memory fails
+-- A message without a reply was answered with `storage` or `no_memory`.
 pub failed_or : {Is : Type 0} (failure : Failure) → (IsReplyAvailable {A = ⊤} (Err failure) → Is)
     → IsUnavailableText (failure_text failure) ⊎ Is
 failed_or (Refused r) stays = refused_or r stays

@@ -1,4 +1,4 @@
--- What is counted before a call is made, and the room for it.
+-- The counts taken before a call is made, and the memory reserved for its reply.
 use Rattle.std.specs.Prelude.{◌≡◌, ℕ, ◌+◌, ◌*◌, ◌≤◌, List, length, Option}
 use Rattle.model.specs.Commands.{RegisterCarrier, Donate}
 use Rattle.model.specs.History.{CommandRequest}
@@ -9,8 +9,8 @@ use Rattle.json_api.specs.declared.response.ResponseBuffer.{ResponseBuffer}
 use Rattle.json_api.specs.ResponseBuffers.{HasCapacity}
 use Rattle.api.specs.declared.reply.ReplyBounds.{ReplyBounds}
 
--- the rows that a registration shows, the downloads that are asked for, and the hundred ids that a
--- donation may make
+-- Holds if the counts bound the reply: the rows of a registration, the downloads that a fetch asks
+-- for, and the hundred ids of a donation at most.
 pub record AreReplyBounds (st : State) (called : ModelCall) (counted : ReplyBounds) : Type 0 where
   pub rows : (spid : ℕ) → called ≡ RequestCall (CommandRequest (RegisterCarrier spid))
       → length (all_in_force st) ≡ counted.rows
@@ -18,7 +18,8 @@ pub record AreReplyBounds (st : State) (called : ModelCall) (counted : ReplyBoun
   pub ids : (block : ℕ) (used : List ℕ) (lrn : ℕ) (cic : Option ℕ)
       → called ≡ RequestCall (CommandRequest (Donate block used lrn cic)) → 100 ≤ counted.ids
 
--- a body with so many rows fits, one with so many downloads, and one with so many ids
+-- Holds if a body with the counted rows fits, one with the counted downloads, and one with the
+-- counted ids.
 pub record HasCapacityFor (counted : ReplyBounds) (r : ResponseBuffer) : Type 0 where
   pub rows : HasCapacity (64 + counted.rows * 64) r
   pub downloads : HasCapacity (64 + counted.downloads * 192) r

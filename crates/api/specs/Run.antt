@@ -1,4 +1,4 @@
--- A run over the messages of an input.
+-- A run: one message of the input after another, with the responses.
 use Rattle.std.specs.Prelude.{◌≡◌, ◌≢◌, ℕ, List, [], ◌∷◌, Bool, false, Option, All, map}
 use Rattle.std.specs.List.{flat_map}
 use Rattle.model.specs.State.{State}
@@ -8,7 +8,7 @@ use Rattle.http_messages.specs.Parsing.{ParsesAs, WholeMessage}
 use Rattle.api.specs.Step.{Step}
 use Rattle.http_messages.specs.declared.message.Request.{Request}
 
--- a message, the minute handed in beside it, and its answer
+-- A message, the minute supplied before it, and its response.
 pub record Exchange : Type 0 where
   pub tick : Option ℕ
   pub request : Request
@@ -18,15 +18,14 @@ pub record Exchange : Type 0 where
 abbrev pub responses : List Exchange → List ℕ
 responses = flat_map (λ x. x.answer)
 
--- the minutes handed in
+-- The minutes supplied, in order.
 abbrev pub ticks_of : List Exchange → List (Option ℕ)
 ticks_of = map (λ x. x.tick)
 
--- From the state st the messages at the front of the input are carried out and answered so, one
--- after another, up to rest.
--- None of them closes. Each begins at the count of the device's failures at which the one before it
--- ended: the first at from,
--- and the last ends at to.
+-- Holds if the messages at the start of the input are executed from the state `st` with these
+-- responses. They leave `rest` of the input and the state `end`. None of them closes the
+-- connection. `from` and `to` count the device's failures before the first message and after the
+-- last; each message begins with the count that its predecessor ended with.
 abbrev pub Run : (offered : Bool) → (from to : ℕ) → State → List ℕ → List Exchange → State → List ℕ
     → Type 0
 Run offered from to st input [] end rest = (to ≡ from) × (end ≡ st) × (rest ≡ input)
@@ -37,7 +36,7 @@ Run offered from to st input (x ∷ xs) end rest =
     × Step offered x.tick from between st x.request x.body x.answer mid
     × Run offered between to mid next xs end rest
 
--- a run in which the device does not fail has no answer that storage fails (29)
+-- Holds if no response of a run is `storage` (29), unless the device failed during the run.
 abbrev pub StaysClear : Type 0
 StaysClear =
     (offered : Bool) (from to : ℕ) (st end : State) (input rest : List ℕ)

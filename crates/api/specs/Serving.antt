@@ -1,6 +1,7 @@
--- What `serve` makes of the input, from the state st on. From and to are the counts of the device's
--- failures before and after, offered says
--- whether the clock's path is there, and new is the content afterwards.
+-- What `serve` does with the input.
+--
+-- Serving begins in the state `st`. `from` and `to` count the device's failures before and after;
+-- `offered` says whether `POST /clock` is served; `new` is the content afterwards.
 use Rattle.std.specs.Prelude.{◌≡◌, ℕ, ◌+◌, ◌⊎◌, List, [], ◌∷◌, ◌++◌, length, take, Option, Some, None, Result, Ok, Err, Bool, true, if◌then◌else◌}
 use Rattle.std.specs.Io.KnownBytes.{Appends, IsAtEnd}
 use Rattle.model.specs.Content.{Content}
@@ -24,24 +25,24 @@ use Rattle.api.specs.declared.serving.Served.{Served}
 use Rattle.api.specs.declared.serving.Fault.{Fault}
 use Rattle.api.specs.declared.serving.Fault.TheVariants.{Read, Write, Memory}
 
--- the answer to what is refused
+-- The response to a refused message.
 abbrev pub refusal : MessageFault → List ℕ
 refusal fault = failure_text (Failure.Message fault)
 
--- what the reader, the ticks and the writer tell, before serving and after it
+-- What is known of the reader, the ticks and the writer, before serving and after it.
 pub record IoTrace : Type 0 where
-  -- the bytes that the reader has, and then still has
+  -- The bytes of the reader, before and after.
   pub input : List ℕ
   pub unread : Option (List ℕ)
-  -- the minutes that the ticks hand in from there on, and then from there on
+  -- The minutes that the ticks have still to supply, before and after.
   pub ticks_before : Option (List (Option ℕ))
   pub ticks_after : Option (List (Option ℕ))
-  -- what the writer holds, and then holds
+  -- The bytes written, before and after.
   pub written_before : Option (List ℕ)
   pub written_after : Option (List ℕ)
 
--- k messages were carried out and answered whole, each beside a minute that was handed in, and
--- nothing else was written
+-- Holds if `k` messages were executed and answered in full, each with one supplied minute, and
+-- nothing else was written.
 pub record AfterExchanges (offered : Bool) (from to : ℕ) (st : State) (new : Content)
     (trace : IoTrace)
     (k : ℕ) : Type 0 where
@@ -54,7 +55,7 @@ pub record AfterExchanges (offered : Bool) (from to : ℕ) (st : State) (new : C
   pub handed : ConsumesTicks trace.ticks_before (ticks_of exchanges) trace.ticks_after
   pub written : Appends trace.written_before trace.written_after (responses exchanges)
 
--- the last of k messages closes, and nothing behind it was answered
+-- Holds if the last of `k` messages closes the connection, and nothing after it was answered.
 pub record AfterClose (offered : Bool) (from to : ℕ) (st : State) (new : Content) (trace : IoTrace)
     (k : ℕ) : Type 0 where
   pub exchanges : List Exchange
@@ -76,8 +77,8 @@ pub record AfterClose (offered : Bool) (from to : ℕ) (st : State) (new : Conte
   pub written : Appends trace.written_before trace.written_after
       (responses exchanges ++ last.answer)
 
--- what comes after the messages is refused; its answer is written, and it is counted. No minute is
--- handed in beside it
+-- Holds if the input after the executed messages is refused, its response is written, and it is
+-- counted among the `k`. No minute is supplied for it.
 pub record AfterRefusal (fault : MessageFault) (offered : Bool) (from to : ℕ) (st : State)
     (new : Content) (trace : IoTrace) (k : ℕ) : Type 0 where
   pub exchanges : List Exchange
@@ -92,8 +93,8 @@ pub record AfterRefusal (fault : MessageFault) (offered : Bool) (from to : ℕ) 
   pub written : Appends trace.written_before trace.written_after (responses exchanges ++ refusal
       fault)
 
--- the answer to what stands at the front of the rest: a message, which was carried out beside the
--- next minute, or what is refused
+-- Holds if `answer` is the response to what `rest` begins with: a message that was executed after
+-- the next minute was supplied, or a refused one.
 abbrev pub IsNextAnswer : (offered : Bool) → (from to : ℕ) → State → List ℕ
     → (unread : Option (List ℕ)) → (before behind : Option (List (Option ℕ))) → List ℕ → State
     → Type 0
@@ -104,7 +105,8 @@ IsNextAnswer offered from to mid rest unread before behind answer end =
     ⊎ ((fault : MessageFault) × ParsesAs rest (RefusedMessage fault) × IsReadTo fault rest unread
     × (behind ≡ before) × (answer ≡ refusal fault) × (end ≡ mid) × (to ≡ from))
 
--- k messages were carried out and answered whole, and of the next answer a front was written
+-- Holds if `k` messages were executed and answered in full, and a prefix of the next response was
+-- written.
 pub record AfterPartialResponse (offered : Bool) (from to : ℕ) (st : State) (new : Content)
     (trace : IoTrace)
     (k : ℕ) : Type 0 where
@@ -125,7 +127,7 @@ pub record AfterPartialResponse (offered : Bool) (from to : ℕ) (st : State) (n
   pub written : Appends trace.written_before trace.written_after (responses exchanges ++ take part
       answer)
 
--- at the end of the input nothing is left of it
+-- Holds if serving ended so. At the end of the input, only empty lines are left.
 abbrev pub EndsAt : End → (offered : Bool) → (from to : ℕ) → State → Content → IoTrace → ℕ → Type 0
 EndsAt Input offered from to st new trace k =
     (whole : AfterExchanges offered from to st new trace k)
@@ -134,9 +136,9 @@ EndsAt Closed offered from to st new trace k = AfterClose offered from to st new
 EndsAt (Refused fault) offered from to st new trace k =
     AfterRefusal fault offered from to st new trace k
 
--- a reader that fails was asked for bytes of a message that was not there whole; where a buffer
--- finds no memory, no more is read; and there
--- may be more messages than can be counted
+-- Holds if serving failed so. `Read`: what was read of the rest is no whole message. `Memory`: no
+-- more than a buffer of the rest was read, or there are more messages than can be counted. `Write`:
+-- a prefix of a response was written.
 abbrev pub FailsAt : Fault → (offered : Bool) → (from to : ℕ) → State → Content → IoTrace → Type 0
 FailsAt (Read k) offered from to st new trace =
     (whole : AfterExchanges offered from to st new trace k)
@@ -146,7 +148,7 @@ FailsAt (Memory k) offered from to st new trace =
     × (IsReadAhead whole.rest trace.unread ⊎ (k ≡ 18446744073709551615))
 FailsAt (Write k) offered from to st new trace = AfterPartialResponse offered from to st new trace k
 
--- serving ended or failed so
+-- Holds if serving ended or failed so.
 abbrev pub Serves : Result Served Fault → (offered : Bool) → (from to : ℕ) → State → Content
     → IoTrace
     → Type 0
@@ -154,9 +156,8 @@ Serves (Ok served) offered from to st new trace =
     EndsAt served.end offered from to st new trace served.count
 Serves (Err fault) offered from to st new trace = FailsAt fault offered from to st new trace
 
--- from the state st on the messages at the front of the input were carried out and answered so,
--- each beside a minute that was handed in, and the next
--- one was answered that storage or memory fails
+-- A run from the state `st` up to a message answered with `storage` or `no_memory`. Its messages
+-- begin the input, and each has one supplied minute.
 pub record RunUntilUnavailable (offered : Bool) (from : ℕ) (st : State) (input : List ℕ)
     (before : Option (List (Option ℕ))) : Type 0 where
   pub exchanges : List Exchange
@@ -173,8 +174,8 @@ pub record RunUntilUnavailable (offered : Bool) (from : ℕ) (st : State) (input
   pub answer : List ℕ
   pub withheld : IsUnavailableText answer
 
--- that was written, or of its last answer a front; and behind the whole of it something of which
--- nothing is said
+-- Holds if the responses of such a run were written, the last of them in part or in full. Not said:
+-- what was written after the last response.
 abbrev pub WritesUntil : (offered : Bool) → (from : ℕ) → State → (input : List ℕ)
     → (before : Option (List (Option ℕ))) → (had has : Option (List ℕ)) → Type 0
 WritesUntil offered from st input before had has =
@@ -182,18 +183,18 @@ WritesUntil offered from st input before had has =
     × (((part : ℕ) × Appends had has (responses until.exchanges ++ take part until.answer))
     ⊎ ((more : List ℕ) × Appends had has ((responses until.exchanges ++ until.answer) ++ more)))
 
--- it is a message, and the text answers that storage or memory fails
+-- Holds if the next message is whole, and the text answers it with `storage` or `no_memory`.
 abbrev pub IsUnavailableResponse : NextMessage → List ℕ → Type 0
 IsUnavailableResponse (NextMessage.Message request) text = IsUnavailableText text
 IsUnavailableResponse (NextMessage.Refused fault) text = ⊥
 
--- the content stands for a state that some list of the machine's inputs leads to from st
+-- Holds if the content refines a state that the machine can reach from `st`.
 abbrev pub RefinesReachable : State → Content → Type 0
 RefinesReachable st new = (inputs : List MachineInput) × Refines new (state_after st inputs)
 
--- a message was carried out, beside the minute that was handed in, and the text answers it; or the
--- text is that of a refusal,
--- and nothing was carried out or handed in. Before and behind are the ticks as they are told
+-- Holds if a message was executed with the supplied minute and the text is its response; or if the
+-- text is the response to a refused message, and nothing was executed or supplied. `before` and
+-- `behind` are the minutes that the ticks have still to supply, if known.
 abbrev pub Responds : (offered : Bool) → (before behind : Option (List (Option ℕ))) → (from to : ℕ)
     → NextMessage → List ℕ → List ℕ → Content → Content → Type 0
 Responds offered before behind from to (NextMessage.Message request) body text old new =
@@ -203,7 +204,7 @@ Responds offered before behind from to (NextMessage.Message request) body text o
 Responds offered before behind from to (NextMessage.Refused fault) body text old new =
     (text ≡ refusal fault) × (new ≡ old) × (to ≡ from) × (behind ≡ before)
 
--- whether what comes is the last
+-- Why serving ends after the next message, if it does.
 abbrev pub end_of : NextMessage → Option End
 end_of (NextMessage.Message request) = if request.closes then Some Closed else None
 end_of (NextMessage.Refused fault) = Some (Refused fault)

@@ -1,4 +1,4 @@
--- One message, and what it makes of a state.
+-- One message: its response, and the state it leads to.
 use Rattle.std.specs.Prelude.{◌≡◌, ◌≢◌, ◌⊎◌, ⊤, ℕ, ◌==◌, ◌<◌, ◌≤◌, List, [], length, codes, Bool, true, false, if◌then◌else◌, Option, Some, None, IsSomeAnd, Result, Ok, Err}
 use Rattle.numbers.specs.Digits.{IsTn}
 use Rattle.numbers.specs.declared.spid.Spid.{Spid}
@@ -36,12 +36,12 @@ use Rattle.json_api.specs.Texts.{registered_text, donated_text, routing_number_t
 
 -- ---- the answers to what was asked, byte for byte
 
--- the whole answer of what was carried out
+-- The whole response to a message that was executed.
 unfoldable pub success : List ℕ → List ℕ
 success body = response 200 body
 
--- the machine's reply to a call. The other replies are of inputs that no path asks for, or a
--- query's
+-- The response for the machine's reply to a call. Replies without text answer a query, or inputs
+-- without a path.
 abbrev pub reply_text : Reply → List ℕ
 reply_text (Refused number) = refusal_text number
 reply_text (Registered spid rows) = success (registered_text spid rows)
@@ -59,7 +59,7 @@ reply_text (Awaited subjects) = []
 reply_text (Found in_force opened) = success (ids_text in_force opened)
 reply_text (WindowsSet now number) = success (windows_set_text now number)
 
--- the machine's reply to a query for the number of a URI
+-- The response for the machine's reply to a query on the number of a URI.
 abbrev pub routed_text : TelUri → Reply → List ℕ
 routed_text uri (Refused number) = refusal_text number
 routed_text uri (Answered answered) = success (uri_text (looked_up uri answered))
@@ -76,79 +76,81 @@ routed_text uri (Awaited subjects) = []
 routed_text uri (Found in_force opened) = []
 routed_text uri (WindowsSet now number) = []
 
--- what is written for a call: a body for what was carried out, or why it was not
+-- The response to a call: success with the body, or the failure.
 abbrev pub response_text : {A : Type 0} → Result A Failure → (body : List ℕ) → List ℕ
 response_text (Ok done) body = success body
 response_text (Err failure) body = failure_text failure
 
--- a message got a reply, if only why it was not carried out; that storage or memory fails is none
+-- Holds if a message got a reply, be it a refusal, other than `storage` and `no_memory`.
 abbrev pub IsReplyAvailable : {A : Type 0} → Result A Failure → Type 0
 IsReplyAvailable (Ok done) = ⊤
 IsReplyAvailable (Err (Turned refusal)) = (refusal ≢ Storage) × (refusal ≢ NoMemory)
 IsReplyAvailable (Err (Uri fault)) = ⊤
 IsReplyAvailable (Err (Message fault)) = ⊤
 
--- a call is refused for want of memory; or for want of the device, where the count of its failures
--- rose
+-- Holds if a call is refused because an allocation failed; or because the device failed, and the
+-- count of its failures rose.
 abbrev pub IsShort : (from to : ℕ) → Refusal → Type 0
 IsShort from to refusal = ((refusal ≡ Storage) × HasDeviceFailed from to) ⊎ (refusal ≡ NoMemory)
 
--- a registration shows more rows, a carrier's queue more downloads, or a donation more ids, than
--- were counted
+-- Holds if a registration shows more rows, a fetch more downloads, or a donation more ids, than
+-- were counted.
 abbrev pub Outgrows : ReplyBounds → Reply → Type 0
 Outgrows counted (Registered spid rows) = counted.rows < length rows
 Outgrows counted (Fetched downloads) = counted.downloads < length downloads
 Outgrows counted (Donated block ids) = counted.ids < length ids
 Outgrows counted _ = ⊥
 
--- ---- what happens to a state. From and to are the counts of the device's failures before a
--- message and after it
+-- ---- what a message does to a state; `from` and `to` count the device's failures before and after
 
--- the answer of storage (29) or memory (30) that fails
+-- Holds if the text answers `storage` (29) or `no_memory` (30).
 abbrev pub IsUnavailableText : List ℕ → Type 0
 IsUnavailableText text = (text ≡ refusal_text 29) ⊎ (text ≡ refusal_text 30)
 
--- storage fails, and the device failed meanwhile, or memory fails; and nothing has happened
+-- Holds if the text answers `storage` and the device failed meanwhile, or the text answers
+-- `no_memory`; the state stays.
 abbrev pub IsUnavailable : (from to : ℕ) → State → (text : List ℕ) → (after : State) → Type 0
 IsUnavailable from to st text after =
     (((text ≡ refusal_text 29) × HasDeviceFailed from to) ⊎ (text ≡ refusal_text 30)) × (after ≡ st)
 
--- the message is refused, and nothing has happened
+-- Holds if the message is refused, and the state stays.
 abbrev pub RespondsRefusal : State → MessageFault → (text : List ℕ) → (after : State) → Type 0
 RespondsRefusal st fault text after = (text ≡ failure_text (Message fault)) × (after ≡ st)
 
--- the machine takes the input
+-- Holds if the text and the next state are the machine's for this input.
 abbrev pub RespondsAsMachine : State → Input → (text : List ℕ) → (after : State) → Type 0
 RespondsAsMachine st input text after = (text ≡ reply_text (out st input)) × (after ≡ next st input)
 
 -- ---- queries
 
--- the text is a tel URI of the grammar, with these parts
+-- Holds if the text is a `tel` URI of the grammar with these parts.
 pub record IsUri (text : List ℕ) (uri : TelUri) : Type 0 where
   pub same : uri.text ≡ text
   pub parts : IsTelUri text uri.number uri.parameters
 
--- the register is not asked: the URI was looked up already, or its digits are not 1 and a telephone
--- number
+-- Holds if the register is not asked: the URI has been looked up already, or its digits are not 1
+-- and a telephone number.
 abbrev pub IsReturnedAsIs : TelUri → Type 0
 IsReturnedAsIs uri = (has_name (codes "npdi") uri.parameters ≡ true) ⊎ ((tn : ℕ) → IsTn tn
     → ¬ (HasTn uri.number tn))
 
--- the register is asked for this telephone number: the URI was not looked up yet, and its digits
--- are 1 and the number's
+-- Holds if the register is asked for this telephone number: the URI has not been looked up, and its
+-- digits are 1 and the number.
 pub record AsksFor (uri : TelUri) (tn : ℕ) : Type 0 where
   pub valid : IsTn tn
   pub new : has_name (codes "npdi") uri.parameters ≡ false
   pub said : HasTn uri.number tn
 
--- a URI without a fault: its text comes back byte for byte, or its number's code is asked for
+-- Holds for a valid URI if its text comes back byte for byte, or if the text is the answer on its
+-- number.
 abbrev pub RespondsToUri : State → (caller : ℕ) → (uri : TelUri) → (text : List ℕ) → Type 0
 RespondsToUri st caller uri text =
     (IsReturnedAsIs uri × (text ≡ success (uri_text uri.text)))
     ⊎ ((tn : ℕ) × AsksFor uri tn
     × (text ≡ routed_text uri (out st (QuestionFrom caller (Query tn)))))
 
--- a query: first its caller, then its URI, then its number's code
+-- Holds if the text answers a query. The caller is judged first, then the URI, then the code of its
+-- number.
 abbrev pub RespondsToQuery : State → (caller : ℕ) → (uri : List ℕ) → (text : List ℕ) → Type 0
 RespondsToQuery st caller uri text =
     ((number : ℕ) × (out st (QuestionFrom caller Knows) ≡ Refused number)
@@ -161,9 +163,8 @@ RespondsToQuery st caller uri text =
 
 -- ---- calls
 
--- what a call is refused with for its caller, where the machine does not judge the caller itself:
--- the clock is the
--- administrator's alone, and the ids of a number are told to whom the register knows
+-- The refusal of a caller, for calls whose caller the machine does not judge: only the
+-- administrator moves the clock; only a caller that the register knows sees the ids of a number.
 abbrev pub caller_refusal : State → (caller : ℕ) → ModelCall → Option ℕ
 caller_refusal st caller (MomentCall minute) = if caller == npac then None else Some 2
 caller_refusal st caller (QuestionCall (Ids tn)) = refusal st (QuestionFrom caller Knows)
@@ -175,16 +176,16 @@ caller_refusal st caller (QuestionCall AllInForce) = None
 caller_refusal st caller (QuestionCall Waiting) = None
 caller_refusal st caller (RequestCall request) = None
 
--- the caller may make the call
+-- Holds if the caller may make the call.
 abbrev pub IsCallerAdmitted : State → (caller : ℕ) → ModelCall → Type 0
 IsCallerAdmitted st caller called = caller_refusal st caller called ≡ None
 
--- the caller may not, or that could not be told
+-- Holds if the caller may not make the call, or if a failure prevented the decision.
 abbrev pub IsCallerRefused : (from to : ℕ) → State → (caller : ℕ) → ModelCall → Refusal → Type 0
 IsCallerRefused from to st caller called reason =
     IsShort from to reason ⊎ (caller_refusal st caller called ≡ Some (number_of reason))
 
--- a call that is refused for its caller changes nothing; else the machine takes it
+-- Holds if a call that is refused for its caller changes nothing, and the machine takes any other.
 abbrev pub RespondsToAdmitted : State → (away : Option ℕ) → Input → (text : List ℕ)
     → (after : State)
     → Type 0
@@ -196,9 +197,9 @@ abbrev pub RespondsToCall : State → (caller : ℕ) → ModelCall → (text : L
 RespondsToCall st caller called text after =
     RespondsToAdmitted st (caller_refusal st caller called) (input_of caller called) text after
 
--- ---- what is asked
+-- ---- what a caller asks
 
--- what a caller asks is answered, or withheld
+-- Holds if the text answers what the caller asks, or is `storage` or `no_memory`.
 abbrev pub RespondsTo : (from to : ℕ) → State → (caller : ℕ) → ApiCall → (text : List ℕ)
     → (after : State) → Type 0
 RespondsTo from to st caller (RegisterCall called) text after = IsUnavailable from to st text after
@@ -208,35 +209,35 @@ RespondsTo from to st caller (UriQuery uri) text after = IsUnavailable from to s
 
 -- ---- messages
 
--- the body is JSON of the path's form, and asks this
+-- Holds if the body is JSON of the route's form, and asks this.
 abbrev pub BodyAsks : Route → (body : List ℕ) → ApiCall → Type 0
 BodyAsks route body asked = IsSomeAnd (json_of body) (λ d. HasForm route d asked)
 
--- the path ends in an id, no body comes with it, and that version is asked for
+-- Holds if the path ends in an id, the body is empty, and the request is for that version.
 abbrev pub IdAsks : Option ℕ → (body : List ℕ) → ApiCall → Type 0
 IdAsks number body asked = (id : ℕ) × (number ≡ Some id) × (body ≡ [])
     × (asked ≡ RegisterCall (QuestionCall (ShowVersion id)))
 
--- the path ends in a telephone number, no body comes with it, and the ids of that number are asked
--- for
+-- Holds if the path ends in a telephone number, the body is empty, and the request is for the ids
+-- of that number.
 abbrev pub NumberAsks : Option ℕ → (body : List ℕ) → ApiCall → Type 0
 NumberAsks number body asked = (tn : ℕ) × (number ≡ Some tn) × IsTn tn × (body ≡ [])
     × (asked ≡ RegisterCall (QuestionCall (Ids tn)))
 
--- the path ends in a number from 1 to 100, no body comes with it, and so many of the caller's
--- downloads are asked for
+-- Holds if the path ends in a number from 1 to 100, the body is empty, and the request is for that
+-- many downloads.
 abbrev pub CountAsks : Option ℕ → (body : List ℕ) → ApiCall → Type 0
 CountAsks count body asked = (n : ℕ) × (count ≡ Some n) × (1 ≤ n) × (n ≤ 100) × (body ≡ [])
     × (asked ≡ RegisterCall (QuestionCall (Fetch n)))
 
--- a message on the path asks this
+-- Holds if a message on the route asks this.
 abbrev pub PathAsks : Route → (body : List ℕ) → ApiCall → Type 0
 PathAsks (Version number) body asked = IdAsks number body asked
 PathAsks (Number number) body asked = NumberAsks number body asked
 PathAsks (Downloads count) body asked = CountAsks count body asked
 PathAsks route body asked = BodyAsks route body asked
 
--- a message that asks nothing is refused; else what it asks is answered
+-- Holds if a message that asks nothing is refused, and any other is answered.
 abbrev pub DispatchesCall : (from to : ℕ) → State → (IsAsked : ApiCall → Type 0) → (caller : ℕ)
     → (text : List ℕ) → (after : State) → Type 0
 DispatchesCall from to st IsAsked caller text after =
@@ -244,7 +245,7 @@ DispatchesCall from to st IsAsked caller text after =
     ⊎ (((asked : ApiCall) → ¬ (IsAsked asked)) × RespondsRefusal st BadRequest text after)
     ⊎ ((asked : ApiCall) × IsAsked asked × RespondsTo from to st caller asked text after)
 
--- on a path, first the method is judged, then the caller, then what is asked
+-- Holds if, on a route, the method is judged first, then the caller, then the request.
 abbrev pub DispatchesPath : (from to : ℕ) → State → Route → (has_method : Bool)
     → (caller : Option Spid)
     → (body text : List ℕ) → (after : State) → Type 0
@@ -254,31 +255,29 @@ DispatchesPath from to st route true None body text after = RespondsRefusal st B
 DispatchesPath from to st route true (Some caller) body text after =
     DispatchesCall from to st (PathAsks route body) caller.number text after
 
--- before all that the path is judged
+-- Holds if the path is judged before the method, the caller and the request.
 abbrev pub Dispatches : (from to : ℕ) → State → Option Route → Method → (caller : Option Spid)
     → (body text : List ℕ) → (after : State) → Type 0
 Dispatches from to st None method caller body text after = RespondsRefusal st NoPath text after
 Dispatches from to st (Some route) method caller body text after =
     DispatchesPath from to st route (allows_method route method) caller body text after
 
--- a minute that is handed in is a moment of the clock; one that is below the present minute changes
--- nothing
+-- The state after the supplied minute, if there is one. A minute below the present one changes
+-- nothing.
 abbrev pub ticked : State → (tick : Option ℕ) → State
 ticked st None = st
 ticked st (Some minute) = next st (ClockMoment minute)
 
--- the clock's move to the minute that is handed in is withheld: the message is not carried out, and
--- is answered with that
+-- Holds if the clock's move to the supplied minute fails with `storage` or `no_memory`. The message
+-- is answered with that and not executed.
 abbrev pub IsTickUnavailable : (from to : ℕ) → State → (tick : Option ℕ) → (text : List ℕ)
     → (after : State) → Type 0
 IsTickUnavailable from to st None text after = ⊥
 IsTickUnavailable from to st (Some minute) text after = IsUnavailable from to st text after
 
--- the message, whose head says the request, is answered by the text, and st becomes after: first
--- the clock moves to the minute
--- that is handed in beside it, and then it is carried out. Offered says whether the clock's path is
--- there. The count of the
--- device's failures never falls
+-- Holds if `text` answers the message and `st` becomes `after`: first the clock moves to the
+-- supplied minute, then the message is executed. `offered` says whether `POST /clock` is served.
+-- The count of the device's failures never falls.
 pub record Step (offered : Bool) (tick : Option ℕ) (from to : ℕ) (st : State) (request : Request)
     (body text : List ℕ) (after : State) : Type 0 where
   pub rises : from ≤ to
@@ -287,13 +286,14 @@ pub record Step (offered : Bool) (tick : Option ℕ) (from to : ℕ) (st : State
       ⊎ Dispatches from to (ticked st tick) (offered_route offered request.route) request.method
       request.caller body text after
 
--- one answer and one state after it, unless either is withheld
+-- Holds if both responses and both states are the same, unless a response is `storage` or
+-- `no_memory`.
 abbrev pub IsOnce : (text said : List ℕ) → (after later : State) → Type 0
 IsOnce text said after later = IsUnavailableText text ⊎ IsUnavailableText said
     ⊎ ((text ≡ said) × (after ≡ later))
 
--- but for want of the device or of memory, a message has one answer and one state after it, by the
--- minute handed in
+-- Holds if a message with its supplied minute has one response and leads to one state, unless the
+-- device or an allocation fails.
 abbrev pub StepIsDeterministic : Type 0
 StepIsDeterministic =
     (offered : Bool) (tick : Option ℕ) (from to from' to' : ℕ) (st : State) (request : Request)
@@ -301,9 +301,8 @@ StepIsDeterministic =
     Step offered tick from to st request body text after
     → Step offered tick from' to' st request body said later → IsOnce text said after later
 
--- the answer that storage fails (29) says that the device failed while its message was served, and
--- that nothing has happened but
--- that the clock may have moved to the minute handed in
+-- Holds if the response `storage` (29) implies that the device failed during its message, and that
+-- at most the clock moved to the supplied minute.
 abbrev pub StorageReportsFailure : Type 0
 StorageReportsFailure =
     (offered : Bool) (tick : Option ℕ) (from to : ℕ) (st : State) (request : Request)
@@ -311,21 +310,22 @@ StorageReportsFailure =
     Step offered tick from to st request body (refusal_text 29) after → HasDeviceFailed from to
     × ((after ≡ st) ⊎ (after ≡ ticked st tick))
 
--- ---- contents that stand for states
+-- ---- contents that refine states
 
--- what a caller asks is answered by the text, and the content stands for the state afterwards
+-- Holds if the text answers what the caller asks, and the content refines the state afterwards.
 abbrev pub IsPerformed : (from to : ℕ) → (new : Content) → State → (caller : ℕ) → ApiCall
     → (text : List ℕ) → Type 0
 IsPerformed from to new st caller asked text =
     (after : State) × RespondsTo from to st caller asked text after × Refines new after
 
--- and so it is whatever state the content stands for
+-- Holds if `IsPerformed` does for each state that the old content refines.
 abbrev pub Performs : (from to : ℕ) → (old new : Content) → (caller : ℕ) → ApiCall → (text : List ℕ)
     → Type 0
 Performs from to old new caller asked text = (st : State) → Refines old st
     → IsPerformed from to new st caller asked text
 
--- and so is what is asked in such a way: nothing, which is refused, or one thing
+-- Holds if, for each state that the old content refines, a request is dispatched: refused if it
+-- asks nothing, else answered.
 abbrev pub DispatchesCallOn : (from to : ℕ) → (old new : Content) → (IsAsked : ApiCall → Type 0)
     → (caller : ℕ) → (text : List ℕ) → Type 0
 DispatchesCallOn from to old new IsAsked caller text = (st : State) → Refines old st

@@ -1,24 +1,24 @@
--- The minutes that are handed in, one beside each message.
+-- The minutes supplied, one for each message.
 use Rattle.std.specs.Prelude.{◌≡◌, ℕ, List, [], ◌∷◌, Option, Some, None, ⊤}
 
--- the first of those told, or no minute past their end
+-- The first of the known minutes; after their end, none.
 abbrev pub first_tick : List (Option ℕ) → Option ℕ
 first_tick [] = None
 first_tick (tick ∷ ticks) = tick
 
--- those told after it
+-- The known minutes after the first.
 abbrev pub later_ticks : List (Option ℕ) → List (Option ℕ)
 later_ticks [] = []
 later_ticks (tick ∷ ticks) = ticks
 
--- where they are told, the first is handed in, and the others are told afterwards
+-- Holds if, of minutes that are known, the first is supplied and the others remain.
 abbrev pub ConsumesTick : (before : Option (List (Option ℕ))) → (tick : Option ℕ)
     → (behind : Option (List (Option ℕ))) → Type 0
 ConsumesTick None tick behind = ⊤
 ConsumesTick (Some ticks) tick behind =
     (tick ≡ first_tick ticks) × (behind ≡ Some (later_ticks ticks))
 
--- the same of one after another
+-- Holds if the minutes are supplied one after another.
 abbrev pub ConsumesTicks : (before : Option (List (Option ℕ))) → (ticks : List (Option ℕ))
     → (behind : Option (List (Option ℕ))) → Type 0
 ConsumesTicks None ticks behind = ⊤

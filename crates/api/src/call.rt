@@ -1,4 +1,4 @@
-//! Carrying out a message.
+//! Executes one message and writes its response.
 ghost use Rattle.std.specs.Prelude.{◌≡◌, ℕ, ◌+◌, ◌*◌, ◌≤◌, List, Some, option_map, true, length, string_bytes, IfOk, IfErr, OnOk, ◌⊎◌};
 ghost use Rattle.model.specs.State.{State, all_in_force};
 ghost use Rattle.register.specs.Refinement.{Refines};
@@ -22,7 +22,8 @@ use requests::{Call, Command};
 use settle::Store;
 use std::alloc::Global;
 
-// The path and the caller of a message: first its path, then its method, then its caller.
+// Returns the route and the caller of a message. Judges the path first, then the method, then the
+// caller.
 fn judged(request: &Request, clock: bool) -> Result<(Route, Spid), MessageFault>
     ensures ok { IfOk result (λ found. (offered_route clock request.now.route ≡ Some found.0)
         × (takes_method found.0 request.now.method ≡ true)
@@ -43,7 +44,7 @@ fn judged(request: &Request, clock: bool) -> Result<(Route, Spid), MessageFault>
     }
 }
 
-// How many rows are in force.
+// Returns how many versions are in force.
 fn count_rows<S: Store>(register: &mut Register<S>) -> Result<usize, Refusal>
     ensures kept { S.IsUsable register.new.store → (st : State)
         → Refines (S.content register.old.store) st → Refines (S.content register.new.store) st }
@@ -61,8 +62,9 @@ fn count_rows<S: Store>(register: &mut Register<S>) -> Result<usize, Refusal>
     }
 }
 
-// Whether the caller may ask it, where the register does not judge that itself: the clock is the
-// administrator's alone, and the ids of a number are told to whom the register knows.
+// Decides whether the caller may make the call, for calls whose caller the register does not judge.
+// Only the administrator moves the clock; only a caller that the register knows sees the ids of a
+// number.
 fn admit<S: Store>(register: &mut Register<S>, caller: Spid, call: &Call) -> Result<(), Refusal>
     ensures kept { S.IsUsable register.new.store → (st : State)
         → Refines (S.content register.old.store) st → Refines (S.content register.new.store) st }
@@ -83,11 +85,11 @@ fn admit<S: Store>(register: &mut Register<S>, caller: Spid, call: &Call) -> Res
     }
 }
 
-// The most ids that a donation answers.
+// The most ids in the reply to a donation.
 const MOST_IDS: usize = 100;
 
-// How many rows a call may show, if it is a registration, how many ids, if it is a donation, or how
-// many downloads it asks for.
+// Returns how many rows, ids or downloads the reply to `call` may have: rows for a registration,
+// ids for a donation, downloads for a fetch.
 fn count<S: Store>(register: &mut Register<S>, call: &Call) -> Result<ReplyBounds, Refusal>
     ensures kept { S.IsUsable register.new.store → (st : State)
         → Refines (S.content register.old.store) st → Refines (S.content register.new.store) st }
@@ -120,8 +122,8 @@ fn count<S: Store>(register: &mut Register<S>, call: &Call) -> Result<ReplyBound
     }
 }
 
-// Takes the room for the starting rows of a registration, for the ids of a donation, or for a
-// carrier's first downloads, before the call is made: nothing may fail after it.
+// Reserves memory for the reply to `call` before the call is made, because nothing may fail after
+// it.
 fn take_room<S: Store>(
     register: &mut Register<S>,
     call: &Call,
@@ -148,7 +150,7 @@ fn take_room<S: Store>(
     Ok(counted)
 }
 
-// Makes a call that its caller may make, and writes what it answers.
+// Makes a call that its caller may make, and writes the reply.
 fn make<S: Store>(
     register: &mut Register<S>,
     caller: Spid,
@@ -173,7 +175,7 @@ fn make<S: Store>(
     put_reply(room, &reply, counted)
 }
 
-// Makes a call, if its caller may make it.
+// Makes a call if its caller may make it.
 fn answer<S: Store>(
     register: &mut Register<S>,
     caller: Spid,
@@ -195,7 +197,7 @@ fn answer<S: Store>(
     make(register, caller, call, room)
 }
 
-// Carries out what the members of a body ask on a path.
+// Executes what the members of a body ask on a route.
 fn answer_fields<S: Store, F: Fields>(
     alloc: Global,
     register: &mut Register<S>,
@@ -224,7 +226,7 @@ fn answer_fields<S: Store, F: Fields>(
     }
 }
 
-// Reads a body that is not written plainly as a tree, and carries out what it asks.
+// Parses a body that `Flat` cannot read as a tree, and executes what it asks.
 #[cold]
 #[inline(never)]
 fn answer_tree<S: Store>(
@@ -253,7 +255,7 @@ fn answer_tree<S: Store>(
     }
 }
 
-// Reads the body of a message of a path, and carries out what it asks.
+// Parses the body of a message on a route, and executes what it asks.
 fn answer_body<S: Store>(
     alloc: Global,
     register: &mut Register<S>,
@@ -281,7 +283,7 @@ fn answer_body<S: Store>(
     }
 }
 
-// What the path of a version asks. What has no id, or a body, asks nothing.
+// Returns the call of a version's path. Refuses a path without an id, and a body that is not empty.
 fn version_asked(id: Option<u64>, body: &[u8]) -> Result<Call, MessageFault>
     ensures ok { IfOk result (λ call. IdAsks id body.now (RegisterCall (called_of call))) }
     ensures err { IfErr result (λ fault. (fault ≡ MessageFault.BadRequest)
@@ -293,7 +295,8 @@ fn version_asked(id: Option<u64>, body: &[u8]) -> Result<Call, MessageFault>
     }
 }
 
-// What the path of a telephone number asks. What is no such number, or has a body, asks nothing.
+// Returns the call of a number's path. Refuses a path without a valid telephone number, and a body
+// that is not empty.
 fn number_asked(number: Option<u64>, body: &[u8]) -> Result<Call, MessageFault>
     ensures ok { IfOk result (λ call. NumberAsks number body.now (RegisterCall (called_of call))) }
     ensures err { IfErr result (λ fault. (fault ≡ MessageFault.BadRequest)
@@ -308,11 +311,11 @@ fn number_asked(number: Option<u64>, body: &[u8]) -> Result<Call, MessageFault>
     }
 }
 
-// The most downloads that are answered at once.
+// The most downloads in one response.
 const MOST_DOWNLOADS: u64 = 100;
 
-// What the path of a carrier's downloads asks. What is no number from 1 to 100, or has a body, asks
-// nothing.
+// Returns the call of the path of a carrier's downloads. Refuses a count that is not from 1 to 100,
+// and a body that is not empty.
 fn downloads_asked(count: Option<u64>, body: &[u8]) -> Result<Call, MessageFault>
     ensures ok { IfOk result (λ call. CountAsks count body.now (RegisterCall (called_of call))) }
     ensures err { IfErr result (λ fault. (fault ≡ MessageFault.BadRequest)
@@ -328,7 +331,7 @@ fn downloads_asked(count: Option<u64>, body: &[u8]) -> Result<Call, MessageFault
     }
 }
 
-// Carries out what a message asks on a path.
+// Executes what a message asks on a route.
 fn answer_message<S: Store>(
     alloc: Global,
     register: &mut Register<S>,
@@ -383,9 +386,9 @@ fn reply<S: Store>(
     }
 }
 
-/// Carries out a message, with no minute handed in, and writes its answer. All memory of the answer
-/// is taken before the message is carried out; that of a query's, which changes nothing, behind its
-/// look-up. `clock` says whether the clock's path is there.
+/// Executes a message without a supplied minute, and writes its response. Reserves all memory of
+/// the response before execution; for a query, which changes nothing, after the look-up. `clock`
+/// says whether `POST /clock` is offered.
 pub fn write_response<S: Store>(
     alloc: Global,
     register: &mut Register<S>,

@@ -1,4 +1,4 @@
-//! Queries: where calls to the number of a URI are routed.
+//! Queries: where calls to the number of a `tel` URI are routed.
 ghost use Rattle.std.specs.Prelude.{◌≡◌, ◌≤◌, string_bytes, IfErr, IfSome, IfNone, OnOk};
 ghost use Rattle.requests.specs.Calls.{answer_of};
 ghost use Rattle.telnp.specs.Abstraction.{uri_of};
@@ -17,7 +17,7 @@ use settle::Store;
 use std::alloc::Global;
 use telnp::TelUri;
 
-// Writes a URI, in room that is taken for it.
+// Reserves memory for a URI and writes it.
 fn put_text(room: &mut ResponseBuffer, uri: &str) -> Result<(), Failure>
     requires empty { IsEmpty room.old }
     requires room { HasCapacity 512 room.old }
@@ -31,7 +31,8 @@ fn put_text(room: &mut ResponseBuffer, uri: &str) -> Result<(), Failure>
     Ok(())
 }
 
-// Writes what answers a query by a URI with this text, of whose number the register answered so.
+// Writes the response to a query by the URI `text`. `answer` is the register's answer on its
+// number.
 fn put_routed(
     alloc: Global,
     text: &str,
@@ -54,8 +55,8 @@ fn put_routed(
     }
 }
 
-// The telephone number that the register is asked for: of a URI that was looked up already there is
-// none.
+// Returns the telephone number to ask the register for. A URI that has been looked up already
+// (`npdi`) has none.
 fn number_asked_for(uri: &TelUri<'_>) -> Option<Tn>
     ensures some { IfSome result (λ tn. AsksFor (uri_of uri.now) tn.number) }
     ensures none { IfNone result (IsReturnedAsIs (uri_of uri.now)) }
@@ -66,7 +67,7 @@ fn number_asked_for(uri: &TelUri<'_>) -> Option<Tn>
     uri.tn()
 }
 
-/// A query: first the caller, then its URI, then its number's code.
+/// Executes a query. Judges the caller first, then the URI, then the code of its number.
 pub fn query<S: Store>(
     alloc: Global,
     register: &mut Register<S>,

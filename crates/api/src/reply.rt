@@ -1,4 +1,4 @@
-//! Writing what a call answered.
+//! Writes the register's replies as responses.
 ghost use Rattle.std.specs.Prelude.{◌≡◌, ℕ, ◌+◌, ◌*◌, ◌<◌, ◌≤◌, length, map, string_bytes, IfErr, OnOk, OnErr};
 ghost use Rattle.requests.specs.Calls.{view_of, reply_of, in_force_of, download_of};
 ghost use Rattle.json_api.specs.Failures.{failure_text};
@@ -17,10 +17,10 @@ use model::Refusal;
 use numbers::{BlockId, Minute, Spid};
 use requests::{Ids, Reply, VersionView};
 
-// The rows, downloads or ids that an answer may show.
+// The most rows, downloads or ids of a reply.
 const MOST: usize = 1 << 40;
 
-/// How many rows an answer may show, how many downloads, and how many ids.
+/// How many rows, downloads and ids the reply to a call may have.
 #[derive(Clone, Copy, Debug)]
 pub struct ReplyBounds {
     pub rows: usize,
@@ -29,7 +29,7 @@ pub struct ReplyBounds {
 }
 
 impl ReplyBounds {
-    /// Neither rows nor downloads, and no ids.
+    /// The bounds of a reply without rows, downloads and ids.
     pub const NONE: ReplyBounds = ReplyBounds {
         rows: 0,
         downloads: 0,
@@ -37,7 +37,7 @@ impl ReplyBounds {
     };
 }
 
-/// Takes the room for a body of so many rows, of so many downloads, or of so many ids.
+/// Reserves memory for a body with the rows, downloads and ids of `counted`.
 pub fn take_counted(room: &mut ResponseBuffer, counted: ReplyBounds) -> Result<(), Refusal>
     requires empty { IsEmpty room.old }
     ensures ok { OnOk result (HasCapacityFor counted room.new) }
@@ -53,8 +53,8 @@ pub fn take_counted(room: &mut ResponseBuffer, counted: ReplyBounds) -> Result<(
     Ok(())
 }
 
-// The rows were counted before, and the room for so many was taken. More than those never come:
-// that refusal is no message's answer.
+// Writes the reply to a registration. Its rows were counted before, so there are never more than
+// the reserved memory holds, and no message gets this `Storage`.
 fn put_starting_rows(
     room: &mut ResponseBuffer,
     spid: Spid,
@@ -77,8 +77,8 @@ fn put_starting_rows(
     Ok(())
 }
 
-// The room for so many was taken before. More than were asked for never come: that refusal is no
-// message's answer.
+// Writes the reply to a fetch. The register returns no more downloads than were asked for, so no
+// message gets this `Storage`.
 fn put_fetched(
     room: &mut ResponseBuffer,
     downloads: &[Download],
@@ -100,8 +100,8 @@ fn put_fetched(
     Ok(())
 }
 
-// The room for a hundred was taken before. A donation never makes more: that refusal is no
-// message's answer.
+// Writes the reply to a donation. Memory was reserved for 100 ids, the most of a donation, so no
+// message gets this `Storage`.
 fn put_made(
     room: &mut ResponseBuffer,
     block: BlockId,
@@ -164,8 +164,7 @@ fn put_set(room: &mut ResponseBuffer, now: Minute, number: u16)
     put_windows_set(&mut room.body, now, number);
 }
 
-/// Writes a reply. It fails alone where a registration shows more rows than were counted, more
-/// downloads are shown than were asked for, or a donation shows more ids than room was taken for.
+/// Writes a reply. Fails only if it has more rows, downloads or ids than `counted`.
 pub fn put_reply(
     room: &mut ResponseBuffer,
     reply: &Reply,
@@ -211,7 +210,7 @@ pub fn put_reply(
     }
 }
 
-/// Writes the answer of a message that was not carried out.
+/// Writes the response to a message that was not executed.
 pub fn put_refused(room: &mut ResponseBuffer, failure: Failure)
     requires room { HasCapacity 512 room.old }
     ensures room { HasCapacity 512 room.new }
@@ -222,7 +221,7 @@ pub fn put_refused(room: &mut ResponseBuffer, failure: Failure)
     room.finish(failure.status());
 }
 
-/// Writes the answer of a message that was carried out.
+/// Writes the response to a message that was executed.
 #[tactic(auto, unfolding(crate::specs::Step::success))]
 pub fn put_success(room: &mut ResponseBuffer)
     requires written { IsWritten room.old }

@@ -1,4 +1,4 @@
-//! Serving the messages of a reader to a writer.
+//! The serving loop: reads messages, executes them, and writes the answers.
 ghost use Rattle.std.specs.Prelude.{◌≡◌, ◌≤◌, ℕ, List, [], length, Option, Some, None, option_map, string_bytes, vec_len, IfOk, IfErr, IfSome, ◌⊎◌};
 ghost use Rattle.numbers.specs.declared.minute.Minute.{Minute as MinuteImpl};
 ghost use Rattle.model.specs.State.{State};
@@ -28,21 +28,21 @@ use settle::Store;
 use std::alloc::Global;
 use std::io::{Read, Write};
 
-/// How many fields a head may have.
+/// The most header fields that a message may have.
 const FIELD_LIMIT: usize = 64;
 
-/// What hands in the machine's minute.
+/// Supplies the minutes at which messages are executed.
 pub trait Ticks {
-    // the minutes that it hands in from here on, one at each call, where they are known
+    // What the coming calls of `next` return, in order, if that is known.
     ghost remaining: { Self → Option (List (Option ℕ)) } = { λ _. None };
 
-    /// The minute before the next message is carried out, if there is one.
+    /// Returns the minute to which the clock moves before the next message, if there is one.
     fn next(&mut self) -> Option<Minute>
         ensures { ConsumesTick (remaining self.old) (option_map (λ (m : MinuteImpl). m.number)
             result) (remaining self.new) };
 }
 
-/// No minute is ever handed in.
+/// Supplies no minute, so that only `POST /clock` moves the clock.
 #[derive(Clone, Copy, Debug, PartialEq, Eq)]
 pub struct NoTicks;
 
@@ -54,40 +54,45 @@ impl Ticks for NoTicks {
     }
 }
 
-/// What the interface offers.
+/// The optional parts of the interface.
 #[derive(Clone, Copy, Debug, PartialEq, Eq)]
 pub struct Options {
-    /// Whether `POST /clock` exists.
+    /// Whether `POST /clock` is served.
     pub clock_route: bool,
 }
 
-/// Why serving came to its end.
+/// Why serving ended without a fault.
 #[derive(Clone, Copy, Debug, PartialEq, Eq)]
 pub enum End {
     /// The input ended.
     Input,
-    /// A message asked for it, or was of HTTP/1.0.
+    /// A message asked to close the connection, or was of HTTP/1.0.
     Closed,
-    /// A message was refused with this fault, and nothing behind it is read.
+    /// A message was refused with this fault; nothing after it is read.
     Refused(MessageFault),
 }
 
-/// How many messages were answered, a refused one too, and why it ended.
+/// How many messages were answered, counting a refused one, and why serving ended.
 #[derive(Clone, Copy, Debug, PartialEq, Eq)]
 pub struct Served {
     pub count: u64,
     pub end: End,
 }
 
-/// What failed, and how many messages were answered whole before.
+/// What failed, and how many messages had been answered in full.
 #[derive(Clone, Copy, Debug, PartialEq, Eq)]
 pub enum Fault {
+    /// The reader failed.
     Read(u64),
+    /// The writer failed.
     Write(u64),
+    /// An allocation failed, or there were too many messages to count.
     Memory(u64),
 }
 
-// Carries out a message, after the minute that the ticks hand in, and writes its answer.
+// Moves the clock to the minute that `ticks` supplies, executes the message, and writes its answer
+// to `room`. If the clock cannot be moved, answers with that failure and does not execute the
+// message.
 fn tick_and_answer<S: Store, T: Ticks>(
     alloc: Global,
     register: &mut Register<S>,
@@ -118,7 +123,7 @@ fn tick_and_answer<S: Store, T: Ticks>(
     }
 }
 
-// Writes the answer to what comes, and tells whether it is the last.
+// Writes the answer to `next` to `room`. Returns why serving ends if that answer is the last.
 fn respond<S: Store, T: Ticks>(
     alloc: Global,
     register: &mut Register<S>,
@@ -158,7 +163,7 @@ fn respond<S: Store, T: Ticks>(
     }
 }
 
-// The message at hand, or else what the reader brings next.
+// Returns the message at hand, or reads the next one.
 fn next_of<R: Read>(
     at_hand: Option<Request>,
     held: &mut ReadBuffer,
@@ -186,7 +191,7 @@ fn next_of<R: Read>(
     }
 }
 
-/// The buffers of a connection: what was read, an answer, and the router.
+/// The buffers of a connection: input not yet consumed, the current answer, and the router.
 #[derive(Drop)]
 struct Buffers {
     held: ReadBuffer,
@@ -195,7 +200,7 @@ struct Buffers {
 }
 
 impl Buffers {
-    // Empty buffers, where there is memory.
+    // Allocates empty buffers. Returns `None` if an allocation fails.
     fn new(alloc: Global) -> Option<Buffers>
         ensures size { IfSome result (λ made. vec_len made.held.bytes ≡ 8192) }
         ensures empty { IfSome result (λ made. buffered_bytes made.held ≡ []) }
@@ -213,7 +218,7 @@ impl Buffers {
     }
 }
 
-// Serves with the buffers of a connection, which have nothing of it yet.
+// Like `serve`, with buffers in which nothing has been read yet.
 fn serve_with<S: Store, T: Ticks, R: Read, W: Write>(
     alloc: Global,
     register: &mut Register<S>,
@@ -270,7 +275,7 @@ fn serve_with<S: Store, T: Ticks, R: Read, W: Write>(
         };
         let end = respond(alloc, register, clock, ticks, next, &body, room);
         at_hand = next_buffered(held, &mut headers, router, &mut body);
-        // A read may wait for the client, which has to have its answers by then.
+        // Flush before a read: it may block on a client that is waiting for these answers.
         let flushes = end.is_some() || at_hand.is_none();
         match send_all(writer, room.text.as_bytes(), flushes) {
             Ok(()) => {}
@@ -284,20 +289,24 @@ fn serve_with<S: Store, T: Ticks, R: Read, W: Write>(
     Err(Fault::Memory(u64::MAX))
 }
 
-/// Serves the messages of a reader, one after the other, and writes their answers.
+/// Serves the messages of `reader` in order, and writes their answers to `writer`.
 ///
-/// A message takes the next minute of the ticks before it is carried out: the clock moves to it,
-/// unless it is below the present minute. Where that finds no memory, or the store fails, the
-/// message is answered so and is not carried out. A message that is refused with `BadHead`,
-/// `TooLarge` or `CutBody` takes none.
+/// Before a message is executed, the clock moves to the next minute of `ticks`; a minute below the
+/// present one is ignored. If the move fails with `Storage` or `NoMemory`, the message is answered
+/// with that and not executed. A message refused with `BadHead`, `TooLarge` or `CutBody` takes no
+/// minute, and nothing after it is read.
 ///
-/// Each answer is handed to the writer before the next message is carried out. The writer is
-/// flushed before the reader is asked for more and as serving ends, but not while the next message
-/// is held whole. So a writer with a buffer gathers the answers to what came together, and a client
-/// that waits for an answer has it.
+/// Each answer goes to the writer before the next message is executed. The writer is flushed before
+/// the reader is asked for more and when serving ends, but not while the next message has already
+/// been read in full. So a buffered writer collects the answers to messages that arrive together,
+/// and a client that waits for an answer gets it.
 ///
-/// After a message that is refused with `BadHead`, `TooLarge` or `CutBody` nothing more is read. A
-/// read fault, or a buffer that finds no memory, means that the message at hand was not made.
+/// # Errors
+///
+/// - `Read` if the reader fails, `Memory` if a buffer cannot be allocated or after 2^64 - 1
+///   messages. The message being read has not been executed.
+/// - `Write` if the writer fails. The message whose answer was cut short has been executed, unless
+///   it was refused as above.
 pub fn serve<S: Store, T: Ticks, R: Read, W: Write>(
     alloc: Global,
     register: &mut Register<S>,
@@ -306,8 +315,8 @@ pub fn serve<S: Store, T: Ticks, R: Read, W: Write>(
     reader: &mut R,
     writer: &mut W,
 ) -> Result<Served, Fault>
-    // where the reader tells its bytes: each message, its answer, and what was read, handed in and
-    // written as serving ends
+    // If the reader's bytes are known: every message, its answer, and what has been read, supplied
+    // and written when serving ends.
     ensures serves { S.IsUsable register.new.store → (st : State)
         → Refines (S.content register.old.store) st
         → IfSome (R.remaining reader.old)
@@ -321,18 +330,20 @@ pub fn serve<S: Store, T: Ticks, R: Read, W: Write>(
           written_before = W.contents writer.old;
           written_after = W.contents writer.new;
         })) }
-    // a store that shut on the way: the answers up to the first that tells of it are those of a run
+    // If the store shuts on the way: the answers up to the first `Storage` or `NoMemory` are those
+    // of a run.
     ensures until { S.IsUsable register.old.store → S.HasHonestDevice register.new.store
         → S.IsUsable register.new.store
         ⊎ ((st : State) → Refines (S.content register.old.store) st
         → IfSome (R.remaining reader.old)
         (λ input. WritesUntil options.now.clock_route (S.failed register.old.store) st input
         (T.remaining ticks.old) (W.contents writer.old) (W.contents writer.new))) }
-    // where it tells none: what stands is what some run of the machine leads to
+    // Even if the reader's bytes are not known: the content refines a state that some inputs lead
+    // to.
     ensures state { S.IsUsable register.new.store → (st : State)
         → Refines (S.content register.old.store) st
         → RefinesReachable st (S.content register.new.store) }
-    // no serving mends a store, and no failure is forgotten
+    // Serving does not make a shut store usable again, and forgets no failure.
     ensures usable { S.IsUsable register.new.store → S.IsUsable register.old.store }
     ensures rises { S.failed register.old.store ≤ S.failed register.new.store }
     ensures honest { S.HasHonestDevice register.new.store → S.HasHonestDevice register.old.store }

@@ -1,4 +1,4 @@
-//! The minute that is handed in beside a message.
+//! Moves the clock before a message.
 ghost use Rattle.std.specs.Prelude.{◌≤◌, option_map, IfErr, OnOk};
 ghost use Rattle.numbers.specs.declared.minute.Minute.{Minute as MinuteImpl};
 ghost use Rattle.model.specs.State.{State};
@@ -13,8 +13,8 @@ use numbers::Minute;
 use register::Register;
 use settle::Store;
 
-/// Moves the clock to the minute that is handed in, if there is one. One below the present minute
-/// is dropped.
+/// Moves the clock to the minute `tick`, if one is supplied. Ignores a minute below the present
+/// one.
 pub fn take_tick<S: Store>(register: &mut Register<S>, tick: Option<Minute>) -> Result<(), Refusal>
     ensures preserves { PreservesStore S.IsUsable S.HasHonestDevice S.failed register.old.store
         register.new.store (IsAvailable result) ⊥ }

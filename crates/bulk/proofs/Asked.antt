@@ -1,4 +1,4 @@
--- What the register's answers to questions say.
+-- The register's answers to questions.
 use Rattle.std.proofs.Common.{◌≡◌, ℕ, Option, Some, None}
 use Rattle.model.specs.Content.{Content}
 use Rattle.model.specs.Machine.{Found, out, refused_or}
@@ -10,7 +10,7 @@ use Rattle.settle.specs.StoreContract.{PreservesStore, ReportsStorage}
 use Rattle.std.proofs.Math.Nat.{le_refl, le_trans}
 use Rattle.settle.proofs.Risen.{risen-since}
 
--- the ids of a number's versions
+-- The ids of a number's versions.
 same_ids : (r : Option ℕ) (a b c d : Option ℕ) → Found a b ≡ refused_or r (Found c d)
     → (a ≡ c) × (b ≡ d)
 same_ids None a b c d e = (cc, cc)
@@ -22,7 +22,7 @@ unfolding out
 ids_are st tn a b e =
     same_ids (refusal st (QuestionFrom 0 (Ids tn))) a b (in_force_id st tn) (open_id st tn) e
 
--- what two calls owe, one after the other: the content stands for a later state between them
+-- Two calls in order preserve the store, if the content between them refines a later state.
 pub owes_on :
     {S First Settles Answers Says : Type 0} {IsUsable HasHonestDevice : S → Type 0} {failed : S
     → ℕ} {before mid after : S} {old between : Content} →
@@ -53,7 +53,7 @@ owes_on {failed = failed} {before = before} {mid = mid} {after = after} first se
       }));
 }
 
--- the same where it stands for the same state
+-- Two calls in order preserve the store, if the content between them refines the same state.
 pub owes_then :
     {S First Settles Answers Says : Type 0} {IsUsable HasHonestDevice : S → Type 0} {failed : S
     → ℕ} {before mid after : S} {old between : Content} →
@@ -65,7 +65,7 @@ pub owes_then :
     old Says)
 owes_then first second kept = owes_on first second (λ u st s. (st, kept u st s))
 
--- nothing happened
+-- No call preserves the store.
 pub owes_none : {S : Type 0} (IsUsable HasHonestDevice : S → Type 0) (failed : S → ℕ) (s : S)
     → PreservesStore IsUsable HasHonestDevice failed s s ⊥ ⊥
 owes_none IsUsable HasHonestDevice failed s = record {

@@ -1,4 +1,4 @@
--- What is told of a command that was carried out.
+-- The results of executed commands.
 use Rattle.std.proofs.Common.{◌≡◌, ℕ, Bool, true, false, Option, Some, None, Result, Ok, Err, IfOk, OnErr, refl, sym, ap, subst, ◌∙◌}
 use Rattle.std.specs.Prelude.{nat_lt, if◌then◌else◌}
 use Rattle.model.specs.Commands.{Command, RegisterCarrier, RegisterRoutingNumber, OpenCode, OldProviderCreate, NewProviderCreate, OnVersion, Donate, Assign, Release, SetWindows}
@@ -22,7 +22,7 @@ use Rattle.bulk.specs.declared.fault.FaultKind.{FaultKind}
 use Rattle.bulk.specs.declared.command_result.CommandResult.{CommandResult}
 use Rattle.bulk.specs.declared.command_result.CommandResult.TheVariants as told
 
--- the refusal of its number
+-- The number of a refusal determines it.
 found_again : (x : Refusal) → refusal_of (number_of x) ≡ Some x
 found_again r.UnknownCarrier = refl
 found_again r.NotAdmin = refl
@@ -80,7 +80,7 @@ is_said st caller c reply e same =
     (reply_of st (accepted st (RequestFrom caller (CommandRequest c))) caller c)
     (replied_of st (accepted st (RequestFrom caller (CommandRequest c))) caller c e))
 
--- what the machine answered, and what it did not
+-- A refusal with a number below 29 is the machine's reply; others are not.
 pub by_machine : (old new : Content) (input : Input) (k : ℕ) → nat_lt k 29 ≡ true
     → SimulatesStep old new input (refused_with k) → SimulatesStep old new input (Some (Refused k))
 by_machine old new input k e h = let P : Bool → Type 0 =
@@ -91,7 +91,7 @@ pub by_none : (old new : Content) (input : Input) (k : ℕ) → nat_lt k 29 ≡ 
 by_none old new input k e h = let P : Bool → Type 0 =
     λ b. SimulatesStep old new input (if b then Some (Refused k) else None) in subst P e h
 
--- what is told of a command, where the store is usable
+-- Holds if the result of a command is the machine's, provided the store is usable.
 abbrev TellsOf : Type 0 → Content → Content → Input → CommandResult → Type 0
 TellsOf U old new input t = U → (st : State) → Refines old st → IsResultOf t (out st input)
     × Refines new (next st input)
@@ -134,7 +134,7 @@ kept_by_reply U old new caller c (Ok told) reply h other = tt
 kept_by_reply U old new caller c (Err kind) reply h other =
     λ u st s of. absurd (other (is_said st caller c reply of (h u st s).0))
 
--- what is wanted of a number is a create or a command on a version
+-- An operation on a number is a create or a command on a version.
 of_number : (st : State) (tn : ℕ) (w : Operation) → is_of_number (command_for st tn w) ≡ true
 of_number st tn (operation.Create old_provider new_provider due (creator.OldProvider authorized)) =
     refl
@@ -142,7 +142,7 @@ of_number st tn (operation.Create old_provider new_provider due (creator.NewProv
     refl
 of_number st tn (operation.OnVersion command) = refl
 
--- told of the command that was made of it
+-- The result of an operation is that of its command.
 pub told_for :
     (U V : Type 0) (old mid new : Content) (caller tn : ℕ) (w : Operation) (c : Command)
     (o : Result CommandResult FaultKind) → (U → V) →

@@ -1,4 +1,4 @@
--- A copy beside what the register has.
+-- A copy compared with the register's side.
 use Rattle.std.proofs.Common.{◌≡◌, ℕ, List, ◌∷◌, map, Bool, true, false, Option, Some, None, option_map, length, Result, Ok, Err, inl, inr, ap, sym, ◌∙◌, subst}
 use Rattle.std.specs.Prelude.{◌⊎◌, IfErr, IfOk, IfSome}
 use Rattle.std.specs.Io.KnownBytes.{Appends}
@@ -31,7 +31,7 @@ use Rattle.bulk.proofs.Sided.{routed_started, waits_awaited}
 abbrev Map : Type 0
 Map = BTreeMap Subject Sides
 
--- what is found by three sides, in the words of the definitions
+-- The finding by three sides is that of the definitions.
 sides_found : (rows entries : List RoutedRow) (subjects : List Subject) (s : Subject) →
     finding_of (waits_after subjects s false) (option_map routing_of (routed_after rows s None))
     (option_map routing_of (routed_after entries s None))
@@ -55,7 +55,7 @@ all_sides rows entries subjects s = record {
   waits = waits_after subjects s false;
 }
 
--- the three sides were added one after the other, and what is found read off
+-- The three sides were added in order, and the findings computed from them.
 pub are_compared :
     (rows entries : List RoutedRow) (subjects : List Subject) (findings : List SubjectFinding)
     (first second third : Map) →
@@ -87,7 +87,7 @@ are_compared rows entries subjects findings first second third copied in_force w
 
 -- ---- a file
 
--- the file was read, and compared
+-- The file was read and compared.
 pub file_compared :
     (in_force : List RoutedRow) (waiting : List Subject) (bytes : List ℕ) (rows others : List Row)
     (entries : List RoutedRow) (findings : List SubjectFinding) → AreRowsOf bytes rows
@@ -103,7 +103,7 @@ file_compared in_force waiting bytes rows others entries findings are e read onc
       compared = compared;
     }
 
--- it was read, and a subject stands twice, or memory was wanting
+-- The file was read, and a subject occurs twice or an allocation failed.
 pub not_compared :
     (kind : FaultKind) (bytes : List ℕ) (rows others : List Row) (entries : List RoutedRow)
     → AreRowsOf bytes rows → rows ≡ copy_header ∷ others → AreEntries others entries →
@@ -116,7 +116,7 @@ not_compared kind bytes rows others entries are e read twice (inl is) =
 not_compared kind bytes rows others entries are e read twice (inr is) =
     subst (λ k. IsNotCompared k bytes) (sym is) tt
 
--- it was not read
+-- The file was not read.
 pub not_read : (kind : FaultKind) (bytes : List ℕ) (rows : List Row) → AreRowsOf bytes rows
     → IsNotRead kind rows → IsNotCompared kind bytes
 not_read BadHeader bytes rows are not = (rows, are, not)
@@ -128,7 +128,7 @@ not_read UnknownCarrier bytes rows are not = not
 not_read Storage bytes rows are not = not
 not_read Write bytes rows are not = not
 
--- the file of these bytes was read as a copy with these entries
+-- Holds if a file of these bytes was read as a copy with these entries.
 pub record IsReadAs (bytes : List ℕ) (entries : List RoutedRow) : Type 0 where
   pub rows : List Row
   pub others : List Row
@@ -169,7 +169,7 @@ file_not_compared (Err kind) o entries seen same read twice kinds =
 
 -- ---- an audit
 
--- what the register has is what stands in the state
+-- The register's side is that of the state.
 pub finds :
     (st : State) (carrier : ℕ) (bytes : List ℕ) (in_force : List RoutedRow) (waiting : List Subject)
     (findings : List SubjectFinding) → map in_force_of in_force ≡ all_in_force st
@@ -196,13 +196,13 @@ finds st carrier bytes in_force waiting findings force waits registered file = r
   };
 }
 
--- what is known of the bytes that are known
+-- A fact about the bytes, if they are known.
 pub with_bytes : {P Q : List ℕ → Type 0} (o : Option (List ℕ))
     → ((bytes : List ℕ) → P bytes → Q bytes) → IfSome o P → IfSome o Q
 with_bytes None f p = tt
 with_bytes (Some bytes) f p = f bytes p
 
--- the findings were sent
+-- The findings were sent.
 pub all_audited :
     (st : State) (carrier : ℕ) (o had has : Option (List ℕ)) (in_force : List RoutedRow)
     (waiting : List Subject) (findings sent : List SubjectFinding) (k : ℕ) → sent ≡ findings →

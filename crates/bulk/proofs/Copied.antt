@@ -11,7 +11,7 @@ use Rattle.bulk.specs.Rows.{Row, HasRows, Takes}
 use Rattle.bulk.specs.declared.fault.FaultKind.{FaultKind}
 use Rattle.bulk.specs.declared.fault.FaultKind.TheVariants.{BadHeader, BadFile}
 
--- the fields of a row of three
+-- The fields of a row of three fields.
 pub three_fields : (xs : List (List ℕ)) (a b c : List ℕ) → length xs ≡ 3 → Some a ≡ field_at xs 0
     → Some b ≡ field_at xs 1 → Some c ≡ field_at xs 2 → xs ≡ a ∷ b ∷ c ∷ []
 unfolding field_at
@@ -34,9 +34,9 @@ pub no_header_read : {K U : Type 0} (has : List Row → Type 0)
 no_header_read has (inl (k, none)) = inl (k, λ rows h. no_header rows (none rows h))
 no_header_read has (inr u) = inr u
 
--- ---- reading the rows behind the header
+-- ---- the rows after the header
 
--- these are the entries of the rows that were read
+-- Holds if these are the entries of the rows read so far.
 pub record Reading {R : Type 0} (rem : R → Option (List ℕ)) (rows : List Row) (reader : Reader R)
     (entries : List RoutedRow) : Type 0 where
   pub left : List Row
@@ -90,7 +90,7 @@ module _ {R : Type 0} (rem : R → Option (List ℕ)) where
       subst (λ (t : List RoutedRow). AreEntries rows t) (append-nil entries)
       (before.forth [] (subst (λ (t : List Row). AreEntries t []) (sym none) tt))
 
--- ---- why a copy was not read
+-- ---- the faults of a copy
 
 pub unread_not : (kind : FaultKind) (rows : List Row) → IsUnread kind → IsNotRead kind rows
 unread_not kind rows (inl e) = subst (λ k. IsNotRead k rows) (sym e) tt

@@ -1,4 +1,4 @@
--- The lines of rows, as those of what is in force.
+-- The lines of rows are those of the versions in force.
 use Rattle.std.proofs.Common.{◌≡◌, ℕ, List, length, map, Option, ap, sym, ◌∙◌, subst}
 use Rattle.std.specs.Io.KnownBytes.{Appends}
 use Rattle.std.proofs.lemmas.List.{length-map}

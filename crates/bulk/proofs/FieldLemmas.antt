@@ -28,7 +28,7 @@ missing_field [] i e = omega arith
 missing_field (f ∷ fs) zero e = cc
 missing_field (f ∷ fs) (suc i) e = let h = missing_field fs i e in omega arith
 
--- the fields of a row of nine
+-- The fields of a row of nine fields.
 pub nine_fields :
     (xs : List (List ℕ)) (a b c d e f g h i : List ℕ) → length xs ≡ 9 →
     Some a ≡ field_at xs 0 → Some b ≡ field_at xs 1 → Some c ≡ field_at xs 2
@@ -58,7 +58,7 @@ nine_fields (x0 ∷ x1 ∷ x2 ∷ x3 ∷ x4 ∷ x5 ∷ x6 ∷ x7 ∷ []) a b c d
 nine_fields (x0 ∷ x1 ∷ x2 ∷ x3 ∷ x4 ∷ x5 ∷ x6 ∷ x7 ∷ x8 ∷ x9 ∷ xs) a b c d e f g h i n pa pb pc pd
     pe pf pg ph pi = absurd (omega (arith, n))
 
--- two texts of one length before a hyphen
+-- Two texts with a hyphen at the same place have the same parts.
 pub same_parts : (a a' b b' : List ℕ) → length a ≡ length a' → a ++ 45 ∷ b ≡ a' ++ 45 ∷ b'
     → (a ≡ a') × (b ≡ b')
 same_parts [] [] b b' n e = (refl, cc)
@@ -69,13 +69,13 @@ same_parts (x ∷ a) (y ∷ a') b b' n e =
 same_parts [] (y ∷ a') b b' n e = absurd (omega (arith, n))
 same_parts (x ∷ a) [] b b' n e = absurd (omega (arith, n))
 
--- a text of a range has ten characters before its hyphen
+-- The text of a range has ten characters before its hyphen.
 pub same_range : (field a b : List ℕ) (m n : ℕ) → length a ≡ 10 → field ≡ a ++ 45 ∷ b
     → field ≡ tn_text m ++ 45 ∷ tn_text n → (a ≡ tn_text m) × (b ≡ tn_text n)
 same_range field a b m n ten e h =
     same_parts a (tn_text m) b (tn_text n) (ten ∙ sym (length-digits_of 10 m)) (sym e ∙ h)
 
--- telephone numbers of one text
+-- Telephone numbers of one text are the same.
 pub same_tn : (text : List ℕ) (m n : ℕ) → IsTn m → IsTn n → text ≡ tn_text m → text ≡ tn_text n
     → m ≡ n
 same_tn text m n valid other e h = digits_of-injective 10 m n valid.0 other.0 (sym e ∙ h)

@@ -20,7 +20,7 @@ pub known : (o : Option (List ℕ)) (P : List ℕ → Type 0) → ((bytes : List
 known None P f = tt
 known (Some bytes) P f = f bytes refl
 
--- another first row
+-- The first row is another one.
 pub other_first : (rows more : List Row) (raw : Row) → rows ≡ raw ∷ more → (raw ≡ header → ⊥)
     → LacksHeader rows
 other_first rows more raw e other = λ others same. other cc
@@ -34,7 +34,7 @@ pub no_first_read : {K U : Type 0} (has : List Row → Type 0)
 no_first_read has (inl (k, none)) = inl (k, λ rows h. no_first rows (none rows h))
 no_first_read has (inr u) = inr u
 
--- the report's header broke off
+-- The report's header broke off.
 pub header_broken : (st : State) (rows : List Row) (new : Content) (had has : Option (List ℕ))
     (fault : BulkFault) → fault.kind ≡ Write → fault.rows ≡ 0 → Refines new st
     → AppendsFront had has report_header → Reports st rows new had has (Err fault)
@@ -46,7 +46,7 @@ header_broken st rows new had has fault kind none s sent = inr (record {
   sent = sent.2;
 })
 
--- nothing was run
+-- Nothing was run.
 pub nothing_run :
     (st : State) (bytes : List ℕ) (new : Content) (had : Option (List ℕ)) (fault : BulkFault)
     → fault.rows ≡ 0 → Refines new st →
@@ -67,7 +67,7 @@ pub file_run :
 file_run st bytes new had has result rows others are e reports = let P : List Row → Type 0 =
     λ rs. AreRowsOf bytes rs in inl (others, subst P e are, reports)
 
--- why nothing was run, of some rows of the file
+-- The reason why nothing was run, by some rows of the file.
 pub why_not :
     (kind said : FaultKind) (bytes : List ℕ) (rows : List Row) → AreRowsOf bytes rows
     → (Has : List Row → Type 0) → Has rows → said ≡ kind →

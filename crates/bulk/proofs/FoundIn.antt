@@ -1,4 +1,4 @@
--- What is found of each subject, read off an ordered map of their sides.
+-- The findings on all subjects, computed from an ordered map of their sides.
 use Rattle.std.proofs.Common.{◌≡◌, ℕ, ◌<◌, Bool, true, false, List, [], ◌∷◌, map, Option, Some, None, refl, ap, sym, ◌∙◌, subst, arith}
 use Rattle.std.specs.Prelude.{unwrap_or, if◌then◌else◌}
 use Rattle.std.specs.BTreeMap.{is_at}
@@ -33,7 +33,7 @@ apart a b less = grind (arith, nat_tests)
 of_level : (a b : ℕ) → is_eq (nat_cmp a b) ≡ true → a ≡ b
 of_level a b e = grind (arith, nat_tests)
 
--- ---- findings rise as their map does
+-- ---- the findings are in the order of the map
 
 rise_above : (s : Subject) (es : List Entry) → AreAbove key_of (key_of s) (keys_of es)
     → AllAbove (subject_of s) (map (λ (f : SubjectFinding). subject_of f.subject) (found_in es))
@@ -60,9 +60,9 @@ found_rise (e ∷ es) rise = by_cases (found_of e.1) (found_rise es rise.1)
     by_cases None rest = rest
     by_cases (Some finding) rest = (rise_above e.0 es rise.0, rest)
 
--- ---- they tell of each subject what its sides say
+-- ---- the findings are those of the subjects' sides
 
--- nothing is told of a subject below all of them
+-- A subject below all of them has no finding.
 none_below : (s : Subject) (es : List Entry) → AreAbove key_of (key_of s) (keys_of es)
     → told_of (found_in es) (subject_of s) ≡ None
 none_below s [] above = refl
@@ -83,7 +83,7 @@ none_below s (e ∷ es) above =
         let less : key_of s < key_of e.0 = above.0 in
         absurd (omega (arith, same, less))
 
--- the map's test of a key is that of subjects
+-- The map's test of a key is the test of subjects.
 same_test : (s t : Subject) → is_eq (nat_cmp (key_of s) (key_of t)) ≡ subject_eq (subject_of t)
     (subject_of s)
 same_test s t = by_cases (subject_eq (subject_of t) (subject_of s)) refl
@@ -114,7 +114,7 @@ found_at s [] rise = refl
 found_at s (e ∷ es) rise =
     by_cases (subject_eq (subject_of e.0) (subject_of s)) refl (found_at s es rise.1)
   where
-    -- of this subject
+    -- The entry is this subject's.
     here : subject_eq (subject_of e.0) (subject_of s) ≡ true → (o : Option Finding)
         → told_of (with_found e.0 o (found_in es)) (subject_of s) ≡ o
     here is (Some finding) =
@@ -125,7 +125,7 @@ found_at s (e ∷ es) rise =
         none_below s es (subst (λ (k : ℕ). AreAbove key_of k (keys_of es))
         (sym (ap subject_key same)) rise.0)
 
-    -- of another
+    -- The entry is another subject's.
     there : subject_eq (subject_of e.0) (subject_of s) ≡ false → (o : Option Finding)
         → told_of (with_found e.0 o (found_in es)) (subject_of s) ≡ told_of (found_in es)
         (subject_of s)
@@ -146,7 +146,7 @@ found_at s (e ∷ es) rise =
         ∙ sym (ap (λ (t : Bool). found_of (unwrap_or (if t then Some e.1 else at s es) no_sides))
         (same_test s e.0 ∙ is))
 
--- of an ordered map
+-- The findings from an ordered map are ascending.
 pub findings_rise : (es : List Entry) → IsStrictlySortedBy (on key_of nat_cmp) (keys_of es)
     → AreSubjectsSorted (map (λ (f : SubjectFinding). subject_of f.subject) (found_in es))
 findings_rise es ordered = found_rise es (sorted-rise key_of (keys_of es) ordered)

@@ -1,4 +1,4 @@
--- The names of actions: which one a field is, and that no two are alike.
+-- The names of actions: the action of a field, and that no two actions share a name.
 use Rattle.std.proofs.Common.{◌≡◌, ◌≢◌, ℕ, Bool, true, false, cond, List, [], ◌∷◌, Option, Some, None, IfSome, IfNone, refl, sym, ap, ◌∙◌, find}
 use Rattle.std.specs.Prelude.{⊤}
 use Rattle.std.specs.Cmp.Lexicographic.{same_text, other_text}
@@ -57,7 +57,7 @@ no_name field None e =
     (sym (each (is_action field) (fails (is_action field) actions (sym e)) a))
 no_name field (Some a) e = tt
 
--- the action that a name is read as
+-- The action with a name.
 named : List ℕ → Option ActionName
 named field = find (is_action field) actions
 
@@ -74,7 +74,7 @@ named-name NewProviderCancellationAcknowledge = refl
 named-name Disconnect = refl
 named-name ModifyRouting = refl
 
--- no two actions have one name
+-- No two actions have the same name.
 pub one_name : (a b : ActionName) → action_name a ≡ action_name b → a ≡ b
 one_name a b e =
     let same : Some a ≡ Some b = sym (named-name a) ∙ ap named e ∙ named-name b in cc

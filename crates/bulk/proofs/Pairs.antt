@@ -5,7 +5,7 @@ use Rattle.numbers.specs.Texts.{digits_of}
 use Rattle.numbers.proofs.DigitLemmas.{digits_of-placed}
 use Rattle.bulk.specs.declared.digits.TheConstants.{PAIRS}
 
--- the table has the digits of each number below n
+-- Whether the table has the digits of each number below `n`.
 abbrev are_pairs : ℕ → Bool
 are_pairs zero = true
 are_pairs (suc p) =
@@ -26,7 +26,7 @@ pub pairs_at : (p : ℕ) → p < 100 → (get_or PAIRS (p * 2) 0 ≡ 48 + p / 10
     × (get_or PAIRS (p * 2 + 1) 0 ≡ 48 + p % 10)
 pairs_at p h = below 100 p tt h
 
--- the last two digits of what is left go before the digits that are written already
+-- The last two digits of what is left come before the digits written.
 pub two_placed : (digits : List ℕ) (place rest : ℕ) → 1 < place → place ≤ length digits
     → digits_of (place - 2) (rest / 100) ++ drop (place - 2)
     (set (set digits (place - 1) (48 + rest % 100 % 10)) (place - 2) (48 + rest % 100 / 10))
@@ -48,7 +48,7 @@ two_placed digits place rest two within =
     (omega (arith, within, length-set digits (place - 1) (48 + rest % 10)))
     ∙ digits_of-placed digits place rest (omega arith) within
 
--- the last four digits of what is left go before the digits that are written already
+-- The last four digits of what is left come before the digits written.
 pub four_placed : (digits : List ℕ) (place rest : ℕ) → 3 < place → place ≤ length digits
     → digits_of (place - 4) (rest / 10000) ++ drop (place - 4)
     (set (set (set (set digits (place - 1) (48 + rest % 10000 % 100 % 10)) (place - 2)
@@ -83,7 +83,7 @@ four_placed digits place rest four within =
     ))
     ∙ two_placed digits place rest (omega arith) within
 
--- at the first place the last digit of what is left is the first of all
+-- At the first place, the last digit of what is left is the first of all.
 pub last_placed : (digits : List ℕ) (place rest width number : ℕ) → 0 < place → place ≤ 1
     → place ≤ length digits → digits_of place rest ++ drop place digits ≡ digits_of width number
     → set digits (place - 1) (48 + rest % 10) ≡ digits_of width number

@@ -1,4 +1,4 @@
--- How far a run over the rows of a file has come.
+-- The progress of a run over the rows of a file.
 use Rattle.std.proofs.Common.{◌≡◌, ℕ, ◌+◌, true, false, List, [], ◌∷◌, ◌++◌, length, Option, Ok, Err, refl, ap, sym, subst, ◌∙◌, arith, append_assoc, append-nil, length-append, add-zero}
 use Rattle.csv.specs.declared.reader.Reader.{Reader}
 use Rattle.model.specs.Content.{Content}
@@ -14,7 +14,7 @@ use Rattle.bulk.specs.declared.fault.FaultKind.{FaultKind}
 use Rattle.bulk.specs.declared.request.BulkRequest.{BulkRequest}
 use Rattle.bulk.proofs.Runs.{nothing, runs_then, stops_here}
 
--- of these rows so many were run, and the reader has the others
+-- Holds if the first rows were run, and the reader has the others.
 pub record Passes {R : Type 0} (rem : R → Option (List ℕ)) (st : State) (rows : List Row)
     (reader : Reader R) (new : Content) (had has : Option (List ℕ)) (row k : ℕ) : Type 0 where
   pub first : List Row
@@ -61,7 +61,7 @@ begins rem st rows reader c had s h = record {
 module _ {R : Type 0} (rem : R → Option (List ℕ)) (st : State) (rows : List Row)
     (at reader : Reader R) (mid : Content) (had has : Option (List ℕ)) (row k : ℕ)
     (p : Passes rem st rows at mid had has row k) where
-  -- behind the last row
+  -- The last row has been read.
   pub ends : (raw : Row) → ((rest : List Row) → HasRows rem at rest
       → Takes rem reader false raw rest) → RunsAll st rows mid had has k
   ends raw takes =
@@ -71,7 +71,7 @@ module _ {R : Type 0} (rem : R → Option (List ℕ)) (st : State) (rows : List 
       let P : List Row → Type 0 = λ rs. AreRead rs p.requests in
       record { requests = p.requests; read = subst P (sym whole) p.read; done = p.done }
 
-  -- the reader failed, or no more rows are counted
+  -- The reader failed, or there are more rows than can be counted.
   pub unread : (kind : FaultKind) → IsUnread kind → RunsFirst kind st rows mid had has k
   unread kind is = record {
     first = p.first;
@@ -82,7 +82,7 @@ module _ {R : Type 0} (rem : R → Option (List ℕ)) (st : State) (rows : List 
     failed = stops_here kind st (tasks_from 1 p.requests) mid had has 0 k is p.done;
   }
 
-  -- a row more
+  -- One more row was read.
   module _ (raw : Row) (o : Option BulkRequest) (new : Content) (then : Option (List ℕ))
       (reads : ParsesRow raw o) (takes : (rest : List Row) → HasRows rem at rest
       → Takes rem reader true raw rest) where

@@ -20,7 +20,7 @@ rising-more first (suc many) =
     ∙ rising-more (first + 1) many)
     ∙ ap (λ (n : ℕ). first ∷ (rising (first + 1) many ++ n ∷ [])) same
 
--- one number more
+-- One more number.
 pub tasks-more : (f : ℕ → Task) (first many n : ℕ) → first + many ≡ n
     → map f (rising first (n + 1 - first)) ≡ map f (rising first (n - first)) ++ f n ∷ []
 tasks-more f first many n e =
@@ -32,7 +32,7 @@ tasks-more f first many n e =
     ∙ ap (λ (k : ℕ). map f (rising first many) ++ f k ∷ []) e
     ∙ ap (λ (k : ℕ). map f (rising first k) ++ f n ∷ []) all
 
--- a number between two of one code is a telephone number
+-- A number between two of one code is a telephone number.
 pub is_between : (a b n : ℕ) → IsTn a → code_of b ≡ code_of a → a ≤ n → n ≤ b → IsTn n
 is_between a b n valid code low high =
     let one : n / 10000 ≡ a / 10000 = omega (arith, code, low, high) in
@@ -48,7 +48,7 @@ rising-split first (suc a) b =
     ∙ ap (λ (ns : List ℕ). first ∷ ns) (rising-split (first + 1) a b)
     ∙ ap (λ (n : ℕ). first ∷ (rising (first + 1) a ++ rising n b)) at
 
--- a run over the numbers before n, and then over n
+-- A run over the numbers before `n`, and then over `n`.
 pub runs_number :
     (f : ℕ → Task) (first n : ℕ) (st : State) (mid new : Content) (had at has : Option (List ℕ))
     (from j : ℕ) (r : Result ℕ BulkFault) → first ≤ n →
@@ -61,7 +61,7 @@ runs_number f first n st mid new had at has from j r low before now =
     (runs_then st (map f (rising first (n - first))) (f n ∷ []) mid new had at has from j r before
     now)
 
--- one that ended early among the first numbers ended so among all
+-- A run that failed in the first numbers failed in all.
 pub fails_among :
     (kind : FaultKind) (f : ℕ → Task) (first last n : ℕ) (st : State) (new : Content)
     (had has : Option (List ℕ)) (from k : ℕ) → first ≤ n → n < last + 1 →
@@ -78,7 +78,7 @@ fails_among kind f first last n st new had has from k low high h =
     subst P split (fails_more kind st (map f (rising first (n + 1 - first)))
     (map f (rising (first + (n + 1 - first)) (last - n))) new had has from k h)
 
--- behind the last number all are done
+-- After the last number, all are done.
 pub does_numbers :
     (f : ℕ → Task) (first last n : ℕ) (st : State) (new : Content) (had has : Option (List ℕ))
     (from k : ℕ) → n ≡ last + 1 →

@@ -1,4 +1,4 @@
--- Runs over tasks, one after the other.
+-- Runs over tasks, in order.
 use Rattle.std.proofs.Common.{◌≡◌, ℕ, ◌+◌, List, [], ◌∷◌, ◌++◌, take, Option, Result, Ok, Err, inl, inr, refl, ap, sym, subst, ◌∙◌, arith, append_assoc, append-nil, length-append}
 use Rattle.std.specs.List.{concat}
 use Rattle.std.specs.Io.KnownBytes.{Appends}
@@ -34,7 +34,7 @@ texts-append : (st : State) (xs ys : List Task)
 texts-append st xs ys = sym (concat-append (lines_of st xs) (lines_of (state_after st xs) ys))
     ∙ ap concat (sym (lines_of-append st xs ys))
 
--- nothing yet
+-- No task has been executed yet.
 pub nothing : (st : State) (c : Content) (had : Option (List ℕ)) (from : ℕ) → Refines c st
     → DoesAll st [] c had had from from
 nothing st c had from s = record { refines = s; sent = Appends-nil had; count = omega arith }
@@ -120,7 +120,7 @@ runs_then st xs ys mid new had at has from j (Ok k) before now =
 runs_then st xs ys mid new had at has from j (Err fault) before now =
     fails_then fault.kind st xs ys mid new had at has from j fault.rows before now
 
--- a run that ended early ended so too before more tasks
+-- A run that failed before more tasks fails with them too.
 first_more : (st : State) (xs ys : List Task) (new : Content) (had has : Option (List ℕ))
     (from k : ℕ) → DoesFirst st xs new had has from k → DoesFirst st (xs ++ ys) new had has from k
 first_more st xs ys new had has from k h =
@@ -157,7 +157,7 @@ fails_more BadHeader st xs ys new had has from k h = h
 fails_more BadFile st xs ys new had has from k h = h
 fails_more UnknownCarrier st xs ys new had has from k h = h
 
--- where no task of them was done
+-- No task was executed.
 pub none_done : (st : State) (tasks : List Task) (new : Content) (had : Option (List ℕ)) (from : ℕ)
     → Refines new st → DoesFirst st tasks new had had from from
 none_done st tasks new had from s = record {
@@ -167,7 +167,7 @@ none_done st tasks new had from s = record {
   done = nothing st new had from s;
 }
 
--- one task
+-- One task was executed.
 pub one_done : (st : State) (task : Task) (new : Content) (had has : Option (List ℕ)) (from : ℕ)
     → Refines new (state_behind st task) → Appends had has (line_of st task)
     → DoesAll st (task ∷ []) new had has from (from + 1)
@@ -191,7 +191,7 @@ one_broken st task new had has from s sent = record {
   count = omega arith;
 }
 
--- one line was sent, or broke off
+-- One line was sent, or broke off.
 broken_at : (st : State) (task : Task) (new : Content) (had has : Option (List ℕ)) (count : ℕ)
     (kind : FaultKind) (k : ℕ) → kind ≡ Write → k ≡ count
     → BreaksAt st (task ∷ []) new had has count count
@@ -213,7 +213,7 @@ one_sent st task new had has count text (Err fault) e s sent =
     broken_at st task new had has count fault.kind fault.rows sent.1 sent.2
     (one_broken st task new had has count s (subst (AppendsFront had has) e sent.0))
 
--- nothing was made for want of the device or of memory
+-- Nothing was executed, because the device or an allocation failed.
 pub short_stop : (kind : FaultKind) (st : State) (tasks : List Task) (new : Content)
     (had : Option (List ℕ)) (from : ℕ) → IsShort kind → Refines new st
     → FailsIn kind st tasks new had had from from
@@ -224,7 +224,7 @@ short_stop kind st tasks new had from (inr e) s =
     let P : FaultKind → Type 0 = λ w. FailsIn w st tasks new had had from from in
     subst P (sym e) (none_done st tasks new had from s)
 
--- all the tasks were done, and then no more could be read
+-- All tasks were executed, and then no more could be read.
 stopped : (st : State) (tasks : List Task) (new : Content) (had has : Option (List ℕ)) (from k : ℕ)
     → DoesAll st tasks new had has from k → DoesFirst st tasks new had has from k
 stopped st tasks new had has from k h = record {
@@ -244,7 +244,7 @@ stops_here kind st tasks new had has from k (inr e) h =
     let P : FaultKind → Type 0 = λ w. FailsIn w st tasks new had has from k in
     subst P (sym e) (stopped st tasks new had has from k h)
 
--- a run leads on by some of the machine's inputs
+-- The state after a task is one after some inputs of the machine.
 input_behind : (st : State) (task : Task) → (inputs : List Input)
     × (state_behind st task ≡ machine_after st inputs)
 input_behind st (Bad row) = ([], refl)

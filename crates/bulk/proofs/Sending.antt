@@ -1,4 +1,4 @@
--- Lines that are sent one after the other.
+-- Lines that are sent one after another.
 use Rattle.std.proofs.Common.{◌≡◌, ℕ, suc, ◌+◌, ◌<◌, List, [], ◌∷◌, ◌++◌, length, take, drop, get_or, map, Option, ◌≤◌, Result, Ok, Err, IfOk, IfErr, inl, inr, refl, ap, sym, ◌∙◌, subst, arith, append-nil, add-one}
 use Rattle.std.specs.List.{concat}
 use Rattle.std.specs.Io.KnownBytes.{Appends}
@@ -9,7 +9,7 @@ use Rattle.std.proofs.lemmas.List.Folds.{concat-append}
 use Rattle.http_messages.specs.Sending.{AppendsFront}
 use Rattle.bulk.specs.Files.{AreSent, EndsWithin, IsSentPart, file_text}
 
--- the lines so far, and one more
+-- The lines so far, and one more.
 pub concat_next : (lines : List (List ℕ)) (i : ℕ) (text : List ℕ) → i < length lines
     → get_or lines i [] ≡ text → concat (take i lines) ++ text ≡ concat (take (i + 1) lines)
 concat_next lines i text within is =
@@ -43,7 +43,7 @@ sent_part had mid has lines i text within is before now = record {
   written = Appends-trans had mid has (concat (take i lines)) (take now.0 text) before now.2;
 }
 
--- the line of an element
+-- The line of an element.
 pub line_at :
     {X : Type 0} (text : X → List ℕ) (xs : List X) (i : ℕ) (x : X) → i < length xs
     → x ≡ get_or xs i x →
@@ -53,7 +53,7 @@ line_at text xs i x within is = (
   get_or-map text xs i x [] within ∙ ap text (sym is),
 )
 
--- behind the last element all lines are sent
+-- After the last element, all lines are sent.
 pub all_sent :
     {X : Type 0} (text : X → List ℕ) (xs : List X) (i : ℕ) (had has : Option (List ℕ))
     → length xs ≤ i →
@@ -63,14 +63,14 @@ all_sent text xs i had has far sent =
     take_all i (map text xs) (omega (arith, length-map xs text, far)) in
     subst (AreSent had has) whole sent
 
--- the lines of elements as they are seen
+-- The lines of elements, by their models.
 pub lines_seen : {X Y : Type 0} (line : Y → List ℕ) (seen : X → Y) (xs : List X)
     → map (λ x. line (seen x)) xs ≡ map line (map seen xs)
 lines_seen line seen [] = refl
 lines_seen line seen (x ∷ xs) =
     ap (λ (ts : List (List ℕ)). line (seen x) ∷ ts) (lines_seen line seen xs)
 
--- the first line, and then the lines
+-- The first line, and then the others.
 pub all_behind :
     (had mid has : Option (List ℕ)) (first : List ℕ) (lines : List (List ℕ)) (n : ℕ)
     (r : Result ℕ ℕ) → Appends had mid first →

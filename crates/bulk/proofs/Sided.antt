@@ -1,4 +1,4 @@
--- What is known of each subject, as rows of the three sides are added.
+-- The sides of each subject, as rows are added.
 use Rattle.std.proofs.Common.{◌≡◌, ℕ, suc, ◌+◌, ◌<◌, Bool, true, false, List, [], ◌∷◌, length, drop, get_or, map, Option, Some, None, option_map, is_some, refl, ap, sym, ◌∙◌, subst, add-one}
 use Rattle.std.specs.Prelude.{fold, unwrap_or, if◌then◌else◌, ◌||◌}
 use Rattle.std.specs.List.{list_any}
@@ -22,7 +22,7 @@ use Rattle.settle.proofs.Rest.{rest_at}
 abbrev Map : Type 0
 Map = BTreeMap Subject Sides
 
--- a map has the same at two subjects that are the same
+-- A map has the same sides for equal subjects.
 same_sides : (all : Map) (s t : Subject) → subject_eq (subject_of t) (subject_of s) ≡ true
     → sides_at all t ≡ sides_at all s
 same_sides all s t e =
@@ -30,7 +30,7 @@ same_sides all s t e =
     sym (ap subject_key (same_subject (subject_of t) (subject_of s) e)) in
     ap (λ (k : ℕ). unwrap_or (get (λ (x y : Subject). nat_cmp k (key_of y)) all t) no_sides) key
 
--- what was set of a subject, as a change of what was there
+-- The sides set for a subject, as a change of the sides before.
 set_here :
     (old new : Map) (s t : Subject) (f : Sides → Sides)
     → sides_at new s ≡ (if subject_eq (subject_of t) (subject_of s) then f (sides_at old t)
@@ -45,7 +45,7 @@ set_here old new s t f set = set ∙ by_cases (subject_eq (subject_of t) (subjec
     by_cases true e = ap f (same_sides old s t e)
     by_cases false e = refl
 
--- ---- what is in force
+-- ---- the versions in force
 
 abbrev pub with_in_force : List RoutedRow → Subject → Sides → Sides
 with_in_force rows s sides = record sides { in_force = routed_after rows s sides.in_force }
@@ -73,7 +73,7 @@ in_force_turn rows i row within is old new set s =
     by_cases true = refl
     by_cases false = refl
 
--- ---- what waits
+-- ---- the pending downloads
 
 abbrev pub with_waiting : List Subject → Subject → Sides → Sides
 with_waiting subjects s sides = record sides { waits = waits_after subjects s sides.waits }
@@ -130,8 +130,8 @@ copied_turn entries i entry within is old new set s =
     by_cases true = refl
     by_cases false = refl
 
--- the entries that were taken are each none of those before it, and a subject is copied where it is
--- among them
+-- Holds if the entries added differ from those before them, and just the subjects in `before` are
+-- copied.
 pub record Taken (whole left : List RoutedRow) (all : Map) : Type 0 where
   pub before : List SubjectModel
   pub forth : EachOnce (subjects_in whole) → AreNew before (subjects_in left)
@@ -169,7 +169,7 @@ entry_taken entries i entry within is old new not set before =
     by_cases s true = refl
     by_cases s false = before.copied s
 
--- ---- what the definitions say of them
+-- ---- the sides, by the definitions
 
 routed_at : (r : RoutedRow) (before : Option Routing) (b : Bool)
     → option_map routing_of (if b then Some r.routing else before) ≡ (if b

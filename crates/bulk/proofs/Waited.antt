@@ -1,4 +1,4 @@
--- What the register says of the subjects that wait for a carrier.
+-- The register's answer on the subjects with downloads pending for a carrier.
 use Rattle.std.proofs.Common.{◌≡◌, ℕ, Bool, true, false, List, Option, Some, None, refl, sym, ◌∙◌, ap, subst}
 use Rattle.numbers.specs.Subjects.{Subject}
 use Rattle.model.specs.Content.{Content}
@@ -42,7 +42,7 @@ is_stranger st carrier k e =
     stranger (is_carrier st carrier) k (awaited st carrier)
     (e ∙ ap (λ (r : Option ℕ). refused_or r (Awaited (awaited st carrier))) (waiting_by st carrier))
 
--- it answered that it knows no such carrier
+-- The register refused an unknown carrier.
 pub stranger_told : (old new : Content) (carrier : ℕ) (refusal : Refusal) → refusal ≡ UnknownCarrier
     → SimulatesStep old new (QuestionFrom carrier Waiting) (refused_with (number_of refusal)) →
     (st : State) → Refines old st → is_carrier st carrier ≡ false

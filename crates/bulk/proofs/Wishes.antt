@@ -1,4 +1,4 @@
--- What a wish's action says of it.
+-- The operations of an action.
 use Rattle.std.proofs.Common.{◌≡◌, ◌≢◌, ℕ, List, ◌∷◌}
 use Rattle.version.specs.declared.create.Creator.{Creator}
 use Rattle.version.specs.declared.create.Creator.TheVariants as creator
@@ -14,7 +14,7 @@ use Rattle.bulk.specs.declared.request.Operation.{Operation}
 use Rattle.bulk.specs.declared.request.Operation.TheVariants as operation
 use Rattle.bulk.proofs.Names.{one_name}
 
--- no create is a command on a version
+-- A create is not a command on a version.
 pub no_command : (c : VersionCommand) (by : Creator) → command_action c ≢ create_action by
 no_command command.Activate (creator.OldProvider a) = λ e. cc
 no_command command.Activate (creator.NewProvider r) = λ e. cc
@@ -33,7 +33,7 @@ no_command (command.Disconnect release) (creator.NewProvider r) = λ e. cc
 no_command (command.ModifyRouting routing) (creator.OldProvider a) = λ e. cc
 no_command (command.ModifyRouting routing) (creator.NewProvider r) = λ e. cc
 
--- a create's fields name its new provider
+-- The fields of a create name its new provider.
 pub no_new_provider :
     (old new due : List ℕ) (last : Row) (by : Creator) → ((n : ℕ) → IsSpid n → new ≢ spid_text n) →
     (w : Operation) → action_of w ≡ create_action by → old ∷ new ∷ due ∷ last ≢ operation_fields w
@@ -41,7 +41,7 @@ no_new_provider old new due last by none (operation.Create o n d creator) e =
     λ same. none n.number n.valid cc
 no_new_provider old new due last by none (operation.OnVersion c) e = λ same. no_command c by e
 
--- no wish of this action has these fields, so no order has the row
+-- If no operation of the action has these fields, the row encodes no request.
 pub no_order :
     (row : Row) (caller name subject : List ℕ) (six : Row) (a : ActionName)
     → row ≡ caller ∷ name ∷ subject ∷ six → name ≡ action_name a →

@@ -19,7 +19,8 @@ use Rattle.bulk.specs.Findings.{AreFindings, awaited, finding_at, finding_of, to
 use Rattle.bulk.specs.declared.finding.Finding.TheVariants.{Waiting, Missing, Extra, Different}
 use Rattle.bulk.specs.declared.finding.SubjectFinding.{SubjectFinding}
 
--- the number is in force at AAAA, and CCCC's copy routes it to CCCC, and another to BBBB
+-- The number is in force with a routing to AAAA; the copy of CCCC routes it to CCCC, and another
+-- number to BBBB.
 abbrev other : ℕ
 other = 2025339999
 
@@ -55,7 +56,7 @@ findings = record {
   finding = Different;
 } ∷ record { subject = code.Number other_number; finding = Extra } ∷ []
 
--- by the rows in force, the copy and no download
+-- The findings by the rows in force and the copy, without pending downloads.
 by_rows : (s : SubjectImpl)
     → told_of findings (subject_of s) ≡ finding_of false (copy_of_rows force (subject_of s))
     (copy_of_rows copy (subject_of s))
@@ -70,7 +71,7 @@ by_rows (code.Number tn) = go (n == tn.number) (other == tn.number)
     go false true = refl
     go false false = refl
 
--- the first differs, and the other is not in force
+-- The routing of the first number differs, and the other number is not in force.
 pub different_and_extra : AreFindings active_at_201 c copy findings
 different_and_extra = record {
   rise = ((refl, tt), (tt, tt));
@@ -83,8 +84,8 @@ different_and_extra = record {
       (sym none_waits);
 }
 
--- what waits is told before what differs: of a partial failure, to a carrier that has not
--- acknowledged it
+-- A pending download is found before a difference: after a partial failure, for a carrier that has
+-- not acknowledged it.
 waiting_first : finding_at part_at_215 a copy (Number n) ≡ Some Waiting
 unfolding next replay_of replay_step effect judge judged_for judged_version queue tests out
 waiting_first = refl
@@ -93,7 +94,7 @@ different_else : finding_at part_at_215 c copy (Number n) ≡ Some Different
 unfolding next replay_of replay_step effect judge judged_for judged_version queue tests out
 different_else = refl
 
--- a number in force that no copy has, and one that agrees
+-- A number in force that the copy lacks, and one with the same routing in both.
 missing : finding_at active_at_201 c [] (Number n) ≡ Some Missing
 unfolding next replay_of replay_step effect judge judged_for judged_version queue tests out
 missing = refl

@@ -1,4 +1,4 @@
--- An audit of a copy, which is a file in the form of an export.
+-- The audit of a copy, which is a file in the format of an export.
 use Rattle.std.specs.Prelude.{◌≡◌, ◌≢◌, ◌⊎◌, ℕ, true, false, List, [], ◌∷◌, length, map, codes, ⊤, Option, Result, Ok, Err}
 use Rattle.std.specs.List.{list_any}
 use Rattle.std.specs.Io.KnownBytes.{Appends}
@@ -19,28 +19,28 @@ use Rattle.bulk.specs.declared.finding.SubjectFinding.{SubjectFinding}
 
 -- ---- a copy
 
--- the row that a copy begins with
+-- The first row of a copy.
 unfoldable pub copy_header : Row
 copy_header = codes "subject" ∷ codes "lrn" ∷ codes "cic" ∷ []
 
--- the row says where a subject is routed
+-- Holds if the row encodes this entry: a subject with its routing.
 abbrev pub IsEntry : Row → RoutedRow → Type 0
 IsEntry row entry =
     row ≡ subject_text (subject_of entry.subject) ∷ lrn_text entry.routing.lrn.number ∷ optional_cic
     entry.routing.cic ∷ []
 
--- it says that of none
+-- Holds if the row encodes no entry.
 abbrev pub IsNoEntry : Row → Type 0
 IsNoEntry row = (entry : RoutedRow) → ¬ (IsEntry row entry)
 
--- each row says its entry
+-- Holds if the rows encode these entries, in order.
 abbrev pub AreEntries : List Row → List RoutedRow → Type 0
 AreEntries [] [] = Unit {0}
 AreEntries (row ∷ rows) (entry ∷ entries) = IsEntry row entry × AreEntries rows entries
 AreEntries [] (entry ∷ entries) = ⊥
 AreEntries (row ∷ rows) [] = ⊥
 
--- some row says none
+-- Holds if some row encodes no entry.
 abbrev pub HasNoEntry : List Row → Type 0
 HasNoEntry [] = ⊥
 HasNoEntry (row ∷ rows) = IsNoEntry row ⊎ HasNoEntry rows
@@ -48,26 +48,26 @@ HasNoEntry (row ∷ rows) = IsNoEntry row ⊎ HasNoEntry rows
 abbrev pub subjects_in : List RoutedRow → List Subject
 subjects_in entries = map (λ (entry : RoutedRow). subject_of entry.subject) entries
 
--- each subject is none of those before it
+-- Holds if each subject differs from those before it.
 abbrev pub AreNew : (before subjects : List Subject) → Type 0
 AreNew before [] = ⊤
 AreNew before (s ∷ ss) = (list_any (λ t. subject_eq t s) before ≡ false) × AreNew (s ∷ before) ss
 
--- no subject stands twice
+-- Holds if no subject occurs twice.
 abbrev pub EachOnce : List Subject → Type 0
 EachOnce subjects = AreNew [] subjects
 
--- the rows behind the header are a copy with these entries
+-- Holds if the rows after the header are a copy with these entries.
 pub record IsCopy (rows : List Row) (entries : List RoutedRow) : Type 0 where
   pub read : AreEntries rows entries
   pub once : EachOnce (subjects_in entries)
 
--- some row is none of a copy's, or a subject stands twice
+-- Holds if some row encodes no entry, or a subject occurs twice.
 abbrev pub IsBadCopy : List Row → Type 0
 IsBadCopy rows = HasNoEntry rows ⊎ ((entries : List RoutedRow) × AreEntries rows entries
     × (¬ (EachOnce (subjects_in entries))))
 
--- why the rows of a file were not read as entries of a copy
+-- Holds if this fault is the reason why rows were not read as a copy's entries.
 abbrev pub IsNotRead : FaultKind → List Row → Type 0
 IsNotRead BadHeader rows = (others : List Row) → rows ≢ copy_header ∷ others
 IsNotRead BadFile rows = (others : List Row) × (rows ≡ copy_header ∷ others) × HasNoEntry others
@@ -79,7 +79,7 @@ IsNotRead Write rows = ⊥
 
 -- ---- an audit
 
--- the file of these bytes is a copy of a carrier that is registered, and these are the findings
+-- Holds if the bytes are a copy, the carrier is registered, and these are the findings.
 pub record Finds (st : State) (carrier : ℕ) (bytes : List ℕ)
     (findings : List SubjectFinding) : Type 0 where
   pub known : is_carrier st carrier ≡ true
@@ -89,21 +89,21 @@ pub record Finds (st : State) (carrier : ℕ) (bytes : List ℕ)
   pub copy : IsCopy rows entries
   pub found : AreFindings st carrier (map in_force_of entries) findings
 
--- all of them were written
+-- Holds if all findings were written.
 abbrev pub AuditsAll : State → (carrier : ℕ) → (bytes : List ℕ) → (had has : Option (List ℕ))
     → (rows : ℕ) → Type 0
 AuditsAll st carrier bytes had has rows =
     (findings : List SubjectFinding) × Finds st carrier bytes findings × (rows ≡ length findings)
     × Appends had has (file_text audit_header (map finding_line findings))
 
--- so many of them were written whole, and no more than a front of the next
+-- Holds if the first `rows` findings were written in full, and at most a prefix of the next.
 abbrev pub AuditsPart : State → (carrier : ℕ) → (bytes : List ℕ) → (had has : Option (List ℕ))
     → (rows : ℕ) → Type 0
 AuditsPart st carrier bytes had has rows =
     (findings : List SubjectFinding) × Finds st carrier bytes findings
     × EndsWithin had has audit_header (map finding_line findings) rows
 
--- why nothing was written
+-- Holds if the file does not begin with the header of a copy.
 abbrev pub HasBadHeader : (bytes : List ℕ) → Type 0
 HasBadHeader bytes = (rows : List Row) × AreRowsOf bytes rows × ((others : List Row)
     → rows ≢ copy_header ∷ others)
@@ -125,7 +125,7 @@ abbrev pub StopsBefore : FaultKind → State → (carrier : ℕ) → (bytes : Li
 StopsBefore kind st carrier bytes had has rows = WritesNothing kind st carrier bytes × (rows ≡ 0)
     × Appends had has []
 
--- the audit of the file of these bytes came to this result
+-- Holds if the audit of a file of these bytes has this result.
 abbrev pub Audits : State → (carrier : ℕ) → (bytes : List ℕ) → (had has : Option (List ℕ))
     → Result ℕ BulkFault → Type 0
 Audits st carrier bytes had has (Ok rows) = AuditsAll st carrier bytes had has rows

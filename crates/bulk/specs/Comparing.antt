@@ -1,4 +1,4 @@
--- What comparing a copy with what the register has comes to.
+-- The comparison of a copy with the register's side.
 use Rattle.std.specs.Prelude.{◌≡◌, ℕ, List, ◌∷◌, map}
 use Rattle.std.specs.List.{list_any}
 use Rattle.numbers.specs.Subjects.{subject_eq}
@@ -15,8 +15,8 @@ use Rattle.bulk.specs.declared.fault.FaultKind.{FaultKind}
 use Rattle.bulk.specs.declared.fault.FaultKind.TheVariants.{BadHeader, BadFile, UnknownCarrier, Storage, NoMemory, Read, Write}
 use Rattle.bulk.specs.declared.finding.SubjectFinding.{SubjectFinding}
 
--- by subject, each once: what is found of each subject, by the rows in force, the subjects that
--- wait and the entries of a copy
+-- Holds if the findings are those on all subjects, ascending, without duplicates: by the rows in
+-- force, the subjects with pending downloads and the entries of the copy.
 pub record AreCompared (in_force : List RoutedRow) (waiting : List Subject)
     (entries : List RoutedRow) (findings : List SubjectFinding) : Type 0 where
   pub rise : AreSubjectsSorted (map (λ (f : SubjectFinding). subject_of f.subject) findings)
@@ -26,7 +26,7 @@ pub record AreCompared (in_force : List RoutedRow) (waiting : List Subject)
       (copy_of_rows (map in_force_of entries)
       (subject_of s))
 
--- the file of these bytes is a copy, and so compared
+-- Holds if the bytes are a copy, and these are the findings on it.
 pub record ComparesFile (in_force : List RoutedRow) (waiting : List Subject) (bytes : List ℕ)
     (findings : List SubjectFinding) : Type 0 where
   pub rows : List Row
@@ -35,7 +35,7 @@ pub record ComparesFile (in_force : List RoutedRow) (waiting : List Subject) (by
   pub copy : IsCopy rows entries
   pub compared : AreCompared in_force waiting entries findings
 
--- why it was not
+-- Holds if this fault is the reason why there was no comparison.
 abbrev pub IsNotCompared : FaultKind → (bytes : List ℕ) → Type 0
 IsNotCompared BadHeader bytes = HasBadHeader bytes
 IsNotCompared BadFile bytes = HasBadRows bytes

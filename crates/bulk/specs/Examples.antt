@@ -1,4 +1,4 @@
--- Worked examples, computed from the definitions.
+-- Worked bulk files, computed from the definitions.
 use Rattle.std.specs.Prelude.{◌≡◌, true, [], ◌∷◌, codes, decimal, Some, None, refl}
 use Rattle.std.proofs.Common.{inl, lit<, lit≤}
 use Rattle.model.specs.History.{replay_of, replay_step, effect}
@@ -19,7 +19,7 @@ use Rattle.bulk.specs.declared.request.BulkRequest.{BulkRequest}
 use Rattle.bulk.specs.declared.request.Operation.TheVariants as operation
 use Rattle.bulk.specs.declared.range.Numbers.{Numbers}
 
--- AAAA, BBBB and CCCC, their number, and minute 100
+-- AAAA, BBBB and CCCC, the number, and minute 100.
 abbrev aaaa : Spid
 aaaa = record { number = a; valid = refl }
 
@@ -63,14 +63,14 @@ third = record {
   operation = operation.Create bbbb aaaa due (creator.OldProvider true);
 }
 
--- the row of a new provider's create says it
+-- The row of a new provider's create encodes it.
 first_is_said :
     EncodesRequest (codes "AAAA" ∷ codes "subscriptionVersionNewSP-Create" ∷ codes "2025331234" ∷ codes "BBBB"
     ∷ codes "AAAA" ∷ decimal 100 ∷ codes "2025440000" ∷ [] ∷ [] ∷ []) first
 unfolding digits_of action_name
 first_is_said = record { subject = codes "2025331234"; names = inl (refl, refl); fields = refl }
 
--- a create, another for the same number, and the old provider's: the second is refused
+-- A create, another one for the same number, and the old provider's create: the second is refused.
 file_is_reported :
     lines_of start (tasks_from 1 (Some first ∷ Some second ∷ Some third ∷ [])) ≡
     report_line 1 (codes "2025331234") (codes "ok") (decimal 1) ∷ report_line 2 (codes "2025331234")
@@ -79,7 +79,7 @@ unfolding next replay_of replay_step effect judge judged_for judged_version queu
     digits_of
 file_is_reported = refl
 
--- a bad row is told, and the rows behind it are run
+-- A bad row is reported, and the rows after it are run.
 bad_row_is_told :
     lines_of start (tasks_from 1 (None ∷ Some third ∷ [])) ≡ report_line 1 [] (codes "bad_row") []
     ∷ report_line 2 (codes "2025331234") (codes "ok") (decimal 1) ∷ []

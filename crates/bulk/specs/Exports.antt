@@ -1,4 +1,4 @@
--- An export: everything in force, by subject.
+-- An export: everything in force, ordered by subject.
 use Rattle.std.specs.Prelude.{◌≡◌, ℕ, List, [], ◌∷◌, ◌++◌, length, map, codes, Option, Some, None}
 use Rattle.std.specs.Prelude.{Result, Ok, Err}
 use Rattle.std.specs.Io.KnownBytes.{Appends}
@@ -13,7 +13,7 @@ use Rattle.bulk.specs.declared.fault.FaultKind.TheVariants.{BadHeader, BadFile, 
 unfoldable pub export_header : List ℕ
 export_header = codes "subject,lrn,cic\n"
 
--- empty where there is none
+-- The field of a carrier identification code; `None` leaves it empty.
 abbrev pub cic_field : Option ℕ → List ℕ
 cic_field None = []
 cic_field (Some cic) = cic_text cic
@@ -22,16 +22,15 @@ abbrev pub routing_fields : Option Routing → List ℕ
 routing_fields None = 44 ∷ []
 routing_fields (Some routing) = lrn_text routing.lrn ++ 44 ∷ cic_field routing.cic
 
--- a subject in force, and where it is routed
+-- The line of a subject in force with its routing.
 abbrev pub in_force_line : InForce → List ℕ
 in_force_line row = subject_text row.subject ++ 44 ∷ (routing_fields row.routing ++ 10 ∷ [])
 
 abbrev pub export_lines : State → List (List ℕ)
 export_lines st = map in_force_line (all_in_force st)
 
--- what a writer that had this then has of an export whose rows were flushed whole, or that ended
--- early. Nothing is written where the
--- device or memory failed
+-- Holds if a failed export wrote this: its header and the first `rows` rows, and at most a prefix
+-- of the next. Nothing is written if the device or an allocation fails.
 abbrev pub FailsTo : FaultKind → (rows : ℕ) → State → (had has : Option (List ℕ)) → Type 0
 FailsTo Write rows st had has = EndsWithin had has export_header (export_lines st) rows
 FailsTo Storage rows st had has = (rows ≡ 0) × Appends had has []

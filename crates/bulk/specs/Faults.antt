@@ -1,10 +1,10 @@
--- How a run over a file may end early.
+-- The faults that end a run over a file early.
 use Rattle.std.specs.Prelude.{◌≡◌, ◌⊎◌, ℕ, List, Result, Ok, Err, codes}
 use Rattle.bulk.specs.declared.fault.BulkFault.{BulkFault}
 use Rattle.bulk.specs.declared.fault.FaultKind.{FaultKind}
 use Rattle.bulk.specs.declared.fault.FaultKind.TheVariants.{BadHeader, BadFile, UnknownCarrier, Storage, NoMemory, Read, Write}
 
--- the name that a program tells
+-- The name that a program reports.
 abbrev pub kind_name : FaultKind → List ℕ
 kind_name BadHeader = codes "bad_header"
 kind_name BadFile = codes "bad_file"
@@ -14,15 +14,15 @@ kind_name NoMemory = codes "no_memory"
 kind_name Read = codes "read"
 kind_name Write = codes "write"
 
--- the device failed, or there was no memory
+-- Holds if the device or an allocation failed.
 abbrev pub IsShort : FaultKind → Type 0
 IsShort kind = (kind ≡ Storage) ⊎ (kind ≡ NoMemory)
 
--- it ends with a fault of this kind
+-- Holds if the result is a fault of this kind.
 abbrev pub FailsWith : FaultKind → Result ℕ BulkFault → Type 0
 FailsWith kind (Ok rows) = ⊥
 FailsWith kind (Err fault) = fault.kind ≡ kind
 
--- the reader failed, or there was no memory
+-- Holds if the reader or an allocation failed.
 abbrev pub IsUnread : FaultKind → Type 0
 IsUnread kind = (kind ≡ Read) ⊎ (kind ≡ NoMemory)

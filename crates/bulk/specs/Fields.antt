@@ -1,4 +1,4 @@
--- Words for reading fields.
+-- Definitions for the parsing of fields.
 use Rattle.std.specs.Prelude.{ℕ, Bool, List, [], ◌∷◌}
 use Rattle.std.specs.Str.{bytes_eq}
 use Rattle.bulk.specs.Rows.{Row}
@@ -7,17 +7,17 @@ use Rattle.bulk.specs.Requests.{action_name}
 use Rattle.bulk.specs.declared.request.ActionName.{ActionName}
 use Rattle.bulk.specs.declared.request.ActionName.TheVariants.{OldProviderCreate, NewProviderCreate, Activate, PutInConflict, RemoveFromConflict, Cancel, OldProviderCancellationAcknowledge, NewProviderCancellationAcknowledge, Disconnect, ModifyRouting}
 
--- all actions
+-- All actions.
 abbrev pub actions : List ActionName
 actions = OldProviderCreate ∷ NewProviderCreate ∷ Activate ∷ PutInConflict ∷ RemoveFromConflict
     ∷ Cancel ∷ OldProviderCancellationAcknowledge ∷ NewProviderCancellationAcknowledge ∷ Disconnect
     ∷ ModifyRouting ∷ []
 
--- whether a field is the name of the action
+-- Whether a field is the name of the action.
 abbrev pub is_action : List ℕ → ActionName → Bool
 is_action field action = bytes_eq field (action_name action)
 
--- the nine fields of a row
+-- The fields of a row: the last three, the last six, and all nine.
 abbrev pub last_fields : Fields → Row
 last_fields f = f.lrn.now ∷ f.cic.now ∷ f.flag.now ∷ []
 

@@ -1,17 +1,17 @@
--- Files of lines, and what stands of one that ends early.
+-- Files of lines, and what is written of one that ends early.
 use Rattle.std.specs.Prelude.{◌≡◌, ℕ, ◌⊎◌, List, ◌∷◌, ◌++◌, length, take, Option}
 use Rattle.std.specs.List.{concat}
 use Rattle.std.specs.Io.KnownBytes.{Appends}
 
--- a file with this first line and these lines
+-- The text of a file with this first line and these lines.
 abbrev pub file_text : (first : List ℕ) → (lines : List (List ℕ)) → List ℕ
 file_text first lines = first ++ concat lines
 
--- a writer that had this, and then has these lines behind it
+-- Holds if the writer got these lines.
 abbrev pub AreSent : (had has : Option (List ℕ)) → (lines : List (List ℕ)) → Type 0
 AreSent had has lines = Appends had has (concat lines)
 
--- and k of these lines whole, and a front of the next
+-- Holds if the writer got the first `k` lines in full, and a prefix of the next.
 pub record IsSentPart (had has : Option (List ℕ)) (lines : List (List ℕ)) (k : ℕ) : Type 0 where
   pub before : List (List ℕ)
   pub line : List ℕ
@@ -21,7 +21,8 @@ pub record IsSentPart (had has : Option (List ℕ)) (lines : List (List ℕ)) (k
   pub part : ℕ
   pub written : Appends had has (concat before ++ take part line)
 
--- and a front of the first line; or the first line, k of these lines whole, and a front of the next
+-- Holds if the writer got a prefix of the first line; or the first line, then `k` lines in full and
+-- a prefix of the next.
 abbrev pub EndsWithin : (had has : Option (List ℕ)) → (first : List ℕ) → (lines : List (List ℕ))
     → (k : ℕ) → Type 0
 EndsWithin had has first lines k =

@@ -1,6 +1,7 @@
--- What an audit tells: a carrier's own copy beside the register, by three sets of subjects: those
--- of the copy, those in force, and those of
--- which a download waits for the carrier.
+-- The findings of an audit.
+--
+-- They compare three sets of subjects: those of the carrier's copy, those in force, and those with
+-- downloads pending for the carrier.
 use Rattle.std.specs.Prelude.{◌≡◌, ℕ, ◌==◌, ◌&&◌, Bool, true, false, List, [], ◌∷◌, ◌++◌, map, codes, Option, Some, None, if◌then◌else◌}
 use Rattle.std.specs.List.{list_any}
 use Rattle.numbers.specs.Routings.{Routing}
@@ -22,7 +23,7 @@ finding_name Missing = codes "missing"
 finding_name Extra = codes "extra"
 finding_name Different = codes "different"
 
--- ---- what is found of a subject
+-- ---- the finding on a subject
 
 abbrev pub same_cic : Option ℕ → Option ℕ → Bool
 same_cic None None = true
@@ -33,8 +34,8 @@ same_cic (Some a) None = false
 abbrev pub same_routing : Routing → Routing → Bool
 same_routing r q = (r.lrn == q.lrn) && same_cic r.cic q.cic
 
--- by whether a download of it waits, and by where it is routed in force and in the copy: nothing
--- where these agree
+-- The finding on a subject, by whether a download of it is pending, and by its routing in force and
+-- in the copy. If these agree, there is no finding.
 abbrev pub finding_of : (waits : Bool) → (in_force copied : Option Routing) → Option Finding
 finding_of true in_force copied = Some Waiting
 finding_of false None None = None
@@ -43,7 +44,7 @@ finding_of false (Some routing) None = Some Missing
 finding_of false (Some routing) (Some copy) = if same_routing routing copy then None
     else Some Different
 
--- the subjects of the downloads that wait for a carrier
+-- The subjects with downloads pending for a carrier.
 abbrev pub awaited : State → (carrier : ℕ) → List Subject
 awaited st carrier = each_once (map (λ (d : Download). d.subject) (queue st carrier))
 
@@ -55,19 +56,19 @@ finding_at st carrier copy s =
 
 -- ---- all findings
 
--- what these findings tell of a subject
+-- The finding on a subject in a list.
 abbrev pub told_of : List SubjectFinding → Subject → Option Finding
 told_of [] s = None
 told_of (f ∷ fs) s = if subject_eq (subject_of f.subject) s then Some f.finding else told_of fs s
 
--- by subject, each once: what is found of each subject, and nothing else
+-- Holds if these are the findings on all subjects, ascending, without duplicates, and no others.
 pub record AreFindings (st : State) (carrier : ℕ) (copy : List InForce)
     (findings : List SubjectFinding) : Type 0 where
   pub rise : AreSubjectsSorted (map (λ (f : SubjectFinding). subject_of f.subject) findings)
   pub each : (s : SubjectImpl) → told_of findings (subject_of s) ≡ finding_at st carrier copy
       (subject_of s)
 
--- ---- their file
+-- ---- the file of the findings
 
 unfoldable pub audit_header : List ℕ
 audit_header = codes "subject,finding\n"

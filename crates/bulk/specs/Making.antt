@@ -1,4 +1,4 @@
--- What making a command leaves.
+-- The results of a bulk file's commands.
 use Rattle.std.specs.Prelude.{◌≡◌, ℕ, Bool, true, false, List, [], codes, decimal}
 use Rattle.numbers.specs.Texts.{tn_text}
 use Rattle.model.specs.Commands.{Command, RegisterCarrier, RegisterRoutingNumber, OpenCode, OldProviderCreate, NewProviderCreate, OnVersion, Donate, Assign, Release, SetWindows}
@@ -8,7 +8,7 @@ use Rattle.bulk.specs.Report.{report_line, reply_line}
 use Rattle.bulk.specs.declared.command_result.CommandResult.{CommandResult}
 use Rattle.bulk.specs.declared.command_result.CommandResult.TheVariants as told
 
--- a create, or a command on a version
+-- Whether a command is a create or a command on a version.
 abbrev pub is_of_number : Command → Bool
 is_of_number (OldProviderCreate tn old_provider new_provider due authorized) = true
 is_of_number (NewProviderCreate tn old_provider new_provider due lrn cic) = true
@@ -21,16 +21,16 @@ is_of_number (Donate block used lrn cic) = false
 is_of_number (Assign block holder lrn cic) = false
 is_of_number (Release block) = false
 
--- the report's line of what was answered
+-- The report's line for a result.
 abbrev pub told_line : (row tn : ℕ) → CommandResult → List ℕ
 told_line row tn (told.Version id) = report_line row (tn_text tn) (codes "ok") (decimal id)
 told_line row tn (told.Refused refusal) = report_line row (tn_text tn) (refusal_name refusal) []
 
--- it tells the reply
+-- Holds if the result is that of the reply.
 abbrev pub IsResultOf : CommandResult → Reply → Type 0
 IsResultOf told reply = (row tn : ℕ) → told_line row tn told ≡ reply_line row tn reply
 
--- what answers a create or a command on a version: a refusal or a version
+-- Holds if the reply is one to a create or a command on a version: a refusal or a version.
 abbrev pub IsSaid : Reply → Type 0
 IsSaid (Refused number) = Unit {0}
 IsSaid (Shown view) = Unit {0}

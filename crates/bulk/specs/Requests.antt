@@ -1,4 +1,4 @@
--- What a row of a bulk file says: the fields of each order.
+-- The encoding of a request in the fields of a bulk file's row.
 use Rattle.std.specs.Prelude.{◌≡◌, ◌⊎◌, ℕ, Bool, List, [], ◌∷◌, ◌++◌, Option, Some, None, codes, if◌then◌else◌}
 use Rattle.numbers.specs.Texts.{spid_text, tn_text, lrn_text, cic_text, minute_text}
 use Rattle.numbers.specs.declared.cic.Cic.{Cic}
@@ -15,14 +15,14 @@ use Rattle.bulk.specs.declared.request.BulkRequest.{BulkRequest}
 use Rattle.bulk.specs.declared.request.Operation.{Operation}
 use Rattle.bulk.specs.declared.request.Operation.TheVariants as operation
 
--- the row that a bulk file begins with
+-- The first row of a bulk file.
 unfoldable pub header : Row
 header = codes "caller" ∷ codes "action" ∷ codes "subject" ∷ codes "old" ∷ codes "new" ∷ codes "due"
     ∷ codes "lrn" ∷ codes "cic" ∷ codes "flag" ∷ []
 
 -- ---- actions
 
--- the action by its name in the NPAC's interface
+-- The name of an action in the NPAC interface.
 unfoldable pub action_name : ActionName → List ℕ
 action_name OldProviderCreate = codes "subscriptionVersionOldSP-Create"
 action_name NewProviderCreate = codes "subscriptionVersionNewSP-Create"
@@ -57,7 +57,7 @@ action_of (operation.OnVersion command) = command_action command
 
 -- ---- subjects
 
--- a number alone, or the first and the last with a hyphen between them
+-- Holds if the text is a single number, or the first and the last with a hyphen between them.
 abbrev pub Names : List ℕ → Numbers → Type 0
 Names text numbers =
     ((text ≡ tn_text numbers.first.number) × (numbers.last.number ≡ numbers.first.number))
@@ -68,7 +68,7 @@ Names text numbers =
 abbrev pub flag_text : Bool → List ℕ
 flag_text authorized = if authorized then codes "yes" else codes "no"
 
--- empty where there is none
+-- An optional field; empty if there is no value.
 abbrev pub optional_cic : Option Cic → List ℕ
 optional_cic None = []
 optional_cic (Some cic) = cic_text cic.number
@@ -77,13 +77,13 @@ abbrev pub optional_minute : Option Minute → List ℕ
 optional_minute None = []
 optional_minute (Some minute) = minute_text minute.number
 
--- lrn, cic and flag of a create
+-- The fields lrn, cic and flag of a create.
 abbrev pub create_fields : Creator → Row
 create_fields (creator.OldProvider authorized) = [] ∷ [] ∷ flag_text authorized ∷ []
 create_fields (creator.NewProvider routing) =
     lrn_text routing.lrn.number ∷ optional_cic routing.cic ∷ [] ∷ []
 
--- due, lrn and cic of a command on a version
+-- The fields due, lrn and cic of a command on a version.
 abbrev pub release_field : VersionCommand → List ℕ
 release_field (command.Disconnect release) = optional_minute release
 release_field command.Activate = []
@@ -123,7 +123,7 @@ operation_fields (operation.OnVersion command) =
 
 -- ---- rows
 
--- the row says the order
+-- Holds if the row encodes the request.
 pub record EncodesRequest (row : Row) (request : BulkRequest) : Type 0 where
   pub subject : List ℕ
   pub names : Names subject request.numbers
@@ -131,7 +131,7 @@ pub record EncodesRequest (row : Row) (request : BulkRequest) : Type 0 where
       ∷ subject
       ∷ operation_fields request.operation
 
--- the row says an order, or it is a bad one: it says none
+-- Holds if the row encodes the request, or for none if it encodes no request.
 abbrev pub ParsesRow : Row → Option BulkRequest → Type 0
 ParsesRow row (Some request) = EncodesRequest row request
 ParsesRow row None = (request : BulkRequest) → ¬ (EncodesRequest row request)

@@ -1,4 +1,4 @@
--- How a run over tasks ends.
+-- The results of running tasks.
 use Rattle.std.specs.Prelude.{◌≡◌, ◌≢◌, ◌⊎◌, ℕ, ◌+◌, List, [], ◌∷◌, ◌++◌, length, take, Option, Result, Ok, Err}
 use Rattle.std.specs.List.{concat}
 use Rattle.std.specs.Io.KnownBytes.{Appends}
@@ -18,21 +18,21 @@ use Rattle.bulk.specs.declared.fault.BulkFault.{BulkFault}
 use Rattle.bulk.specs.declared.fault.FaultKind.{FaultKind}
 use Rattle.bulk.specs.declared.fault.FaultKind.TheVariants.{BadHeader, BadFile, UnknownCarrier, Storage, NoMemory, Read, Write}
 
--- a line was sent behind as many as count, or the writer failed in it
+-- Holds if a line was sent after `count` others, or the writer failed in it.
 abbrev pub SendsOne : (had has : Option (List ℕ)) → (text : List ℕ) → (count : ℕ)
     → Result ℕ BulkFault → Type 0
 SendsOne had has text count (Ok k) = Appends had has text × (k ≡ count + 1)
 SendsOne had has text count (Err fault) = AppendsFront had has text × (fault.kind ≡ Write)
     × (fault.rows ≡ count)
 
--- all the tasks were done, behind as many lines as from
+-- Holds if all tasks were executed, after `from` lines.
 pub record DoesAll (st : State) (tasks : List Task) (new : Content) (had has : Option (List ℕ))
     (from k : ℕ) : Type 0 where
   pub refines : Refines new (state_after st tasks)
   pub sent : AreSent had has (lines_of st tasks)
   pub count : k ≡ from + length tasks
 
--- the first of them were done, and no more
+-- Holds if only the first tasks were executed.
 pub record DoesFirst (st : State) (tasks : List Task) (new : Content) (had has : Option (List ℕ))
     (from k : ℕ) : Type 0 where
   pub first : List Task
@@ -40,7 +40,8 @@ pub record DoesFirst (st : State) (tasks : List Task) (new : Content) (had has :
   pub all : tasks ≡ first ++ others
   pub done : DoesAll st first new had has from k
 
--- the first of them were done, and one more, of whose line a front was written
+-- Holds if the first tasks and one more were executed, and a prefix of the last one's line was
+-- written.
 pub record BreaksAt (st : State) (tasks : List Task) (new : Content) (had has : Option (List ℕ))
     (from k : ℕ) : Type 0 where
   pub first : List Task
@@ -63,7 +64,7 @@ FailsIn BadHeader st tasks new had has from k = ⊥
 FailsIn BadFile st tasks new had has from k = ⊥
 FailsIn UnknownCarrier st tasks new had has from k = ⊥
 
--- a run from the state st on, behind as many lines as from, came to this result
+-- Holds if a run from the state `st`, after `from` lines, has this result.
 abbrev pub RunsTo : State → List Task → Content → (had has : Option (List ℕ)) → (from : ℕ)
     → Result ℕ BulkFault → Type 0
 RunsTo st tasks new had has from (Ok k) = DoesAll st tasks new had has from k
@@ -72,14 +73,14 @@ RunsTo st tasks new had has from (Err fault) =
 
 -- ---- the rows of a file
 
--- all rows were run, from the state st on
+-- Holds if all rows were run from the state `st`.
 pub record RunsAll (st : State) (rows : List Row) (new : Content) (had has : Option (List ℕ))
     (k : ℕ) : Type 0 where
   pub requests : List (Option BulkRequest)
   pub read : AreRead rows requests
   pub done : DoesAll st (tasks_from 1 requests) new had has 0 k
 
--- the first of the rows were run, the last of these not to its end, and no more of the file
+-- Holds if only the first rows were run, the last of them perhaps in part.
 pub record RunsFirst (kind : FaultKind) (st : State) (rows : List Row) (new : Content)
     (had has : Option (List ℕ)) (k : ℕ) : Type 0 where
   pub first : List Row
@@ -94,14 +95,13 @@ abbrev pub RunsRows : State → List Row → Content → (had has : Option (List
 RunsRows st rows new had has (Ok k) = RunsAll st rows new had has k
 RunsRows st rows new had has (Err fault) = RunsFirst fault.kind st rows new had has fault.rows
 
--- the content stands for a state that some of the machine's inputs lead to from st
+-- Holds if the content refines a state that the machine can reach from `st`.
 abbrev pub RefinesReachable : State → Content → Type 0
 RefinesReachable st new = (inputs : List Input) × Refines new (machine_after st inputs)
 
 -- ---- a file
 
--- the report of a file's rows behind its header: the report's own header, and then the lines; or
--- the writer failed in that header
+-- Holds if the writer failed in the report's header.
 pub record IsHeaderBroken (st : State) (new : Content) (had has : Option (List ℕ))
     (fault : BulkFault) : Type 0 where
   pub kind : fault.kind ≡ Write
@@ -122,12 +122,12 @@ Reports st rows new had has result =
     × RunsRows st rows new behind has result)
     ⊎ BreaksHeader st new had has result
 
--- these are no rows of a bulk file: there is none, or the first is not the header
+-- Holds if the rows do not begin with the header of a bulk file.
 abbrev pub LacksHeader : List Row → Type 0
 LacksHeader rows = (others : List Row) → rows ≢ header ∷ others
 
--- nothing was run and nothing written: the file has no such header, or its first row could not be
--- read
+-- Holds if nothing was run or written, because the header is missing or the first row could not be
+-- read.
 pub record RunsNothing (st : State) (bytes : List ℕ) (new : Content) (had has : Option (List ℕ))
     (fault : BulkFault) : Type 0 where
   pub rows : fault.rows ≡ 0
@@ -141,7 +141,7 @@ abbrev pub StopsFirst : State → (bytes : List ℕ) → Content → (had has : 
 StopsFirst st bytes new had has (Ok k) = ⊥
 StopsFirst st bytes new had has (Err fault) = RunsNothing st bytes new had has fault
 
--- the file of these bytes, from the state st on
+-- Holds if the run of a file of these bytes from the state `st` has this result.
 abbrev pub RunsFile : State → (bytes : List ℕ) → Content → (had has : Option (List ℕ))
     → Result ℕ BulkFault → Type 0
 RunsFile st bytes new had has result =

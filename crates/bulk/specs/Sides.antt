@@ -1,4 +1,4 @@
--- What is known of each subject on the three sides of an audit, and what is found of it by that.
+-- The three sides of an audit for each subject, and the finding by them.
 use Rattle.std.specs.Prelude.{Bool, true, false, List, [], ◌∷◌, Option, Some, None, option_map, unwrap_or, if◌then◌else◌}
 use Rattle.std.specs.BTreeMap.{BTreeMap, get}
 use Rattle.std.specs.Ordering.{nat_cmp, on}
@@ -18,20 +18,20 @@ no_sides = record { in_force = None; copied = None; waits = false }
 abbrev pub sides_at : BTreeMap Subject Sides → Subject → Sides
 sides_at all s = unwrap_or (get (on key_of nat_cmp) all s) no_sides
 
--- where these rows route a subject, or what was before: a later row counts
+-- The routing of a subject in these rows, the last one counting, or else the one before.
 abbrev pub routed_after : List RoutedRow → Subject → Option Routing → Option Routing
 routed_after [] s before = before
 routed_after (r ∷ rs) s before =
     routed_after rs s (if subject_eq (subject_of r.subject) (subject_of s) then Some r.routing
     else before)
 
--- whether a subject is among these, or waited before
+-- Whether a subject is among these, or had a pending download before.
 abbrev pub waits_after : List Subject → Subject → Bool → Bool
 waits_after [] s before = before
 waits_after (t ∷ ts) s before = waits_after ts s (if subject_eq (subject_of t) (subject_of s)
     then true else before)
 
--- what is found of a subject by its sides
+-- The finding on a subject by its sides.
 abbrev pub found_of : Sides → Option Finding
 found_of sides =
     finding_of sides.waits (option_map routing_of sides.in_force)
@@ -41,7 +41,7 @@ abbrev pub with_found : Subject → Option Finding → List SubjectFinding → L
 with_found s None findings = findings
 with_found s (Some finding) findings = record { subject = s; finding = finding } ∷ findings
 
--- what is found of each of these subjects
+-- The findings on these subjects.
 abbrev pub found_in : List (Subject × Sides) → List SubjectFinding
 found_in [] = []
 found_in (e ∷ es) = with_found e.0 (found_of e.1) (found_in es)

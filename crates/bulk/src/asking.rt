@@ -1,4 +1,4 @@
-//! What is asked of a register.
+//! Asks the register what bulk files, exports and audits need.
 ghost use Rattle.std.specs.Prelude.{◌≡◌, ◌⊎◌, true, false, IfOk, IfErr, Err, map};
 ghost use Rattle.delivery.specs.Mirrors.{in_force_of};
 ghost use Rattle.model.specs.declared.refusal.Refusal.TheVariants.{Storage, UnknownCarrier};
@@ -21,10 +21,10 @@ use requests::{Command, Ids};
 use settle::Store;
 use version::{Create, VersionCommand};
 
-/// What no version has as its id.
+/// The id that no version has.
 const NO_ID: u64 = 0;
 
-// What failed, where a call that the machine never refuses was not answered.
+// Returns the fault of a call that the machine never refuses.
 fn kind_of(refusal: Refusal) -> FaultKind
     ensures storage { result ≡ FaultKind.Storage → refusal ≡ Storage }
     ensures short { IsShort result }
@@ -35,7 +35,7 @@ fn kind_of(refusal: Refusal) -> FaultKind
     }
 }
 
-/// Everything in force, by subject.
+/// Returns everything in force, ordered by subject.
 pub fn rows_in_force<S: Store>(register: &mut Register<S>) -> Result<Vec<RoutedRow>, FaultKind>
     ensures rows { IfOk result (λ rows. S.IsUsable register.new.store → (st : State)
         → Refines (S.content register.old.store) st
@@ -54,7 +54,7 @@ pub fn rows_in_force<S: Store>(register: &mut Register<S>) -> Result<Vec<RoutedR
     }
 }
 
-// What failed, or that the carrier is not registered.
+// Returns the fault of a call that the machine refuses only for an unknown carrier.
 fn kind_for(refusal: Refusal) -> FaultKind
     ensures storage { result ≡ FaultKind.Storage → refusal ≡ Storage }
     ensures unknown { result ≡ FaultKind.UnknownCarrier → refusal ≡ UnknownCarrier }
@@ -66,8 +66,11 @@ fn kind_for(refusal: Refusal) -> FaultKind
     }
 }
 
-/// The subjects of the downloads that wait for a carrier, each once, by subject. Fails with
-/// `UnknownCarrier` where the carrier is not registered.
+/// Returns the subjects with downloads pending for `carrier`, ascending, without duplicates.
+///
+/// # Errors
+///
+/// `UnknownCarrier` if the carrier is not registered; `Storage` and `NoMemory`.
 pub fn subjects_waiting<S: Store>(
     register: &mut Register<S>,
     carrier: Spid,
@@ -93,7 +96,7 @@ pub fn subjects_waiting<S: Store>(
     }
 }
 
-// The ids of a number's versions.
+// Returns the ids of a number's versions.
 fn ids_of<S: Store>(register: &mut Register<S>, tn: Tn) -> Result<Ids, FaultKind>
     ensures ids { IfOk result (λ ids. S.IsUsable register.new.store → (st : State)
         → Refines (S.content register.old.store) st
@@ -112,7 +115,7 @@ fn ids_of<S: Store>(register: &mut Register<S>, tn: Tn) -> Result<Ids, FaultKind
     }
 }
 
-// The id that a command takes of those of its number's versions.
+// Returns the id of the version that a command applies to.
 fn id_taken(command: VersionCommand, ids: &Ids) -> u64
     ensures { result ≡ id_taken command ids.now.in_force ids.now.opened }
 {
@@ -123,8 +126,8 @@ fn id_taken(command: VersionCommand, ids: &Ids) -> u64
     taken.unwrap_or(NO_ID)
 }
 
-/// What is wanted of a number, as a command. One on a version takes the number's open version, else
-/// its version in force; a disconnect and a modify take the one in force.
+/// Returns the command for an operation on a number. A command on a version applies to the open
+/// version, or else to the one in force; a disconnect and a modify apply to the one in force.
 pub fn command_for<S: Store>(
     register: &mut Register<S>,
     tn: Tn,

@@ -1,4 +1,4 @@
-//! Audits.
+//! Audits: compares a carrier's copy with the register.
 ghost use Rattle.std.specs.Prelude.{◌≡◌, ◌≢◌, ◌⊎◌, Err, IfErr, IfOk, IfSome, false, map, true};
 ghost use Rattle.numbers.specs.Abstraction.{subject_of};
 ghost use Rattle.delivery.specs.Mirrors.{in_force_of};
@@ -28,14 +28,14 @@ use std::io::{Read, Write};
 /// The first line of an audit.
 const HEADER: &str = "subject,finding";
 
-/// What the register has beside a carrier's copy.
+/// The register's side of an audit.
 #[derive(Drop)]
 struct Held {
     in_force: Vec<RoutedRow>,
     waiting: Vec<Subject>,
 }
 
-// What the register has for a carrier.
+// Reads the register's side of an audit for a carrier.
 fn held_for<S: Store>(register: &mut Register<S>, carrier: Spid) -> Result<Held, FaultKind>
     ensures held { IfOk result (λ held. S.IsUsable register.new.store → (st : State)
         → Refines (S.content register.old.store) st
@@ -63,7 +63,7 @@ fn held_for<S: Store>(register: &mut Register<S>, carrier: Spid) -> Result<Held,
     }
 }
 
-// What is found, by subject, of a copy with these entries.
+// Returns the findings on a copy with these entries, ordered by subject.
 fn compare(
     alloc: Global,
     held: &Held,
@@ -94,7 +94,7 @@ fn compare(
     }
 }
 
-// What is found of the copy that a reader has.
+// Returns the findings on the copy that `reader` supplies.
 fn compare_file<R: Read + Drop>(
     alloc: Global,
     held: &Held,
@@ -112,21 +112,18 @@ fn compare_file<R: Read + Drop>(
     }
 }
 
-/// Compares a carrier's own copy, a file in the form of an export, with the register: writes the
-/// header `subject,finding`, and then a row for each subject of which something is told, by
-/// subject. `waiting` is told of a subject of which a download waits for the carrier; of others
-/// `missing` where it is in force alone, `extra` where it is in the copy alone, and `different`
-/// where it is routed otherwise. Says how many rows were written. Each row is flushed before the
-/// next.
+/// Compares a carrier's copy, a file in the format of an export, with the register. Writes the
+/// header `subject,finding`, then a row for each finding, ordered by subject, and returns the
+/// number of rows. Flushes each row before the next. Settles every subject first, and keeps the
+/// copy and the register's side in memory.
 ///
-/// Fails with `UnknownCarrier` where the carrier is not registered, which is judged before the file
-/// is read; with `BadHeader` where the file does not begin with an export's header; with `BadFile`
-/// where a row is none of an export's, or a subject stands twice; with `Storage`, `NoMemory` or
-/// `Read`: nothing is written then. Fails with `Write`, and the number of rows that were flushed
-/// whole.
+/// # Errors
 ///
-/// First it settles every subject. The rows stand for the state that they stood for. It holds the
-/// copy, what is in force and what waits at once.
+/// Each has the number of rows flushed in full; only `Write` has written anything.
+/// - `UnknownCarrier` if the carrier is not registered, judged before the file is read.
+/// - `BadHeader` if the first row is not an export's header; `BadFile` if a row is not an export's,
+///   or a subject occurs twice.
+/// - `Read` or `Write` if the reader or the writer fails; `Storage`, `NoMemory`.
 pub fn audit<S: Store, R: Read + Drop, W: Write>(
     alloc: Global,
     register: &mut Register<S>,

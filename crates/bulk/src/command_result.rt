@@ -1,7 +1,7 @@
-//! What a command answered.
+//! The result of a command in a bulk file.
 use model::Refusal;
 
-/// What a command answered: the id of the version that it was shown, or why it was refused.
+/// The result of a command: the id of the version shown, or the refusal.
 #[derive(Clone, Copy, Debug, PartialEq, Eq)]
 pub enum CommandResult {
     Version(u64),

@@ -1,4 +1,4 @@
-//! A carrier's own copy, as a file in the form of an export.
+//! Reads a carrier's copy: a file in the format of an export.
 ghost use Rattle.std.specs.Prelude.{◌≡◌, ◌≢◌, ◌⊎◌, ◌↔◌, ◌∷◌, [], ℕ, IsTrue, IfSome, IfNone, IfOk, IfErr, List, OnOk, length};
 ghost use Rattle.csv.specs.Records.{fields_of};
 ghost use Rattle.numbers.specs.Digits.{IsBlock, IsTn};
@@ -19,7 +19,7 @@ use numbers::{BlockId, Routing, Subject};
 use std::alloc::Global;
 use std::io::Read;
 
-/// How many fields a row has.
+/// The number of fields of a row.
 const FIELD_COUNT: usize = 3;
 
 /// The fields of a row.
@@ -36,7 +36,7 @@ fn has_entry_count(row: &ByteRecord) -> bool
     row.len() == FIELD_COUNT
 }
 
-// The fields of a row that has three.
+// Returns the fields of a row with three fields.
 #[tactic(auto, using(crate::proofs::FieldLemmas::missing_field))]
 fn entry_fields(row: &ByteRecord) -> Option<EntryFields<'_>>
     ensures some { IfSome result (λ fields.
@@ -71,7 +71,7 @@ fn subject_in(field: &[u8]) -> Option<Subject>
     }
 }
 
-// Where a row says that a subject is routed, if it does.
+// Returns the entry that a row encodes, if it is one.
 fn entry_in(row: &ByteRecord) -> Option<RoutedRow>
     ensures some { IfSome result (IsEntry (fields_of row.now)) }
     ensures none { IfNone result (IsNoEntry (fields_of row.now)) }
@@ -94,7 +94,7 @@ fn are_copy_names(fields: &EntryFields) -> bool
     is_text(fields.subject, "subject") && is_text(fields.lrn, "lrn") && is_text(fields.cic, "cic")
 }
 
-/// Whether a row is the header of a copy.
+/// Returns whether a row is the header of a copy.
 pub fn is_copy_header(row: &ByteRecord) -> bool
     ensures { IsTrue result ↔ (fields_of row.now ≡ copy_header) }
 {
@@ -124,10 +124,10 @@ fn read_copy_header<R: Read>(alloc: Global, reader: &mut Reader<R>) -> Result<()
     }
 }
 
-// How many rows a copy may have.
+// The most rows of a copy.
 const MOST_ROWS: u64 = 1 << 50;
 
-// Reads the rows behind the header.
+// Reads the rows after the header.
 fn read_entries<R: Read>(alloc: Global, reader: &mut Reader<R>) -> Result<Vec<RoutedRow>, FaultKind>
     requires { IsPlain reader.old }
     ensures entries { IfOk result (λ entries. (rows : List Row)
@@ -154,11 +154,14 @@ fn read_entries<R: Read>(alloc: Global, reader: &mut Reader<R>) -> Result<Vec<Ro
     Err(FaultKind::NoMemory)
 }
 
-/// Reads a copy: the header `subject,lrn,cic`, and then where each subject is routed, in any order.
-/// Whether a subject stands twice is not judged here.
+/// Reads a copy: the header `subject,lrn,cic`, then the routing of each subject, in any order. Does
+/// not detect duplicate subjects.
 ///
-/// Fails with `BadHeader` where the file does not begin so, with `BadFile` where a row is
-/// otherwise, and with `Read` and `NoMemory`.
+/// # Errors
+///
+/// - `BadHeader` if the first row is not the header.
+/// - `BadFile` if another row is not an entry.
+/// - `Read` if the reader fails, `NoMemory` if an allocation fails.
 pub fn read_copy<R: Read>(
     alloc: Global,
     reader: &mut Reader<R>,

@@ -1,4 +1,4 @@
-//! Texts of a fixed number of decimal digits, four at a time.
+//! Writes numbers with a fixed number of decimal digits, four at a time.
 ghost use Rattle.std.specs.Prelude.{◌≡◌, ◌+◌, ◌/◌, ◌%◌, ◌<◌, ◌≤◌, ◌++◌, ◌∷◌, [], string_bytes, string_len, string_capacity};
 ghost use Rattle.numbers.specs.Texts.{digits_of};
 
@@ -10,8 +10,7 @@ static PAIRS: [u8; 200] = *b"\
     6061626364656667686970717273747576777879\
     8081828384858687888990919293949596979899";
 
-// The two digits of a number below a hundred. They are looked up, as two divisions by ten would
-// take longer.
+// Returns the two digits of a number below a hundred. A lookup is faster than two divisions by ten.
 fn pair(number: u64) -> (u8, u8)
     requires { number < 100 }
     ensures { result ≡ (48 + number / 10, 48 + number % 10) }
@@ -20,7 +19,7 @@ fn pair(number: u64) -> (u8, u8)
     (PAIRS[at], PAIRS[at + 1])
 }
 
-// The last so many decimal digits of a number. Four at a time take the fewest divisions.
+// Returns the last `N` decimal digits of a number. Four at a time need the fewest divisions.
 fn digits<const N: usize>(number: u64) -> [u8; N]
     ensures { result ≡ digits_of N number }
 {
@@ -51,8 +50,8 @@ fn digits<const N: usize>(number: u64) -> [u8; N]
     digits
 }
 
-/// Appends the last so many decimal digits of a number. It stands in the place of its call, since a
-/// row of an export takes an eighth less so.
+/// Appends the last `N` decimal digits of a number. Inlined, so that a row of an export takes an
+/// eighth less time.
 #[inline(always)]
 pub fn put_digits<const N: usize>(out: &mut String, number: u64)
     requires { string_len out.old + N ≤ string_capacity out.old }
@@ -61,7 +60,7 @@ pub fn put_digits<const N: usize>(out: &mut String, number: u64)
     ensures capacity { string_capacity out.old ≤ string_capacity out.new }
 {
     let digits = digits::<N>(number);
-    // Digits are text.
+    // Digits are ASCII.
     match out.push_str(unsafe { str::from_utf8_unchecked(&digits) }) {
         Ok(()) => {}
         Err(_) => unreachable!(),

@@ -1,4 +1,4 @@
-//! Exports.
+//! Exports: writes everything in force.
 ghost use Rattle.std.specs.Prelude.{◌≡◌};
 ghost use Rattle.model.specs.State.{State};
 ghost use Rattle.register.specs.Refinement.{Refines};
@@ -15,16 +15,18 @@ use settle::Store;
 use std::alloc::Global;
 use std::io::Write;
 
-/// The first row.
+/// The first line of an export.
 const HEADER: &str = "subject,lrn,cic";
 
-/// Writes everything in force: the header `subject,lrn,cic`, and then a row for each subject, by
-/// subject. Says how many rows were written. Each row is flushed before the next.
+/// Writes everything in force: the header `subject,lrn,cic`, then a row for each subject, ordered
+/// by subject. Returns the number of rows. Flushes each row before the next. Settles every subject
+/// first.
 ///
-/// Fails with `Storage`, `NoMemory` or `Write`, and the number of rows that were flushed whole. The
-/// first two come before anything is written.
+/// # Errors
 ///
-/// First it settles every subject. The rows stand for the state that they stood for.
+/// Each has the number of rows flushed in full.
+/// - `Storage` or `NoMemory`, before anything is written.
+/// - `Write` if the writer fails.
 pub fn export<S: Store, W: Write>(
     alloc: Global,
     register: &mut Register<S>,

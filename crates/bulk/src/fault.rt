@@ -1,19 +1,19 @@
-//! Why a file was not read to its end, or was not written to it.
+//! The faults that end the reading or writing of a file early.
 ghost use Rattle.std.specs.Prelude.{◌≡◌};
 ghost use Rattle.bulk.specs.Faults.{kind_name};
 
-/// What failed.
+/// The kind of a fault.
 #[derive(Clone, Copy, Debug, PartialEq, Eq)]
 pub enum FaultKind {
-    /// The file's first row is not the header of its form.
+    /// The first row is not the header of the file's format.
     BadHeader,
-    /// A row of a copy is none of an export's, or its subject stands there twice.
+    /// A row of a copy is not a row of an export, or its subject occurs twice.
     BadFile,
     /// The carrier is not registered.
     UnknownCarrier,
     /// The store's device failed.
     Storage,
-    /// There was no memory.
+    /// An allocation failed.
     NoMemory,
     /// The reader failed.
     Read,
@@ -22,7 +22,7 @@ pub enum FaultKind {
 }
 
 impl FaultKind {
-    /// The name that a program tells.
+    /// Returns the name that a program reports.
     pub fn name(self) -> &'static str
         ensures { result.now ≡ kind_name self }
     {
@@ -38,7 +38,7 @@ impl FaultKind {
     }
 }
 
-/// What failed, and how many rows had been flushed whole before, without the header.
+/// What failed, and how many rows had been flushed in full, without the header.
 #[derive(Clone, Copy, Debug, PartialEq, Eq)]
 pub struct BulkFault {
     pub kind: FaultKind,
@@ -46,7 +46,7 @@ pub struct BulkFault {
 }
 
 impl BulkFault {
-    /// A fault before the first row.
+    /// Creates a fault before the first row.
     pub fn at_start(kind: FaultKind) -> BulkFault
         ensures kind { result.kind ≡ kind }
         ensures rows { result.rows ≡ 0 }

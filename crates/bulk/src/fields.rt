@@ -1,4 +1,4 @@
-//! What the fields of a row say.
+//! Parses the fields of a bulk file's rows.
 ghost use Rattle.std.specs.Prelude.{◌≡◌, ◌≢◌, IsUtf8, ℕ, List, IfSome, IfNone, ◌∷◌, [], length};
 ghost use Rattle.std.specs.Prelude.{Bool, Option, find, IsTrue, ◌↔◌};
 ghost use Rattle.std.specs.Prelude.{◌++◌, ℕ};
@@ -24,7 +24,7 @@ use csv::ByteRecord;
 use numbers::{Cic, Lrn, Minute, Routing, Spid, Tn};
 use version::{Creator, VersionCommand};
 
-/// How many fields a row has.
+/// The number of fields of a row.
 const FIELD_COUNT: usize = 9;
 
 /// The nine fields of a row.
@@ -48,7 +48,7 @@ fn has_field_count(row: &ByteRecord) -> bool
 }
 
 impl Fields<'_> {
-    // The fields of a row that has nine.
+    // Returns the fields of a row with nine fields.
     #[tactic(auto, using(crate::proofs::FieldLemmas::missing_field))]
     fn of(row: &ByteRecord) -> Option<Fields<'_>>
         ensures some { IfSome result (λ fields. fields_of row.now ≡ all_fields fields) }
@@ -71,7 +71,7 @@ impl Fields<'_> {
     }
 }
 
-/// The field as a text.
+/// Returns the field as a text, if it is UTF-8.
 pub fn text_in(field: &[u8]) -> Option<&str>
     ensures some { IfSome result (λ text. text.now ≡ field.now) }
     ensures none { IfNone result (¬ (IsUtf8 field.now)) }
@@ -86,7 +86,7 @@ fn spid_in(field: &[u8]) -> Option<Spid>
     Spid::read(text_in(field)?)
 }
 
-/// The telephone number that a field writes.
+/// Returns the telephone number in a field.
 pub fn tn_in(field: &[u8]) -> Option<Tn>
     ensures some { IfSome result (λ tn. field.now ≡ tn_text tn.number) }
     ensures none { IfNone result ((n : ℕ) → IsTn n → field.now ≢ tn_text n) }
@@ -94,7 +94,7 @@ pub fn tn_in(field: &[u8]) -> Option<Tn>
     Tn::read(text_in(field)?)
 }
 
-/// The routing number that a field writes.
+/// Returns the LRN in a field.
 pub fn lrn_in(field: &[u8]) -> Option<Lrn>
     ensures some { IfSome result (λ lrn. field.now ≡ lrn_text lrn.number) }
     ensures none { IfNone result ((n : ℕ) → IsLrn n → field.now ≢ lrn_text n) }
@@ -138,7 +138,7 @@ fn action_in(field: &[u8]) -> Option<ActionName>
     first_named(field)
 }
 
-// The parts of a range: what stands before a hyphen behind ten characters, and what behind it.
+// Splits a range at the hyphen after ten characters. Returns the parts before and after it.
 fn cut(field: &[u8]) -> Option<(&[u8], &[u8])>
     ensures some { IfSome result (λ parts. (length parts.0.now ≡ 10)
         × (field.now ≡ parts.0.now ++ 45 ∷ parts.1.now)) }
@@ -185,7 +185,7 @@ fn flag_in(field: &[u8]) -> Option<bool>
     }
 }
 
-/// The carrier code that a field writes, or none where it is empty.
+/// Returns the carrier identification code in a field, or `None` inside if the field is empty.
 pub fn optional_cic_in(field: &[u8]) -> Option<Option<Cic>>
     ensures some { IfSome result (λ cic. field.now ≡ optional_cic cic) }
     ensures none { IfNone result ((cic : Option CicImpl) → field.now ≢ optional_cic cic) }
@@ -241,7 +241,7 @@ fn version_command_in(action: ActionName, due: &[u8]) -> Option<VersionCommand>
     }
 }
 
-// A create by the old provider, of which the fields lrn and cic are empty.
+// Returns the old provider's part of a create. The fields lrn and cic must be empty.
 fn authorization_in(fields: &Fields) -> Option<Creator>
     ensures some { IfSome result (λ creator. (create_action creator ≡ OldProviderCreate)
         × (last_fields fields.now ≡ create_fields creator)) }
@@ -257,7 +257,7 @@ fn authorization_in(fields: &Fields) -> Option<Creator>
     })
 }
 
-// A create by the new provider, of which the field flag is empty.
+// Returns the new provider's part of a create. The field flag must be empty.
 fn routing_in(fields: &Fields) -> Option<Creator>
     ensures some { IfSome result (λ creator. (create_action creator ≡ NewProviderCreate)
         × (last_fields fields.now ≡ create_fields creator)) }
@@ -275,7 +275,7 @@ fn routing_in(fields: &Fields) -> Option<Creator>
     Some(Creator::NewProvider { routing })
 }
 
-// A create, by what its last fields said.
+// Returns the create with the part of its last fields.
 fn create_in(fields: &Fields, creator: Creator) -> Option<Operation>
     requires { last_fields fields.now ≡ create_fields creator }
     ensures some { IfSome result (λ operation. (action_of operation ≡ create_action creator)
@@ -292,7 +292,7 @@ fn create_in(fields: &Fields, creator: Creator) -> Option<Operation>
     })
 }
 
-// Whether all fields behind the subject but the due minute are empty.
+// Returns whether all fields after the subject are empty, except perhaps due.
 fn has_due_alone(fields: &Fields) -> bool
     ensures { IsTrue result
         ↔ (six_fields fields.now ≡ [] ∷ [] ∷ fields.now.due.now ∷ [] ∷ [] ∷ [] ∷ []) }
@@ -304,7 +304,7 @@ fn has_due_alone(fields: &Fields) -> bool
         && fields.flag.is_empty()
 }
 
-// Whether all fields behind the subject but lrn and cic are empty.
+// Returns whether all fields after the subject are empty, except perhaps lrn and cic.
 fn has_routing_alone(fields: &Fields) -> bool
     ensures { IsTrue result
         ↔ (six_fields fields.now ≡ [] ∷ [] ∷ [] ∷ fields.now.lrn.now ∷ fields.now.cic.now ∷ [] ∷
@@ -316,7 +316,7 @@ fn has_routing_alone(fields: &Fields) -> bool
         && fields.flag.is_empty()
 }
 
-// A modify, of which the fields lrn and cic alone are not empty.
+// Returns a modify. Only the fields lrn and cic may have content.
 fn modify_in(fields: &Fields) -> Option<Operation>
     ensures some { IfSome result (λ operation. (action_of operation ≡ ModifyRouting)
         × (six_fields fields.now ≡ operation_fields operation)) }
@@ -363,9 +363,11 @@ fn operation_in(fields: &Fields, action: ActionName) -> Option<Operation>
     }
 }
 
-/// The order that a row says, or nothing where it is a bad one: it has another number of fields,
-/// its action is none of the ten, its subject is neither a number nor a range of at most a
-/// thousand of one code, a field that has to be filled is not, or one that has to be empty is.
+/// Parses a row as a request. Returns `None` for a bad row, which has one of these:
+/// - another number of fields;
+/// - an unknown action;
+/// - a subject that is neither a number nor a range of at most a thousand numbers of one code;
+/// - another field that is invalid, or empty or filled against the rules of the action.
 pub fn read_request(row: &ByteRecord) -> Option<BulkRequest>
     ensures { ParsesRow (fields_of row.now) result }
 {
@@ -378,7 +380,7 @@ pub fn read_request(row: &ByteRecord) -> Option<BulkRequest>
     })
 }
 
-/// Whether a field is this text.
+/// Returns whether a field is this text.
 pub fn is_text(field: &[u8], text: &str) -> bool
     ensures { IsTrue result ↔ (field.now ≡ text.now) }
 {
@@ -400,7 +402,7 @@ fn are_names(fields: &Fields) -> bool
         && is_text(fields.flag, "flag")
 }
 
-/// Whether a row is the header of a bulk file.
+/// Returns whether a row is the header of a bulk file.
 pub fn is_header(row: &ByteRecord) -> bool
     ensures { IsTrue result ↔ (fields_of row.now ≡ header) }
 {

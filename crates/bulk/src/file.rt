@@ -1,4 +1,4 @@
-//! Bulk files.
+//! Runs bulk files.
 ghost use Rattle.std.specs.Prelude.{◌≡◌, ◌⊎◌, ◌∷◌, List, IfSome, IfErr, OnOk};
 ghost use Rattle.model.specs.State.{State};
 ghost use Rattle.register.specs.Refinement.{Refines};
@@ -41,7 +41,7 @@ fn read_header<R: Read>(alloc: Global, reader: &mut Reader<R>) -> Result<(), Fau
     }
 }
 
-// Writes the report of the rows that a reader has behind the header.
+// Runs the rows after the header, and writes the report.
 fn report_rows<S: Store, R: Read, W: Write>(
     alloc: Global,
     register: &mut Register<S>,
@@ -70,21 +70,20 @@ fn report_rows<S: Store, R: Read, W: Write>(
     }
 }
 
-/// Runs a bulk file, and writes its report: the header `row,subject,result,id`, and then a line for
-/// each command. Says how many lines there were, without the header.
+/// Runs a bulk file and writes its report: the header `row,subject,result,id`, then a line for each
+/// command. Returns the number of lines after the header.
 ///
-/// A file begins with the header `caller,action,subject,old,new,due,lrn,cic,flag`. Each row behind
-/// it, counted from 1, is an order of one of the ten actions for a number or for each number of a
-/// range, by rising number. Its line has the row's number, the telephone number, `ok` or the
-/// refusal's name, and after `ok` the version's id. A row that is no order is told as `bad_row`,
-/// and the run goes on.
+/// A file begins with the header `caller,action,subject,old,new,due,lrn,cic,flag`. Each row after
+/// it, counted from 1, requests one of ten actions for a number, or for each number of a range,
+/// ascending. A line has the row, the telephone number, `ok` or the refusal's name, and after `ok`
+/// the version's id. A row that is no request is reported as `bad_row`. Each line is flushed before
+/// the next command; memory does not grow with the number of rows.
 ///
-/// Each line is flushed before the next command is made, and the room that a run takes does not
-/// grow with the number of rows.
+/// # Errors
 ///
-/// Fails with `BadHeader` where the file does not begin so: nothing was run then, and nothing
-/// written. Fails with `Storage`, `NoMemory`, `Read` or `Write`, and the number of lines that were
-/// flushed whole. The commands of those lines were made, and where the writer failed one more.
+/// - `BadHeader` if the file does not begin with the header. Nothing is executed or written.
+/// - `Storage`, `NoMemory`, `Read` or `Write`, with the number of lines flushed in full. Their
+///   commands were executed, and if the writer failed one more.
 pub fn run_file<S: Store, R: Read + Drop, W: Write>(
     alloc: Global,
     register: &mut Register<S>,

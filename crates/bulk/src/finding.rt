@@ -1,23 +1,23 @@
-//! What an audit tells.
+//! The findings of an audit.
 ghost use Rattle.std.specs.Prelude.{◌≡◌, ◌≤◌, length};
 ghost use Rattle.bulk.specs.Findings.{finding_name};
 
 use numbers::Subject;
 
-/// What an audit tells of a subject.
+/// What an audit finds of a subject.
 #[derive(Clone, Copy, Debug, PartialEq, Eq)]
 pub enum Finding {
-    /// A download of it waits for the carrier, so that its copy may differ.
+    /// A download of the subject is pending for the carrier, so its copy may differ.
     Waiting,
-    /// It is in force, and not in the copy.
+    /// The subject is in force, and not in the copy.
     Missing,
-    /// It is in the copy, and not in force.
+    /// The subject is in the copy, and not in force.
     Extra,
-    /// It is routed elsewhere by the copy.
+    /// The copy routes the subject differently.
     Different,
 }
 
-/// A subject of which something is told.
+/// One finding of an audit.
 #[derive(Clone, Copy, Debug, PartialEq, Eq)]
 pub struct SubjectFinding {
     pub subject: Subject,
@@ -25,7 +25,7 @@ pub struct SubjectFinding {
 }
 
 impl Finding {
-    /// The name in an audit's file.
+    /// Returns the name in an audit's file.
     pub fn name(self) -> &'static str
         ensures name { result.now ≡ finding_name self }
         ensures len { length result.now ≤ 9 }

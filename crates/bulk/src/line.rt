@@ -1,4 +1,4 @@
-//! Lines of files, written into room that was taken before.
+//! Writes lines of files into reserved memory.
 ghost use Rattle.std.specs.Prelude.{◌≡◌, ◌+◌, ◌≤◌, ◌++◌, ◌∷◌, [], string_bytes, string_len, string_capacity, IfErr, OnOk, OnErr, Some, length, codes, decimal};
 ghost use Rattle.bulk.specs.Making.{told_line};
 ghost use Rattle.bulk.specs.Report.{report_line};
@@ -22,17 +22,17 @@ use numbers::{Routing, Subject, Tn};
 use std::alloc::{AllocError, Global};
 use std::io::Write;
 
-/// The most that a line takes.
+/// The most bytes of a line.
 pub const LINE_CAPACITY: usize = 128;
 
-/// A line under way.
+/// A line being written.
 #[derive(Drop)]
 pub struct LineBuffer {
     pub text: String,
     pub ghost room: { 128 ≤ string_capacity text },
 }
 
-// In the place of its call too, as each row has one.
+// Inlined too, because each row has a subject.
 #[inline(always)]
 fn put_subject(out: &mut String, subject: Subject)
     requires { string_len out.old + 10 ≤ string_capacity out.old }
@@ -62,14 +62,18 @@ fn put_routing(out: &mut String, routing: &Routing)
 }
 
 impl LineBuffer {
-    /// Takes the room for each line that there may be, or answers want of memory.
+    /// Reserves memory for the longest line.
+    ///
+    /// # Errors
+    ///
+    /// `AllocError` if the allocation fails.
     pub fn new(alloc: Global) -> Result<LineBuffer, AllocError> {
         Ok(LineBuffer {
             text: String::with_capacity(alloc, LINE_CAPACITY)?,
         })
     }
 
-    /// Writes a first line.
+    /// Writes the first line of a file.
     pub fn set_first(&mut self, header: &str)
         requires { length header.now ≤ 127 }
         ensures { string_bytes self.new.text ≡ header.now ++ 10 ∷ [] }
@@ -101,7 +105,7 @@ impl LineBuffer {
         put(&mut self.text, "\n");
     }
 
-    // Writes a row's number, a comma and its subject.
+    // Writes a row's number and a comma.
     fn set_row(&mut self, row: u64)
         ensures bytes { string_bytes self.new.text ≡ decimal row ++ 44 ∷ [] }
         ensures len { string_len self.new.text ≤ 21 }
@@ -111,7 +115,7 @@ impl LineBuffer {
         put(&mut self.text, ",");
     }
 
-    /// Writes the report's line of a bad row.
+    /// Writes the report's line for a bad row.
     pub fn set_bad(&mut self, row: u64)
         ensures { string_bytes self.new.text ≡ report_line row [] (codes "bad_row") [] }
     {
@@ -119,7 +123,7 @@ impl LineBuffer {
         put(&mut self.text, ",bad_row,\n");
     }
 
-    /// Writes the report's line of what was told of a number.
+    /// Writes the report's line for a command on a number.
     pub fn set_told(&mut self, row: u64, tn: Tn, told: CommandResult)
         ensures { string_bytes self.new.text ≡ told_line row tn.number told }
     {
@@ -139,7 +143,7 @@ impl LineBuffer {
         put(&mut self.text, "\n");
     }
 
-    /// Sends it to a writer, and flushes.
+    /// Sends the line to `writer`, and flushes.
     pub fn send<W: Write>(&self, writer: &mut W) -> Result<(), FaultKind>
         ensures ok { OnOk result
             (Appends (W.contents writer.old) (W.contents writer.new) (string_bytes self.now.text)) }

@@ -1,4 +1,4 @@
-//! Making the commands of a bulk file.
+//! Executes the commands of a bulk file.
 ghost use Rattle.std.specs.Prelude.{◌≡◌, true, false, nat_lt, IfOk, IfErr, OnOk, OnErr, Err, string_bytes};
 ghost use Rattle.model.specs.Machine.{Refused, out, next};
 ghost use Rattle.model.specs.History.{CommandRequest};
@@ -25,7 +25,7 @@ use register::Register;
 use requests::{Command, Reply};
 use settle::Store;
 
-// What a reply tells. That of a create or of a command on a version is a version.
+// Returns the result of a reply. The reply to a create or to a command on a version is a version.
 fn told_of(reply: Reply) -> Result<CommandResult, FaultKind>
     ensures told { IfOk result (λ told. IsResultOf told (reply_of reply)) }
     ensures other { OnErr result (¬ (IsSaid (reply_of reply))) }
@@ -37,7 +37,7 @@ fn told_of(reply: Reply) -> Result<CommandResult, FaultKind>
     }
 }
 
-// What a refusal tells, if it is one of the machine's.
+// Returns the result of a refusal, if it is one of the machine's.
 fn told_by(refusal: Refusal) -> Result<CommandResult, FaultKind>
     ensures told { IfOk result (λ told. (nat_lt (number_of refusal) 29 ≡ true)
         × IsResultOf told (Refused (number_of refusal))) }
@@ -52,7 +52,7 @@ fn told_by(refusal: Refusal) -> Result<CommandResult, FaultKind>
     }
 }
 
-// Carries out a create or a command on a version.
+// Executes a create or a command on a version.
 fn make_call<S: Store>(
     register: &mut Register<S>,
     caller: Spid,
@@ -80,7 +80,7 @@ fn make_call<S: Store>(
     }
 }
 
-// Makes what a caller wants of a number.
+// Executes an operation on a number.
 fn answer_for<S: Store>(
     register: &mut Register<S>,
     caller: Spid,
@@ -106,8 +106,8 @@ fn answer_for<S: Store>(
     }
 }
 
-/// Makes what a caller wants of a number, and writes the report's line of it. Where it answers an
-/// error, nothing was made.
+/// Executes an operation on a number, and writes the report's line for it. On an error, the state
+/// is unchanged.
 pub fn make<S: Store>(
     register: &mut Register<S>,
     line: &mut LineBuffer,

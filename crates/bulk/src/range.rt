@@ -4,7 +4,7 @@ ghost use Rattle.bulk.specs.Numbers.{AreNumbers};
 
 use numbers::Tn;
 
-/// How many numbers a row may name.
+/// The most numbers of a row.
 const MOST: u64 = 1000;
 
 /// At most a thousand numbers of one code, from the first to the last.
@@ -16,8 +16,8 @@ pub struct Numbers {
 }
 
 impl Numbers {
-    /// The numbers from the first to the last, or nothing where they are of two codes, the last is
-    /// below the first, or there are more than a thousand.
+    /// Creates the range from `first` to `last`. Returns `None` if they are of two codes, `last` is
+    /// below `first`, or there are more than a thousand numbers.
     pub fn new(first: Tn, last: Tn) -> Option<Numbers>
         ensures some { IfSome result (λ numbers. (numbers.first ≡ first) × (numbers.last ≡ last)) }
         ensures none { IfNone result (¬ (AreNumbers first.number last.number)) }
@@ -30,7 +30,7 @@ impl Numbers {
         }
     }
 
-    /// One of them.
+    /// Returns the telephone number with these digits.
     pub fn at(&self, number: u64) -> Tn
         requires from { self.now.first.number ≤ number }
         requires to { number ≤ self.now.last.number }

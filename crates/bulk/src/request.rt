@@ -1,4 +1,4 @@
-//! What a row of a bulk file asks.
+//! The requests of a bulk file's rows.
 ghost use Rattle.std.specs.Prelude.{◌≡◌};
 ghost use Rattle.bulk.specs.Requests.{action_name};
 
@@ -6,7 +6,7 @@ use crate::range::Numbers;
 use numbers::{Minute, Spid};
 use version::{Creator, VersionCommand};
 
-/// An action, by its name in the NPAC's interface.
+/// An action, by its name in the NPAC interface.
 #[derive(Clone, Copy, Debug, PartialEq, Eq)]
 pub enum ActionName {
     OldProviderCreate,
@@ -21,22 +21,22 @@ pub enum ActionName {
     ModifyRouting,
 }
 
-/// What is wanted of a number.
+/// What is done with a number.
 #[derive(Clone, Copy, Debug, PartialEq, Eq)]
 pub enum Operation {
-    /// A provider creates its port.
+    /// A create of a port by a provider.
     Create {
         old_provider: Spid,
         new_provider: Spid,
-        /// The minute from which the port may be activated.
+        /// The earliest minute of the port's activation.
         due: Minute,
         creator: Creator,
     },
-    /// A provider commands a version of it.
+    /// A provider's command on a version of the number.
     OnVersion(VersionCommand),
 }
 
-/// What a caller wants of each of some numbers.
+/// What a caller requests for each of some numbers.
 #[derive(Clone, Copy, Debug, PartialEq, Eq)]
 pub struct BulkRequest {
     pub caller: Spid,
@@ -45,7 +45,7 @@ pub struct BulkRequest {
 }
 
 impl ActionName {
-    /// All of them.
+    /// All actions.
     pub const ALL: [ActionName; 10] = [
         ActionName::OldProviderCreate,
         ActionName::NewProviderCreate,
@@ -59,7 +59,7 @@ impl ActionName {
         ActionName::ModifyRouting,
     ];
 
-    /// The name as a bulk file writes it.
+    /// Returns the name in a bulk file.
     #[tactic(auto, unfolding(crate::specs::Requests::action_name))]
     pub fn name(self) -> &'static str
         ensures { result.now ≡ action_name self }

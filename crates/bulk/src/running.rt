@@ -1,4 +1,4 @@
-//! Running the rows of a bulk file.
+//! Runs the rows of a bulk file.
 ghost use Rattle.std.specs.Prelude.{◌≡◌, List, ◌+◌, ◌<◌, ◌≤◌, ◌^◌, ⊤, [], ◌∷◌, Some, Option, IfOk, IfErr, OnErr, string_bytes};
 ghost use Rattle.std.specs.Io.KnownBytes.{Appends};
 ghost use Rattle.csv.specs.Records.{fields_of};
@@ -26,7 +26,7 @@ use settle::Store;
 use std::alloc::Global;
 use std::io::{Read, Write};
 
-// Sends a line behind so many, and says how many there are then.
+// Sends a line after `count` others. Returns the number of lines then.
 fn send_line<W: Write>(line: &LineBuffer, writer: &mut W, count: u64) -> Result<u64, BulkFault>
     requires { count + 1 < 2 ^ 64 }
     ensures { SendsOne (W.contents writer.old) (W.contents writer.new)
@@ -38,7 +38,7 @@ fn send_line<W: Write>(line: &LineBuffer, writer: &mut W, count: u64) -> Result<
     }
 }
 
-// Makes what an order wants of one of its numbers, and sends the line of it.
+// Executes a request for one of its numbers, and sends the line for it.
 fn run_number<S: Store, W: Write>(
     register: &mut Register<S>,
     line: &mut LineBuffer,
@@ -66,7 +66,7 @@ fn run_number<S: Store, W: Write>(
     }
 }
 
-// Makes what an order wants of each of its numbers, by rising number.
+// Executes a request for each of its numbers, ascending.
 fn run_order<S: Store, W: Write>(
     register: &mut Register<S>,
     line: &mut LineBuffer,
@@ -98,7 +98,7 @@ fn run_order<S: Store, W: Write>(
     Ok(written)
 }
 
-// Runs a row, which is an order's or a bad one.
+// Runs a row, which has a request or is bad.
 fn run_row<S: Store, W: Write>(
     register: &mut Register<S>,
     line: &mut LineBuffer,
@@ -128,10 +128,10 @@ fn run_row<S: Store, W: Write>(
     }
 }
 
-// How many rows a file may have: their lines can be counted.
+// The most rows of a file, so that the count of their lines cannot overflow.
 const MOST_ROWS: u64 = 1 << 50;
 
-/// Runs the rows that a reader has.
+/// Runs all rows that `reader` supplies.
 pub fn run_rows<S: Store, R: Read, W: Write>(
     alloc: Global,
     register: &mut Register<S>,

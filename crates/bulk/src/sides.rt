@@ -1,4 +1,4 @@
-//! What is known of each subject on the three sides of an audit.
+//! The three sides of an audit for each subject.
 ghost use Rattle.std.specs.Prelude.{◌≡◌, ◌⊎◌, false, true, None, Err, IfErr, IfOk, OnOk, if◌then◌else◌, option_map, Some};
 ghost use Rattle.std.specs.BTreeMap.{IsOrdered};
 ghost use Rattle.std.specs.Ordering.{nat_cmp, on};
@@ -20,11 +20,11 @@ use std::collections::BTreeMap;
 /// A subject on the three sides of an audit.
 #[derive(Clone, Copy, Debug, PartialEq, Eq)]
 pub struct Sides {
-    /// Where it is routed in force.
+    /// The routing in force.
     pub in_force: Option<Routing>,
-    /// Where the copy routes it.
+    /// The routing in the copy.
     pub copied: Option<Routing>,
-    /// A download of it waits for the carrier.
+    /// Whether a download of the subject is pending for the carrier.
     pub waits: bool,
 }
 
@@ -34,7 +34,7 @@ const NO_SIDES: Sides = Sides {
     waits: false,
 };
 
-// What is told of a subject that is routed so in force and so in the copy, if anything is.
+// Returns the finding on a subject with these routings in force and in the copy, if they differ.
 fn difference(routing: &Routing, copy: &Routing) -> Option<Finding>
     ensures { result ≡ if same_routing (routing_of routing.now) (routing_of copy.now) then None
         else Some Different }
@@ -46,7 +46,7 @@ fn difference(routing: &Routing, copy: &Routing) -> Option<Finding>
     }
 }
 
-// What is told of a subject of which nothing waits, if anything is.
+// Returns the finding on a subject without pending downloads, if there is one.
 fn routed_finding(in_force: Option<Routing>, copied: Option<Routing>) -> Option<Finding>
     ensures { result
         ≡ finding_of false (option_map routing_of in_force) (option_map routing_of copied) }
@@ -64,7 +64,7 @@ fn routed_finding(in_force: Option<Routing>, copied: Option<Routing>) -> Option<
 }
 
 impl Sides {
-    /// What is told of the subject, if anything is.
+    /// Returns the finding on the subject, if there is one.
     pub fn finding(&self) -> Option<Finding>
         ensures { result ≡ found_of self.now }
     {
@@ -82,7 +82,7 @@ fn sides_of(all: &BTreeMap<Subject, Sides>, subject: Subject) -> Sides
     all.get(&subject).copied().unwrap_or(NO_SIDES)
 }
 
-// These are the sides of a subject from now on.
+// Sets the sides of a subject.
 fn set_sides(
     all: &mut BTreeMap<Subject, Sides>,
     subject: Subject,
@@ -98,7 +98,7 @@ fn set_sides(
     }
 }
 
-/// What is in force is one side.
+/// Adds the versions in force to the sides.
 pub fn add_in_force(all: &mut BTreeMap<Subject, Sides>, rows: &[RoutedRow]) -> Result<(), FaultKind>
     ensures added { OnOk result ((s : SubjectImpl) → sides_at all.new s
         ≡ record (sides_at all.old s) {
@@ -114,7 +114,7 @@ pub fn add_in_force(all: &mut BTreeMap<Subject, Sides>, rows: &[RoutedRow]) -> R
     Ok(())
 }
 
-/// What waits for the carrier is another.
+/// Adds the subjects with pending downloads to the sides.
 pub fn add_waiting(
     all: &mut BTreeMap<Subject, Sides>,
     subjects: &[Subject],
@@ -133,7 +133,7 @@ pub fn add_waiting(
     Ok(())
 }
 
-/// The entries of a copy are the first side. Fails with `BadFile` where a subject stands twice.
+/// Creates sides from the entries of a copy. Fails with `BadFile` if a subject occurs twice.
 pub fn copy_sides(
     alloc: Global,
     entries: &[RoutedRow],
@@ -157,7 +157,7 @@ pub fn copy_sides(
     Ok(all)
 }
 
-/// What is found of each subject, by subject.
+/// Returns the findings on all subjects, ordered by subject.
 pub fn findings_in(
     alloc: Global,
     all: &BTreeMap<Subject, Sides>,

@@ -1,4 +1,4 @@
-//! Files that are written line by line.
+//! Writes files line by line.
 ghost use Rattle.std.specs.Prelude.{◌≡◌, ◌≤◌, ◌++◌, ◌∷◌, [], ℕ, List, IfErr, IfOk, length, map, string_bytes};
 ghost use Rattle.std.specs.Io.KnownBytes.{Appends};
 ghost use Rattle.bulk.specs.Files.{AreSent, EndsWithin, IsSentPart, file_text};
@@ -6,16 +6,16 @@ ghost use Rattle.bulk.specs.Files.{AreSent, EndsWithin, IsSentPart, file_text};
 use crate::line::LineBuffer;
 use std::io::Write;
 
-/// What has a line of its own in a file.
+/// An item with a line of its own in a file.
 pub trait InLine {
     ghost text: { Self → List ℕ };
 
-    /// Writes its line, in place of what stood there.
+    /// Writes the item's line, instead of the line before.
     fn put_in(&self, line: &mut LineBuffer)
         ensures { string_bytes line.new.text ≡ text self.now };
 }
 
-// Sends the lines of these rows. Says how many there were, or how many were sent whole.
+// Sends the lines of these rows. Returns their number, or on failure how many were sent in full.
 fn send_rows<L: InLine, W: Write>(
     line: &mut LineBuffer,
     rows: &[L],
@@ -38,8 +38,8 @@ fn send_rows<L: InLine, W: Write>(
     Ok(count)
 }
 
-/// Sends a header and then the lines of these rows, each flushed before the next. Says how many
-/// rows there were, or how many were sent whole.
+/// Sends a header and then the lines of these rows, each flushed before the next. Returns the
+/// number of rows, or on failure how many were sent in full.
 pub fn send_file<L: InLine, W: Write>(
     line: &mut LineBuffer,
     header: &str,

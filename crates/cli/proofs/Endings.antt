@@ -1,4 +1,4 @@
--- How the program ends.
+-- The ways in which the program ends.
 use Rattle.std.proofs.Common.{◌≡◌, ◌∙◌, ℕ, List, Option, Result, Ok, Err, inl, inr, refl, arith}
 use Rattle.std.specs.Prelude.{◌≢◌, ◌⊎◌}
 use Rattle.std.specs.Io.KnownBytes.{Appends}
@@ -12,7 +12,7 @@ use Rattle.cli.specs.Reporting.{AsksForHelp, Ends, EndsFailed, IsUsage, TellsFau
 use Rattle.cli.specs.declared.fault.Fault.{Fault}
 use Rattle.cli.specs.declared.fault.Fault.TheVariants as fault
 
--- a fault ends with 1 or 3
+-- The exit status of a fault is 1 or 3.
 one_or_three : (f : Fault) → (exit_status f ≡ 1) ⊎ (exit_status f ≡ 3)
 one_or_three (fault.Windows windows.NoMemory) = inr refl
 one_or_three (fault.Windows windows.Syntax) = inl refl
@@ -37,7 +37,7 @@ one_or_three fault.Write = inr refl
 one_or_three fault.NoMemory = inr refl
 
 module _ (words : List (List ℕ)) (had has : Option (List ℕ)) (status : ℕ) where
-  -- the machine failed
+  -- The machine failed.
   failed : (f : Fault) → exit_status f ≡ 3 → TellsFault f had has status → EndsFailed had has status
   failed f three (inl (is, told)) = (is ∙ three, inl (f, three, told))
   failed f three (inr (is, front)) = (is, inr (line_of (fault_name f), front))
@@ -69,7 +69,7 @@ module _ (words : List (List ℕ)) (had has : Option (List ℕ)) (status : ℕ) 
   told_ends line is f same told (inl one) = inr (inl (same ∙ one, (line, is), (f, one, told)))
   told_ends line is f same told (inr three) = inr (inr (inr (same ∙ three, inl (f, three, told))))
 
-  -- the line was carried out, or ended by a fault
+  -- The command line was executed, or failed.
   pub outcome_ends : (line : CommandLine) → IsLine words line → (o : Result (Unit {0}) Fault)
       → TellsOutcome o had has status → Ends words had has status
   outcome_ends line is (Ok done) told = inl (told.0, inl (line, is), told.1)

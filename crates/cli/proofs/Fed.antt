@@ -1,4 +1,4 @@
--- What serving comes to, as the outcome of a feed.
+-- The result of serving, as the outcome of a feed.
 use Rattle.std.proofs.Common.{◌≡◌, ℕ, List, [], ◌++◌, Option, Some, None, inl, inr, true, refl, ap, ◌∙◌, subst, sym, append-nil}
 use Rattle.std.specs.Prelude.{Result, Ok, Err, IfSome}
 use Rattle.std.specs.Io.KnownBytes.{Keeps, append_known}
@@ -17,7 +17,7 @@ use Rattle.cli.specs.declared.fault.Fault.{Fault}
 use Rattle.cli.specs.declared.fault.Fault.TheVariants as fault
 use Rattle.cli.specs.Feeding.{Feeds, fault_of_end, io_of_feed, outcome_of}
 
--- the same of what a writer holds later, where it has kept what was written
+-- What serving wrote holds of a later content of the writer, if the writer has kept it.
 module _ (from to : ℕ) (st : State) (new : Content) (trace : IoTrace) (has : Option (List ℕ))
     (kept : Keeps trace.written_after has) where
   abbrev later : IoTrace
@@ -104,7 +104,7 @@ module _ (from to : ℕ) (st : State) (new : Content) (trace : IoTrace) (has : O
   serves_kept (Err (serving.Memory k)) x = (whole_kept k x.0, x.1)
   serves_kept (Err (serving.Write k)) x = part_kept k x
 
--- the device had never failed, and did not
+-- The device has never failed.
 pub at_zero : (w : WindowsModel) (unread had mid all : Option (List ℕ))
     (r : Result Served ServingFault) (new : Content) (from to : ℕ) → from ≡ 0 → to ≡ 0
     → IfSome all (λ input. Serves r true from to (first_state w) new
@@ -119,7 +119,7 @@ at_zero w unread had mid all r new from to before after serves =
     (io_of_feed input unread had mid)) in
     subst To after (subst From before serves)
 
--- nothing is unwritten
+-- Nothing is unwritten.
 all_written : (has : Option (List ℕ)) (unwritten : List ℕ) → unwritten ≡ []
     → append_known has unwritten ≡ has
 all_written None unwritten e = refl
@@ -127,7 +127,7 @@ all_written (Some xs) unwritten e = ap (λ (t : List ℕ). Some (xs ++ t)) e ∙
 
 module _ (w : WindowsModel) (unread had mid has : Option (List ℕ)) (unwritten : List ℕ)
     (kept : Keeps mid (append_known has unwritten)) (new : Content) where
-  -- what serving tells, of the buffer and the writer behind it
+  -- Holds if serving the input to the buffer has this result.
   abbrev Served_so : List ℕ → Result Served ServingFault → Type 0
   Served_so input r = Serves r true 0 0 (first_state w) new (io_of_feed input unread had mid)
 
@@ -166,7 +166,7 @@ module _ (w : WindowsModel) (unread had mid has : Option (List ℕ)) (unwritten 
     subst (λ h. Held_so input h (Err (serving.Memory k))) (all_written has unwritten none) serves,
   )
 
-  -- the buffer was flushed
+  -- The buffer was flushed.
   pub flushed : (all : Option (List ℕ)) (r : Result Served ServingFault)
       (result : Result (Unit {0}) Fault) → unwritten ≡ [] → result ≡ outcome_of r →
       IfSome all (λ input. Served_so input r)
@@ -176,7 +176,7 @@ module _ (w : WindowsModel) (unread had mid has : Option (List ℕ)) (unwritten 
       subst (Feeds w (io_of_feed input unread had has) unwritten) (sym is)
       (of_outcome input r none (held_so input r serves))
 
-  -- the last write failed
+  -- The last write failed.
   pub not_flushed : (all : Option (List ℕ)) (r : Result Served ServingFault)
       → IfSome all (λ input. Served_so input r)
       → IfSome all (λ input. Feeds w (io_of_feed input unread had has) unwritten (Err fault.Write))

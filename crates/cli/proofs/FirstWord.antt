@@ -17,7 +17,7 @@ met_again : (c : List Rule) (names : Names) (w : Walk) (p : Stop) (word : Text) 
 unfolding walked
 met_again c names w p word e = ap (λ (o : Option Stop). (walked_from c names o w word).stopped) e
 
--- after a subcommand was met, each word goes to it
+-- After a subcommand, each word belongs to it.
 kept : (c : List Rule) (names : Names) (w : Walk) (p : Stop) (rest : List Text)
     → w.stopped ≡ Some p → (fold (walked c names) w rest).stopped ≡ Some (p.0, p.1 ++ rest)
 kept c names w p [] e = e ∙ ap (λ (t : List Text). Some (p.0, t)) (sym (append-nil p.1))
@@ -25,13 +25,13 @@ kept c names w p (word ∷ rest) e =
     kept c names (walked c names w word) (p.0, p.1 ++ word ∷ []) rest (met_again c names w p word e)
     ∙ ap (λ (t : List Text). Some (p.0, t)) (append_assoc p.1 (word ∷ []) rest)
 
--- a name is met at once
+-- Holds if the first word is recognized as a subcommand's name.
 abbrev IsMet : Text → Type 0
 IsMet name =
     (walked (built npacd_app).top.rules (names_of (built npacd_app)) (walk_from nothing_held)
     name).stopped ≡ Some (name, [])
 
--- where a name is met at once, its rule reads the words after it
+-- The rule of a recognized name reads the words after it.
 entered_at : (program name : Text) (after : List Text) → IsMet name
     → subcommand_of npacd_app (program ∷ name ∷ after) ≡ entered (built npacd_app)
     (Some (name, after))
@@ -42,12 +42,12 @@ entered_at program name after met =
 abbrev Pair : Type 0
 Pair = Text × List Row
 
--- the rows of the named subcommand
+-- Holds if these are the rows of the named subcommand.
 abbrev Reads : Text → List Text → List Row → Type 0
 Reads name after rows = entered (built npacd_app) (Some (name, after)) ≡ Some (name, rows)
     → rows_named name after ≡ Some rows
 
--- a subcommand by this name
+-- A subcommand of this name.
 record IsNamed (name : Text) : Type 0 where
   met : IsMet name
   reads : (after : List Text) (rows : List Row) → Reads name after rows
@@ -91,7 +91,7 @@ rest_same e = cc
 some_same : {r s : List Row} → Some r ≡ Some s → r ≡ s
 some_same e = cc
 
--- by whatever rows the name is known to be a subcommand's
+-- A name is a subcommand's for any rows that make it one.
 pub rows_are_named : (program name : Text) (after : List Text) (told rows : List Row)
     (s : Subcommand) → IsSubcommand name told s
     → subcommand_of npacd_app (program ∷ name ∷ after) ≡ Some (name, rows)
@@ -107,7 +107,7 @@ rows_are_named program name after told rows sub.Export h found =
 rows_are_named program name after told rows (sub.Audit spid) h found =
     at_name program (codes "audit") name after rows audit_named h.0 found
 
--- where the rows after a word are no line of it, the words are no line
+-- If the rows after a word are no command line, the words are none.
 pub no_line : (program name : Text) (after : List Text) (rows : List Row)
     → subcommand_of npacd_app (program ∷ name ∷ after) ≡ Some (name, rows)
     → IsNoLineOf name rows → IsNoLine (program ∷ name ∷ after)

@@ -1,4 +1,4 @@
--- One connection after the other: what follows a state, and then what follows that.
+-- The state after one connection, and after the next.
 use Rattle.std.proofs.Common.{◌≡◌, List, [], ◌∷◌, ◌++◌, refl, sym, subst}
 use Rattle.model.specs.Content.{Content}
 use Rattle.model.specs.Machine.{next, state_after}

@@ -1,4 +1,4 @@
--- What a writer has been handed, text by text.
+-- The texts that a writer gets, one after another.
 use Rattle.std.proofs.Common.{◌+◌, ℕ, List, ◌++◌, Option, length, take, subst, sym, arith}
 use Rattle.std.proofs.KnownBytes.{Appends-trans}
 use Rattle.std.proofs.lemmas.List.{length-append, take-append-le}
@@ -7,7 +7,7 @@ use Rattle.std.specs.Prelude.{OnErr, Result, Ok, Err}
 use Rattle.std.specs.Io.KnownBytes.{Appends}
 use Rattle.http_messages.specs.Sending.{AppendsFront}
 
--- a front of the first text is one of both
+-- A prefix of the first text is a prefix of both.
 pub front_of_first : (had has : Option (List ℕ)) (xs ys : List ℕ) → AppendsFront had has xs
     → AppendsFront had has (xs ++ ys)
 front_of_first had has xs ys (n, fits, written) = (
@@ -16,7 +16,7 @@ front_of_first had has xs ys (n, fits, written) = (
   subst (Appends had has) (sym (take-append-le n xs ys fits)) written,
 )
 
--- the first text, and a front of what comes behind it
+-- The first text and a prefix of the second are a prefix of both.
 pub front_behind : (had mid has : Option (List ℕ)) (xs ys : List ℕ) → Appends had mid xs
     → AppendsFront mid has ys → AppendsFront had has (xs ++ ys)
 front_behind had mid has xs ys first (n, fits, written) = (

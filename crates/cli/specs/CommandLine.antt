@@ -1,4 +1,4 @@
--- The command line: what `clap`'s rule reads off the words.
+-- The command line: what the rule of `clap` reads from the words.
 use Rattle.std.specs.Prelude.{◌≡◌, ℕ, nat_lt, Bool, true, false, List, ◌∷◌, [], codes, Option, Some, None, option_map, option_and_then, find, if◌then◌else◌}
 use Rattle.clap.specs.declared.builder.value_parser.ValueParser.TheVariants.{Unsigned}
 use Rattle.http_messages.specs.Fields.{number_of}
@@ -10,7 +10,7 @@ use Rattle.cli.specs.declared.parse.Subcommand.{Subcommand}
 use Rattle.cli.specs.declared.parse.Subcommand.TheVariants as sub
 use Rattle.cli.specs.declared.parse.CommandLine.{CommandLine}
 
--- an option `--id`, which may be required
+-- The rule of an option `--id`, which may be required.
 abbrev pub option_rule : Text → Bool → Rule
 option_rule id required = record (new_rule id) {
   long = Some id;
@@ -18,11 +18,11 @@ option_rule id required = record (new_rule id) {
   required = required;
 }
 
--- the same, of a whole number from 1 to 65535
+-- The rule of an option whose value is a whole number from 1 to 65535.
 abbrev pub number_rule : Text → Bool → Rule
 number_rule id required = record (option_rule id required) { parser = Some (Unsigned 1 65535) }
 
--- a subcommand with the options that each has
+-- A subcommand with the options that each subcommand has.
 abbrev pub plain_app : Text → App
 plain_app name =
     with_rule (with_rule (with_rule (new_app name) (option_rule (codes "windows") true))
@@ -41,11 +41,11 @@ with_wanted_subcommand a = record a { top = record a.top { subcommand_required =
 abbrev pub with_version : App → App
 with_version a = record a { top = record a.top { has_version = true } }
 
--- the subcommands that serve messages, behind those of a
+-- `a` with the subcommands that serve messages added.
 abbrev pub with_serving : App → App
 with_serving a = with_subcommand (with_subcommand a (plain_app (codes "feed")).top) serve_app.top
 
--- those that read and write files
+-- `a` with the subcommands that read and write files added.
 abbrev pub with_files : App → App
 with_files a =
     with_subcommand (with_subcommand (with_subcommand a (plain_app (codes "bulk")).top)
@@ -55,24 +55,24 @@ abbrev pub npacd_app : App
 npacd_app =
     with_files (with_serving (with_wanted_subcommand (with_version (new_app (codes "npacd")))))
 
--- a number below 2^16
+-- A number, if it is below 2^16.
 abbrev pub small_number : Option ℕ → Option ℕ
 small_number o = option_and_then (λ n. if nat_lt n 65536 then Some n else None) o
 
--- the number below 2^16 that an option's value writes in digits
+-- The number below 2^16 that an option's value has in digits.
 abbrev pub number_under : Text → List Row → Option ℕ
 number_under id rows = small_number (option_and_then number_of (first_of id rows))
 
--- the same of an option that may be left out
+-- Holds if this is the number of an option, or none if the option is not given.
 abbrev pub IsNumberIfAny : Text → List Row → Option ℕ → Type 0
 IsNumberIfAny id rows None = first_of id rows ≡ None
 IsNumberIfAny id rows (Some n) = number_under id rows ≡ Some n
 
--- no number is given so, and neither is it left out
+-- Holds if an option is given, but not with such a number.
 abbrev pub IsNoNumber : Text → List Row → Type 0
 IsNoNumber id rows = (number : Option ℕ) → ¬ (IsNumberIfAny id rows number)
 
--- which subcommand a name is
+-- Holds if the name and the rows are this subcommand's.
 abbrev pub IsSubcommand : Text → List Row → Subcommand → Type 0
 IsSubcommand name rows sub.Feed = name ≡ codes "feed"
 IsSubcommand name rows sub.Bulk = name ≡ codes "bulk"
@@ -83,7 +83,7 @@ IsSubcommand name rows (sub.Serve port connections) =
     (name ≡ codes "serve") × (number_under (codes "port") rows ≡ Some port)
     × IsNumberIfAny (codes "connections") rows connections
 
--- it is none
+-- Holds if the name and the rows are no subcommand's.
 abbrev pub IsNoSubcommand : Text → List Row → Type 0
 IsNoSubcommand name rows = (subcommand : Subcommand) → ¬ (IsSubcommand name rows subcommand)
 
@@ -96,15 +96,14 @@ pub record IsLineOf (name : Text) (rows : List Row) (line : CommandLine) : Type 
 abbrev pub IsNoLineOf : Text → List Row → Type 0
 IsNoLineOf name rows = (line : CommandLine) → ¬ (IsLineOf name rows line)
 
--- the rows that the rule of the subcommand of this name reads off the words after it
+-- The rows that the rule of the named subcommand reads from the words after it.
 abbrev pub rows_named : Text → List Text → Option (List Row)
 rows_named name words =
     option_map (λ s. rows_after s.rules [] words) (find (λ s. answers_to name (label_of s))
     (built npacd_app).subs)
 
--- the line is what the words say: the first after the program's name is the subcommand, and the
--- values are those that
--- its rule reads off the words after it
+-- Holds if the words are this command line: the first after the program's name is the subcommand,
+-- and its rule reads the values from the words after it.
 pub record IsLine (words : List Text) (line : CommandLine) : Type 0 where
   pub program : Text
   pub name : Text
@@ -114,10 +113,10 @@ pub record IsLine (words : List Text) (line : CommandLine) : Type 0 where
   pub rows_are : rows_named name after ≡ Some rows
   pub line_is : IsLineOf name rows line
 
--- no line that `clap` takes is in these words
+-- Holds if the words are no command line that `clap` accepts.
 abbrev pub IsNoLine : List Text → Type 0
 IsNoLine words = (line : CommandLine) → takes npacd_app words ≡ true → ¬ (IsLine words line)
 
--- the second word is this one
+-- Holds if the second word is `name`.
 abbrev pub HasSecond : List Text → Text → Type 0
 HasSecond words name = (program : Text) × (after : List Text) × (words ≡ program ∷ name ∷ after)

@@ -1,4 +1,4 @@
--- Why a command line was not carried out: the name on standard error, and the exit status.
+-- The faults of a command line: their names on standard error, and their exit statuses.
 use Rattle.std.specs.Prelude.{ℕ, List, codes}
 use Rattle.windows.specs.File.{name_of}
 use Rattle.windows.specs.declared.window.WindowFault.TheVariants as windows
@@ -21,7 +21,7 @@ fault_name fault.Read = codes "read"
 fault_name fault.Write = codes "write"
 fault_name fault.NoMemory = codes "no_memory"
 
--- 1 where a file or a message was refused, 3 where the machine failed
+-- The exit status: 1 if a file or a message was refused, 3 if the machine failed.
 abbrev pub exit_status : Fault → ℕ
 exit_status (fault.Windows windows.NoMemory) = 3
 exit_status (fault.Windows windows.Syntax) = 1

@@ -1,7 +1,7 @@
--- What feeding a new register comes to: the answers of the history machine, from its first state
--- on. No minute is handed in beside the
--- messages, and the device of a store in memory never fails: its count of failures is 0 before and
--- after.
+-- Feeding a new register: the answers are those of the machine from its first state on.
+--
+-- No minute is supplied for a message, and the device of a store in memory never fails: its count
+-- of failures is 0 before and after.
 use Rattle.std.specs.Prelude.{◌≡◌, ℕ, ◌⊎◌, List, [], Option, Some, Result, Ok, Err, true}
 use Rattle.std.specs.Io.KnownBytes.{append_known}
 use Rattle.model.specs.Content.{Content}
@@ -17,7 +17,7 @@ use Rattle.register.specs.declared.register.OpenFault.TheVariants as opening
 use Rattle.cli.specs.declared.fault.Fault.{Fault}
 use Rattle.cli.specs.declared.fault.Fault.TheVariants as fault
 
--- what is told where no minute is handed in
+-- The trace of serving without supplied minutes.
 abbrev pub io_of_feed : (input : List ℕ) → (unread had has : Option (List ℕ)) → IoTrace
 io_of_feed input unread had has = record {
   input = input;
@@ -28,21 +28,20 @@ io_of_feed input unread had has = record {
   written_after = has;
 }
 
--- serving ended so, after k messages, and left the content new
+-- Holds if serving ended so after some messages, with some content.
 abbrev pub Ended : Windows → IoTrace → End → Type 0
 Ended w trace end = (new : Content) × (k : ℕ) × EndsAt end true 0 0 (first_state w) new trace k
 
--- serving failed so, after k messages
+-- Holds if serving failed so after some messages.
 abbrev pub Failed : Windows → IoTrace → (ℕ → ServingFault) → Type 0
 Failed w trace fault_after =
     (new : Content) × (k : ℕ) × FailsAt (fault_after k) true 0 0 (first_state w) new trace
 
--- The input was fed to a new register of these windows, through a buffer: the writer that is told
--- of is the one behind it, and unwritten is
--- what the buffer still holds. Where a write failed, what was written is a front of the answers:
--- with what is unwritten it is all that serving
--- answered, however that came to its end. Elsewhere all is written. Where no memory was left to
--- open the register, nothing was answered
+-- Holds if the input was fed to a new register of these windows through a buffer, with this result.
+-- The trace is that of the writer after the buffer, and `unwritten` is what the buffer still holds.
+-- If a write failed, `unwritten` follows what was written, and both together are all that serving
+-- answered, however it ended. In all other cases everything is written. If there was no memory to
+-- open the register, nothing was answered.
 abbrev pub Feeds : Windows → IoTrace → (unwritten : List ℕ) → Result (Unit {0}) Fault → Type 0
 Feeds w trace unwritten (Ok done) = Ended w trace Input ⊎ Ended w trace Closed
 Feeds w trace unwritten (Err (fault.Message refused)) = Ended w trace (Refused refused)
@@ -61,7 +60,7 @@ Feeds w trace unwritten (Err (fault.Windows refused)) = ⊥
 Feeds w trace unwritten (Err (fault.File refused)) = ⊥
 Feeds w trace unwritten (Err fault.Listen) = ⊥
 
--- how serving ended, as the program's fault
+-- The program's outcome when serving ends so.
 abbrev pub fault_of_end : End → Result (Unit {0}) Fault
 fault_of_end Input = Ok tt
 fault_of_end Closed = Ok tt

@@ -1,4 +1,4 @@
--- What the program tells as it ends, and its exit status.
+-- The report of the program as it ends, and its exit status.
 use Rattle.std.specs.Prelude.{◌≡◌, ◌⊎◌, ℕ, List, [], ◌∷◌, ◌++◌, codes, Option, Result, Ok, Err}
 use Rattle.std.specs.Io.KnownBytes.{Appends, Keeps}
 use Rattle.http_messages.specs.Sending.{AppendsFront}
@@ -11,86 +11,88 @@ use Rattle.cli.specs.declared.fault.Fault.{Fault}
 use Rattle.cli.specs.declared.fault.Fault.TheVariants as fault
 use Rattle.cli.specs.declared.parse.CommandLine.{CommandLine}
 
--- the one line on standard error, of a fault's name
+-- The line on standard error for a fault's name.
 abbrev pub line_of : List ℕ → List ℕ
 line_of name = codes "npacd: " ++ name ++ 10 ∷ []
 
--- a text was written whole, and this is the exit status; or a front of it alone, and the status is
--- 3
+-- Holds if a text was written whole and the status is `wanted`, or only a prefix of it and the
+-- status is 3.
 abbrev pub Tells : List ℕ → ℕ → (had has : Option (List ℕ)) → (status : ℕ) → Type 0
 Tells text wanted had has status = ((status ≡ wanted) × Appends had has text)
     ⊎ ((status ≡ 3) × AppendsFront had has text)
 
--- a fault was told, with its own status
+-- Holds if a fault was reported with its own status.
 abbrev pub TellsFault : Fault → (had has : Option (List ℕ)) → (status : ℕ) → Type 0
 TellsFault refused had has status =
     Tells (line_of (fault_name refused)) (exit_status refused) had has status
 
--- a mistake in the command line was told
+-- Holds if a mistake in the command line was reported.
 abbrev pub TellsMistake : List ℕ → (had has : Option (List ℕ)) → (status : ℕ) → Type 0
 TellsMistake text had has status = Tells text 2 had has status
 
--- what was carried out is not spoken of
+-- Holds if success is not reported, and a fault is.
 abbrev pub TellsOutcome : Result (Unit {0}) Fault → (had has : Option (List ℕ)) → (status : ℕ)
     → Type 0
 TellsOutcome (Ok done) had has status = (status ≡ 0) × Keeps had has
 TellsOutcome (Err refused) had has status = TellsFault refused had has status
 
--- help was written, and nothing is on the errors; or it could not be written, and that was told
+-- Holds if help was written and nothing was reported; or if help could not be written, and that was
+-- reported.
 abbrev pub TellsHelp : List ℕ → (wrote written had has : Option (List ℕ)) → (status : ℕ) → Type 0
 TellsHelp text wrote written had has status =
     ((status ≡ 0) × Appends wrote written text × Keeps had has)
     ⊎ TellsFault fault.Write had has status
 
--- why there is no line was told, as the status of that wants it
+-- Holds if the report is the one for this status of the usage.
 pub record TellsUsage (wanted : ℕ) (text : List ℕ) (wrote written had has : Option (List ℕ))
     (status : ℕ) : Type 0 where
   pub help : wanted ≡ 0 → TellsHelp text wrote written had has status
   pub mistake : wanted ≡ 2 → TellsMistake text had has status
   pub memory : wanted ≡ 3 → TellsFault fault.NoMemory had has status
 
--- why there is no line: help was asked for, a mistake, or memory was refused
+-- Holds for the statuses of a usage: help, a mistake, or a failed allocation.
 abbrev pub IsUsage : ℕ → Type 0
 IsUsage status = (status ≡ 0) ⊎ (status ≡ 2) ⊎ (status ≡ 3)
 
--- a mistake in the words, or memory was refused
+-- Holds for the statuses of a mistake in the words and of a failed allocation.
 abbrev pub IsMistake : ℕ → Type 0
 IsMistake status = (status ≡ 2) ⊎ (status ≡ 3)
 
--- help was asked for, or the version: `clap`'s rule says so of the words
+-- Holds if the words ask for help or for the version, by the rule of `clap`.
 abbrev pub AsksForHelp : List (List ℕ) → Type 0
 AsksForHelp words = IsAmong kind.DisplayHelp (fault_of npacd_app words)
     ⊎ IsAmong kind.DisplayVersion (fault_of npacd_app words)
 
--- a fault of this status was told whole
+-- Holds if a fault of this status was reported in full.
 abbrev pub HasTold : ℕ → (had has : Option (List ℕ)) → Type 0
 HasTold status had has = (refused : Fault) × (exit_status refused ≡ status)
     × Appends had has (line_of (fault_name refused))
 
--- the words are a line, which was carried out, or they ask for help: nothing is told
+-- Holds if the words are a command line, which was executed, or ask for help, and nothing was
+-- reported.
 abbrev pub EndsWell : (words : List (List ℕ)) → (had has : Option (List ℕ)) → (status : ℕ) → Type 0
 EndsWell words had has status =
     (status ≡ 0) × (((line : CommandLine) × IsLine words line) ⊎ AsksForHelp words) × Keeps had has
 
--- the words are a line, and a file or a message was refused
+-- Holds if the words are a command line, and a file or a message was refused.
 abbrev pub EndsRefused : (words : List (List ℕ)) → (had has : Option (List ℕ)) → (status : ℕ)
     → Type 0
 EndsRefused words had has status = (status ≡ 1) × ((line : CommandLine) × IsLine words line)
     × HasTold 1 had has
 
--- the words are no line, and some text says so
+-- Holds if the words are no command line, and some text reports that.
 abbrev pub EndsMistaken : (words : List (List ℕ)) → (had has : Option (List ℕ)) → (status : ℕ)
     → Type 0
 EndsMistaken words had has status = (status ≡ 2) × IsNoLine words
     × ((text : List ℕ) × Appends had has text)
 
--- the machine failed, and that is told; or what was to be told could not be written, but for a
--- front of it
+-- Holds if the machine failed and that was reported; or if only a prefix of a report could be
+-- written.
 abbrev pub EndsFailed : (had has : Option (List ℕ)) → (status : ℕ) → Type 0
 EndsFailed had has status =
     (status ≡ 3) × (HasTold 3 had has ⊎ ((text : List ℕ) × AppendsFront had has text))
 
--- how the program ends, by what it has told on the errors
+-- Holds if the program ends so, by what it reported on the errors.
 abbrev pub Ends : (words : List (List ℕ)) → (had has : Option (List ℕ)) → (status : ℕ) → Type 0
 Ends words had has status = EndsWell words had has status ⊎ EndsRefused words had has status
     ⊎ EndsMistaken words had has status ⊎ EndsFailed had has status

@@ -1,4 +1,4 @@
-//! The words that the program was started with.
+//! Reads the words of the program's command line.
 ghost use Rattle.std.specs.Prelude.{IfErr};
 ghost use Rattle.cli.specs.Reporting.{IsMistake};
 
@@ -8,7 +8,7 @@ use std::env::Env;
 use std::io::ErrorKind;
 use std::{env, io};
 
-// Why the words were not had.
+// Returns the usage error for words that could not be read.
 fn no_words(alloc: Global, error: &io::Error) -> Usage
     ensures { IsMistake result.status }
 {
@@ -18,8 +18,12 @@ fn no_words(alloc: Global, error: &io::Error) -> Usage
     }
 }
 
-/// The words of the command line, of which the first is the program's name. Where one is not UTF-8
-/// the answer is a text for the user with the exit status 2; with 3 memory was refused.
+/// Returns the words of the command line, starting with the program's name.
+///
+/// # Errors
+///
+/// A text for the user with exit status 2 if a word is not UTF-8; exit status 3 if an allocation
+/// fails.
 pub fn words_of<T: Env + AllocGlobal>(rt: &T) -> Result<Vec<String>, Usage>
     ensures { IfErr result (λ usage. IsMistake usage.status) }
 {

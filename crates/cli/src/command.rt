@@ -1,4 +1,4 @@
-//! The command as `clap` knows it.
+//! Declares the command line for `clap`.
 ghost use Rattle.std.specs.Prelude.{◌≡◌, IfOk, codes, false};
 ghost use Rattle.clap.specs.Words.{app_of, rule_of, new_app, with_rule, with_subcommand};
 ghost use Rattle.clap.specs.declared.builder.command.Command.TheViews.{out-Command};
@@ -8,10 +8,10 @@ use clap::builder::ValueParser;
 use clap::{Arg, Command};
 use std::alloc::{AllocError, Global};
 
-// What `--version` prints behind the program's name.
+// The version that `--version` prints after the program's name.
 const VERSION: &str = "0.1.0";
 
-// An option `--id VALUE`, and its line of help.
+// Creates an option `--id VALUE` with its line of help.
 fn option<'a>(alloc: Global, id: &'a str, value: &'a str, help: &'a str, required: bool) -> Arg<'a>
     ensures rule { rule_of result ≡ option_rule id.entry.now required }
     ensures local { result.global ≡ false }
@@ -23,7 +23,7 @@ fn option<'a>(alloc: Global, id: &'a str, value: &'a str, help: &'a str, require
         .required(required)
 }
 
-// An option whose value is a whole number from 1 to 65535.
+// Creates an option with a whole number from 1 to 65535 as its value.
 fn number<'a>(alloc: Global, id: &'a str, value: &'a str, help: &'a str, required: bool) -> Arg<'a>
     ensures rule { rule_of result ≡ number_rule id.entry.now required }
     ensures local { result.global ≡ false }
@@ -32,7 +32,7 @@ fn number<'a>(alloc: Global, id: &'a str, value: &'a str, help: &'a str, require
     option(alloc, id, value, help, required).value_parser(parser)
 }
 
-// With one more option.
+// Adds an option to a command.
 fn with_option<'a>(
     alloc: Global,
     command: Command<'a>,
@@ -49,7 +49,7 @@ fn with_option<'a>(
     command.arg(option(alloc, id, value, help, required))
 }
 
-// A subcommand with the options that each has.
+// Creates a subcommand with the options that each subcommand has.
 fn plain<'a>(alloc: Global, name: &'a str, about: &'a str) -> Result<Command<'a>, AllocError>
     ensures { IfOk result
         (λ c. (app_of c ≡ plain_app name.entry.now) × ((out-Command c).has_globals ≡ false)) }
@@ -81,7 +81,7 @@ fn plain<'a>(alloc: Global, name: &'a str, about: &'a str) -> Result<Command<'a>
     )
 }
 
-// The subcommand that listens.
+// Creates the subcommand that listens to a port.
 fn serve<'a>(alloc: Global) -> Result<Command<'a>, AllocError>
     ensures { IfOk result
         (λ c. (app_of c ≡ serve_app) × ((out-Command c).has_globals ≡ false)) }
@@ -102,7 +102,7 @@ fn serve<'a>(alloc: Global) -> Result<Command<'a>, AllocError>
     command.arg(port)?.arg(connections)
 }
 
-// The subcommand that compares a copy.
+// Creates the subcommand that compares a carrier's copy.
 fn audit<'a>(alloc: Global) -> Result<Command<'a>, AllocError>
     ensures { IfOk result
         (λ c. (app_of c ≡ audit_app) × ((out-Command c).has_globals ≡ false)) }
@@ -133,7 +133,7 @@ fn top<'a>(alloc: Global) -> Command<'a>
         .subcommand_required(true)
 }
 
-// With a subcommand that has no other options.
+// Adds a subcommand without other options.
 fn with_plain<'a>(
     alloc: Global,
     command: Command<'a>,
@@ -161,7 +161,7 @@ fn with_audit<'a>(alloc: Global, command: Command<'a>) -> Result<Command<'a>, Al
     with(command, part)
 }
 
-// With the subcommands that serve messages.
+// Adds the subcommands that serve messages.
 fn with_serving<'a>(alloc: Global, command: Command<'a>) -> Result<Command<'a>, AllocError>
     ensures { IfOk result (λ c. app_of c ≡ with_serving (app_of command.entry)) }
 {
@@ -174,7 +174,7 @@ fn with_serving<'a>(alloc: Global, command: Command<'a>) -> Result<Command<'a>, 
     with_serve(alloc, command)
 }
 
-// With those that read and write files.
+// Adds the subcommands that read and write files.
 fn with_files<'a>(alloc: Global, command: Command<'a>) -> Result<Command<'a>, AllocError>
     ensures { IfOk result (λ c. app_of c ≡ with_files (app_of command.entry)) }
 {
@@ -188,7 +188,7 @@ fn with_files<'a>(alloc: Global, command: Command<'a>) -> Result<Command<'a>, Al
     with_audit(alloc, command)
 }
 
-/// The whole command.
+/// Creates the whole command.
 pub fn npacd<'a>(alloc: Global) -> Result<Command<'a>, AllocError>
     ensures { IfOk result (λ c. app_of c ≡ npacd_app) }
 {

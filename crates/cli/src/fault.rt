@@ -1,4 +1,4 @@
-//! Why a command line was not carried out.
+//! The faults of a command line, with their names and exit statuses.
 ghost use Rattle.std.specs.Prelude.{◌≡◌};
 ghost use Rattle.cli.specs.Faults.{exit_status, fault_name};
 
@@ -7,23 +7,29 @@ use bulk::FaultKind;
 use register::OpenFault;
 use windows::WindowFault;
 
-/// Why a command line was not carried out.
+/// Why the execution of a command line failed.
 #[derive(Clone, Copy, PartialEq, Eq, Debug)]
 pub enum Fault {
+    /// The windows file is not valid.
     Windows(WindowFault),
+    /// The register could not be opened.
     Open(OpenFault),
+    /// A message was refused.
     Message(MessageFault),
-    /// A file of a subcommand was not read or written to its end.
+    /// A file of a subcommand could not be read or written to its end.
     File(FaultKind),
-    /// The port was not had.
+    /// The port could not be opened.
     Listen,
+    /// A read failed.
     Read,
+    /// A write failed.
     Write,
+    /// An allocation failed.
     NoMemory,
 }
 
 impl Fault {
-    /// The name on standard error.
+    /// Returns the name on standard error.
     pub fn name(self) -> &'static str
         ensures { result.now ≡ fault_name self }
     {
@@ -40,7 +46,7 @@ impl Fault {
         }
     }
 
-    /// The exit status: 1 for a refused file or message, 3 where the machine failed.
+    /// Returns the exit status: 1 if a file or a message was refused, 3 if the machine failed.
     pub fn status(self) -> u8
         ensures { result ≡ exit_status self }
     {

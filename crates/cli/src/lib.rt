@@ -1,6 +1,6 @@
-//! What the clearinghouse does as a program: command lines are read and carried out, over memory or
-//! a file, and connections to a port are served. The program `npacd` is this library's `run`, and
-//! nothing else.
+//! The clearinghouse as a program: parses and executes command lines, and serves a port.
+//!
+//! The register is in memory or in a file. The program `npacd` only calls `run`.
 #![tactic(auto)]
 
 mod arguments;

@@ -1,4 +1,4 @@
-//! Serving the connections to a port of this machine.
+//! Serves connections to a port of this machine.
 ghost use Rattle.std.specs.Prelude.{◌≡◌, ◌<◌, ◌≤◌, ◌/◌, ◌^◌, ◌↔◌, IfSome, IsSome};
 ghost use Rattle.std.specs.Duration.{as_nanos};
 ghost use Rattle.model.specs.State.{State};
@@ -16,11 +16,10 @@ use std::io::{BufWriter, Read, Write};
 use std::net::{Ipv4Addr, Net, OpenListener, OpenStream, TcpListener};
 use std::time::{Clock, Duration};
 
-/// How long a connection may say nothing before it ends, in seconds: all others wait meanwhile.
+/// How long a connection may stay silent before it ends, in seconds. All others wait meanwhile.
 const PATIENCE: u64 = 30;
 
-/// The whole minutes of a time since 1970, of sixty seconds each; or nothing where they are no
-/// minute.
+/// Returns the minutes since 1970 at `time`, rounded down, or `None` if they are 2^40 or more.
 pub fn minute_of(time: Duration) -> Option<Minute>
     ensures value { IfSome result (λ minute. minute.number ≡ as_nanos time / 1_000_000_000 / 60) }
     ensures valid { IsSome result ↔ (as_nanos time / 1_000_000_000 / 60 < 2 ^ 40) }
@@ -28,8 +27,8 @@ pub fn minute_of(time: Duration) -> Option<Minute>
     Minute::new(time.as_secs() / 60)
 }
 
-/// The machine's minutes: whole minutes since 1970, as `minute_of` counts them, or none where the
-/// clock does not answer.
+/// The minutes of the machine's clock, as `minute_of` counts them. Supplies no minute if the clock
+/// fails.
 #[derive(Clone, Copy, Debug)]
 pub struct MachineMinutes<'a, T: Clock> {
     pub clock: &'a T,
@@ -44,12 +43,12 @@ impl<T: Clock> Ticks for MachineMinutes<'_, T> {
     }
 }
 
-// The listener at a port of 127.0.0.1.
+// Opens a listener at a port of 127.0.0.1.
 fn listener_at<T: Net>(rt: &T, port: u16) -> Result<T::Listener, Fault> {
     TcpListener::bind(rt, (Ipv4Addr::LOCALHOST, port)).map_err(|_| Fault::Listen)
 }
 
-// Serves a stream, whose other handle takes the answers.
+// Serves the messages of `reader`, and writes their answers to `writer` through a buffer.
 fn serve_stream<C: Read, W: Write, S: Store, T: Ticks>(
     alloc: Global,
     reader: &mut C,
@@ -76,11 +75,15 @@ fn serve_stream<C: Read, W: Write, S: Store, T: Ticks>(
     }
 }
 
-/// Accepts one connection and serves it, with no clock route. A connection that is refused counts
-/// as one that could not be read. One that says nothing for half a minute ends.
+/// Accepts one connection and serves it, without `POST /clock`. A connection that stays silent for
+/// 30 seconds ends.
 ///
-/// What a socket said and was told no clause can say. The rows stand afterwards for a state that
-/// some list of the machine's inputs leads to.
+/// The content afterwards refines a state that the machine can reach. Not proved: what is read from
+/// and written to the socket.
+///
+/// # Errors
+///
+/// Those of `serve`; also `Read` if the connection cannot be accepted.
 pub fn serve_next<L: OpenListener, S: Store, T: Ticks>(
     alloc: Global,
     listener: &L,
@@ -105,11 +108,11 @@ where
     serve_stream(alloc, &mut stream, &mut answers, register, ticks)
 }
 
-/// Serves so many connections, or without end, one after the other. What becomes of one is its own:
-/// one that could not be accepted, or was cut, counts, and the next is served.
+/// Serves connections one after another: as many as `connections` says, or without end. A
+/// connection counts even if it could not be accepted or broke off, and the next one is served.
 ///
-/// The rows stand afterwards for a state that some list of the machine's inputs leads to. How many
-/// were served no clause says.
+/// The content afterwards refines a state that the machine can reach. Not proved: how many
+/// connections were served.
 pub fn serve_connections<L: OpenListener, S: Store, T: Ticks>(
     alloc: Global,
     listener: &L,
@@ -136,7 +139,7 @@ where
     }
 }
 
-/// Listens at a port of 127.0.0.1, tells so, and serves.
+/// Listens at a port of 127.0.0.1, reports that to `writer`, and serves connections.
 pub fn listen<T: AllocGlobal + Net + Clock, S: Store, W: Write>(
     rt: &T,
     register: &mut Register<S>,

@@ -1,4 +1,4 @@
-//! Reading the options of a subcommand.
+//! Reads the options of a subcommand.
 ghost use Rattle.std.specs.Prelude.{◌≡◌, IfErr, IfOk, option_map, codes};
 ghost use Rattle.http_messages.specs.Fields.{number_of as number_in};
 ghost use Rattle.clap.specs.Words.{first_of, rows_of, found_of};
@@ -8,7 +8,7 @@ use crate::parse::{CommandLine, Subcommand};
 use clap::ArgMatches;
 use http_messages::read_number;
 
-/// No line: `clap` found no subcommand of ours, or not its options.
+/// The fault that `clap` found no known subcommand, or not its options.
 #[derive(Clone, Copy, PartialEq, Eq, Debug)]
 pub struct NoLine;
 
@@ -18,7 +18,7 @@ fn text_of<'a>(matches: &ArgMatches<'a>, id: &str) -> Option<&'a str>
     matches.get_str(id)
 }
 
-// The number that the text writes in digits.
+// Returns the number below 2^16 that a text has in digits, if it is one.
 fn number_of(text: &str) -> Option<u16>
     ensures { result ≡ small_number (number_in text.now) }
 {
@@ -29,14 +29,14 @@ fn number_of(text: &str) -> Option<u16>
     Some(number as u16)
 }
 
-// The number that an option is given.
+// Returns the number given for an option.
 fn number_under(matches: &ArgMatches<'_>, id: &str) -> Option<u16>
     ensures { result ≡ number_under id.now (rows_of (found_of matches.now)) }
 {
     number_of(text_of(matches, id)?)
 }
 
-// The number that an option is given, if it is.
+// Returns the number given for an option, or `None` if the option is not given.
 fn number_if_any(matches: &ArgMatches<'_>, id: &str) -> Result<Option<u16>, NoLine>
     ensures given { IfOk result (IsNumberIfAny id.now (rows_of (found_of matches.now))) }
     ensures none { IfErr result (λ _. IsNoNumber id.now (rows_of (found_of matches.now))) }
@@ -50,7 +50,7 @@ fn number_if_any(matches: &ArgMatches<'_>, id: &str) -> Result<Option<u16>, NoLi
     }
 }
 
-// The port and the connections of a `serve`.
+// Returns the port and the number of connections of `serve`.
 fn serve_of<'a>(matches: &ArgMatches<'a>) -> Result<Subcommand<'a>, NoLine>
     ensures given { IfOk result (IsSubcommand (codes "serve") (rows_of (found_of matches.now))) }
     ensures none { IfErr result (λ _. IsNoSubcommand (codes "serve")
@@ -63,7 +63,7 @@ fn serve_of<'a>(matches: &ArgMatches<'a>) -> Result<Subcommand<'a>, NoLine>
     Ok(Subcommand::Serve { port, connections })
 }
 
-// The carrier of an `audit`.
+// Returns the carrier of `audit`.
 fn audit_of<'a>(matches: &ArgMatches<'a>) -> Result<Subcommand<'a>, NoLine>
     ensures given { IfOk result (IsSubcommand (codes "audit") (rows_of (found_of matches.now))) }
     ensures none { IfErr result (λ _. IsNoSubcommand (codes "audit")
@@ -97,7 +97,7 @@ fn subcommand_of<'a>(name: &str, matches: &ArgMatches<'a>) -> Result<Subcommand<
     Err(NoLine)
 }
 
-/// The line of a subcommand and its matches.
+/// Returns the command line of a subcommand and its matches.
 pub fn line_of<'a>(name: &str, matches: &ArgMatches<'a>) -> Result<CommandLine<'a>, NoLine>
     ensures given { IfOk result (IsLineOf name.now (rows_of (found_of matches.now))) }
     ensures none { IfErr result (λ _. IsNoLineOf name.now (rows_of (found_of matches.now))) }

@@ -1,4 +1,4 @@
-//! The command line.
+//! Parses command lines.
 ghost use Rattle.std.specs.Prelude.{◌≡◌, ◌≢◌, ◌⊎◌, IfErr, IfOk, IsTrue, map};
 ghost use Rattle.clap.specs.Values.{kind_of};
 ghost use Rattle.clap.specs.declared.error.kind.ErrorKind.TheVariants.{DisplayHelp, DisplayVersion, OutOfMemory as NoRoom};
@@ -12,12 +12,12 @@ use clap::error::ErrorKind;
 use std::alloc::Global;
 use std::convert::AsStr;
 
-/// What a subcommand does, with its own options.
+/// A subcommand with its own options.
 #[derive(Clone, Copy, PartialEq, Eq, Debug)]
 pub enum Subcommand<'a> {
     /// Serves standard input to standard output.
     Feed,
-    /// Serves connections to a port of this machine: so many, or without end.
+    /// Serves connections to a port of this machine: `connections` of them, or without end.
     Serve {
         port: u16,
         connections: Option<u16>,
@@ -26,35 +26,35 @@ pub enum Subcommand<'a> {
     Bulk,
     /// Writes everything in force to standard output.
     Export,
-    /// Compares the copy on standard input with the register, and writes what it finds to standard
+    /// Compares the copy on standard input with the register, and writes the findings to standard
     /// output.
     Audit {
-        /// The carrier whose copy it is, as it is written.
+        /// The SPID of the carrier whose copy it is, as written on the command line.
         spid: &'a str,
     },
 }
 
-/// A command line that is carried out.
+/// A valid command line.
 #[derive(Clone, Copy, PartialEq, Eq, Debug)]
 pub struct CommandLine<'a> {
     pub subcommand: Subcommand<'a>,
-    /// The file of the windows.
+    /// The path of the windows file.
     pub windows: &'a str,
-    /// The file of the messages that are served first, if there is one.
+    /// The path of the file with messages to serve first, if there is one.
     pub feed: Option<&'a str>,
-    /// The file that the register stands in, if it is not memory.
+    /// The path of the database file, or `None` for a register in memory.
     pub db: Option<&'a str>,
 }
 
-/// A text for the user and the exit status that goes with it: 0 for help, 2 for a mistake, 3 where
-/// memory was refused, and then there is no text.
+/// A text for the user and the exit status: 0 for help, 2 for a mistake, 3 without a text if an
+/// allocation failed.
 #[derive(Debug, Drop)]
 pub struct Usage {
     pub text: String,
     pub status: u8,
 }
 
-/// No line for want of memory.
+/// Returns the usage for a failed allocation.
 pub fn no_memory(alloc: Global) -> Usage
     ensures { result.status ≡ 3 }
 {
@@ -64,7 +64,7 @@ pub fn no_memory(alloc: Global) -> Usage
     }
 }
 
-/// A mistake in the words that `clap` does not know of, with the text that tells it.
+/// Returns the usage for a mistake that `clap` does not detect, with its text.
 pub fn mistake(alloc: Global, why: &str) -> Usage
     ensures { IsMistake result.status }
 {
@@ -93,7 +93,8 @@ fn usage_of(alloc: Global, error: &Error) -> Usage
     }
 }
 
-// The first word after the program's name is this name. A subcommand that `clap` found is.
+// Returns whether the word after the program's name is `name`. That holds for a subcommand that
+// `clap` found.
 fn is_second<S: AsStr>(words: &[S], name: &str) -> bool
     ensures { IsTrue result → HasSecond (map S.text words.now) name.now }
 {
@@ -103,9 +104,12 @@ fn is_second<S: AsStr>(words: &[S], name: &str) -> bool
     }
 }
 
-/// Reads the words of a command line, of which the first is the program's name. Where there is no
-/// line, the answer is a text for the user with the exit status: 0 for help, 2 for a mistake in the
-/// words, 3 where memory was refused.
+/// Parses the words of a command line, starting with the program's name.
+///
+/// # Errors
+///
+/// A text for the user with an exit status: 0 for help, 2 for a mistake in the words, 3 if an
+/// allocation failed.
 pub fn parse<'a, S: AsStr>(alloc: Global, words: &'a [S]) -> Result<CommandLine<'a>, Usage>
     ensures line { IfOk result (IsLine (map S.text words.entry.now)) }
     ensures status { IfErr result (λ usage. IsUsage usage.status) }

@@ -1,4 +1,4 @@
-//! What the program tells as it ends, and its exit status.
+//! Reports how the program ends, and returns its exit status.
 ghost use Rattle.std.specs.Prelude.{◌≡◌, OnErr, OnOk, string_bytes};
 ghost use Rattle.std.specs.Io.KnownBytes.{Appends};
 ghost use Rattle.http_messages.specs.Sending.{AppendsFront};
@@ -10,7 +10,7 @@ use http_messages::send_all;
 use std::io;
 use std::io::Write;
 
-// Writes one line, which the program's name begins.
+// Writes one line of the program's name and `name`.
 fn write_line<E: Write>(errors: &mut E, name: &str) -> io::Result<()>
     ensures ok { OnOk result (Appends (E.contents errors.old) (E.contents errors.new)
         (line_of name.now)) }
@@ -22,8 +22,8 @@ fn write_line<E: Write>(errors: &mut E, name: &str) -> io::Result<()>
     send_all(errors, "\n".as_bytes(), true)
 }
 
-/// Tells a fault by one line on the errors, and gives its exit status; 3 where the line could not
-/// be written.
+/// Reports a fault in one line on `errors`. Returns the fault's exit status, or 3 if the line
+/// cannot be written.
 pub fn report_fault<E: Write>(errors: &mut E, fault: Fault) -> u8
     ensures { TellsFault fault (E.contents errors.old) (E.contents errors.new) result }
 {
@@ -33,7 +33,7 @@ pub fn report_fault<E: Write>(errors: &mut E, fault: Fault) -> u8
     }
 }
 
-/// Tells how a line was carried out: nothing and 0 where it was, else its fault.
+/// Reports how a command line was executed: nothing and 0 on success, otherwise the fault.
 pub fn report_outcome<E: Write>(errors: &mut E, outcome: Result<(), Fault>) -> u8
     ensures { TellsOutcome outcome (E.contents errors.old) (E.contents errors.new) result }
 {
@@ -43,7 +43,7 @@ pub fn report_outcome<E: Write>(errors: &mut E, outcome: Result<(), Fault>) -> u
     }
 }
 
-// A text on the errors, of a mistake in the command line.
+// Reports a mistake in the command line on `errors`.
 fn report_mistake<E: Write>(errors: &mut E, text: &str) -> u8
     ensures { TellsMistake text.now (E.contents errors.old) (E.contents errors.new) result }
 {
@@ -53,8 +53,9 @@ fn report_mistake<E: Write>(errors: &mut E, text: &str) -> u8
     }
 }
 
-/// Tells why there is no line: help is written, with 0, and a mistake of the words goes to the
-/// errors, with 2. Where memory was refused, or help cannot be written, that fault is told.
+/// Reports why there is no command line to execute: help goes to `writer` with status 0, a mistake
+/// to `errors` with status 2. If an allocation failed or help cannot be written, reports that
+/// fault.
 pub fn report_usage<W: Write, E: Write>(writer: &mut W, errors: &mut E, usage: &Usage) -> u8
     ensures { TellsUsage usage.now.status (string_bytes usage.now.text)
         (W.contents writer.old) (W.contents writer.new)

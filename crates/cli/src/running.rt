@@ -1,4 +1,4 @@
-//! Carrying out a command line.
+//! Executes command lines.
 ghost use Rattle.std.specs.Prelude.{◌≡◌, ◌≤◌, [], Err, IfErr, IfOk, IfSome, IsOk, IsTrue, OnOk, map};
 ghost use Rattle.model.specs.Content.{empty_content};
 ghost use Rattle.sqlite.specs.Files.{file_state};
@@ -34,7 +34,7 @@ use std::{fs, io};
 use store::MemoryStore;
 use windows::{WindowFault, Windows};
 
-// Why a file was not read.
+// Returns the fault for a file that could not be read.
 fn read_fault(error: io::Error) -> Fault {
     match error.kind() {
         ErrorKind::OutOfMemory => Fault::NoMemory,
@@ -50,7 +50,7 @@ fn windows_at<T: Files + AllocGlobal>(rt: &T, path: &str) -> Result<Windows, Fau
     }
 }
 
-// A connection that ended by a message's fault ends the program by it.
+// Returns how serving ended. A refused message is the program's fault.
 fn ended(served: Result<Served, api::Fault>) -> Result<(), Fault>
     ensures { result ≡ outcome_of served }
 {
@@ -65,12 +65,12 @@ fn ended(served: Result<Served, api::Fault>) -> Result<(), Fault>
     }
 }
 
-// How many bytes of answers are gathered, at most, before they are written.
+// The size of the buffer for answers, in bytes.
 pub(crate) const GATHERED: usize = 65_536;
 
-// Serves the reader to the writer over a register: where its content stands for the first state of
-// some windows, and its device never failed, the answers are those of the history machine from
-// there on. Unless a write fails, all of them are handed on to the writer behind the buffer.
+// Serves `reader` to `writer` over a register. If the content refines the first state for some
+// windows and the device never failed, the answers are the machine's from there on. Unless a write
+// fails, all of them reach the writer after the buffer.
 fn feed_to<S: Store, R: Read, W: Write + Drop>(
     alloc: Global,
     register: &mut Register<S>,
@@ -96,9 +96,8 @@ fn feed_to<S: Store, R: Read, W: Write + Drop>(
     }
 }
 
-// Serves the messages of a reader to a writer, over a store, which is handed back: where nothing
-// was written in it yet and its device never failed, the answers are those of the history machine,
-// from its first state on.
+// Serves `reader` to `writer` over a store, and returns the store. If the store was empty and its
+// device never failed, the answers are those of the machine from its first state on.
 fn feed_over<S: Store, R: Read, W: Write + Drop>(
     alloc: Global,
     store: S,
@@ -125,14 +124,16 @@ fn feed_over<S: Store, R: Read, W: Write + Drop>(
     }
 }
 
-/// Serves the messages of a reader to a writer, over a new register in memory with these windows
-/// and with the path of the clock. The answers are those of the history machine, from its first
-/// state on. Unless a write fails, all of them are handed on to the writer behind the buffer.
+/// Serves the messages of `reader` to `writer` over a new register in memory, with these windows
+/// and `POST /clock`. The answers are those of the machine from its first state on. Unless a write
+/// fails, all of them reach the writer after the buffer.
 ///
-/// Input that ends with a message that is refused with `BadHead`, `TooLarge` or `CutBody` is a
-/// `Fault::Message`, and that message is answered too. A read or a write that fails is a
-/// `Fault::Read` or a `Fault::Write`, memory that is refused a `Fault::NoMemory`, or, for a
-/// register that was not opened, a `Fault::Open`.
+/// # Errors
+///
+/// - `Message` if the input ends with a message refused with `BadHead`, `TooLarge` or `CutBody`; it
+///   is answered too.
+/// - `Read` or `Write` if the reader or the writer fails.
+/// - `NoMemory`, or `Open` while the register is opened, if an allocation fails.
 pub fn feed<R: Read, W: Write + Drop>(
     alloc: Global,
     windows: &Windows,
@@ -149,12 +150,16 @@ pub fn feed<R: Read, W: Write + Drop>(
     outcome
 }
 
-/// The same over the file at a path, which `SqlStore::at` opens, and the store over it behind the
-/// outcome. Where the file was new, its disk returned what was written, the store can still be used
-/// and no failure was counted, the answers are those of the history machine, from its first state
-/// on.
+/// Like `feed`, over the file at `path`, which `SqlStore::at` opens. Returns the store and how
+/// serving ended.
 ///
-/// The refusals are those of `SqlStore::at`.
+/// The answers are those of the machine from its first state on if:
+/// - the file was new, and its disk returned what was written;
+/// - the store is usable afterwards, and counted no failure.
+///
+/// # Errors
+///
+/// Those of `SqlStore::at`.
 pub fn feed_at<S: Start, R: Read, W: Write + Drop>(
     rt: &HostRuntime,
     path: &str,
@@ -174,8 +179,7 @@ pub fn feed_at<S: Start, R: Read, W: Write + Drop>(
     Ok(feed_over(rt.alloc(), store, windows, reader, writer))
 }
 
-// The same to a writer with no buffer, through one that is made for it. What a failed write leaves
-// there is let go.
+// Like `feed`, to a writer without a buffer. Discards what a failed write leaves in the buffer.
 fn feed_gathering<R: Read, W: Write>(
     alloc: Global,
     windows: &Windows,
@@ -190,7 +194,7 @@ fn feed_gathering<R: Read, W: Write>(
     outcome
 }
 
-// The same over a register.
+// Like `feed_gathering`, over a register.
 fn feed_gathering_to<S: Store, R: Read, W: Write>(
     alloc: Global,
     register: &mut Register<S>,
@@ -205,7 +209,7 @@ fn feed_gathering_to<S: Store, R: Read, W: Write>(
     outcome
 }
 
-// The same over the file at a path.
+// Like `feed_gathering`, over the file at `path`.
 fn feed_gathering_at<R: Read, W: Write>(
     rt: &HostRuntime,
     path: &str,
@@ -221,7 +225,7 @@ fn feed_gathering_at<R: Read, W: Write>(
     fed.map_err(open_fault)
 }
 
-// Serves the messages of a file, whose answers nobody sees.
+// Serves the messages of a file, and discards the answers.
 fn feed_file<T: Files + AllocGlobal, S: Store>(
     rt: &T,
     register: &mut Register<S>,
@@ -240,7 +244,7 @@ fn feed_file<T: Files + AllocGlobal, S: Store>(
     ))
 }
 
-// A file that was read or written whole, or broke off, ends the program so.
+// Returns how the work on a file ended, as the program's outcome.
 fn file_ended(ran: Result<u64, BulkFault>) -> Result<(), Fault>
     ensures done { OnOk ran (IsOk result) }
     ensures broken { IfErr ran (λ fault. result ≡ Err (Fault.File fault.kind)) }
@@ -251,7 +255,7 @@ fn file_ended(ran: Result<u64, BulkFault>) -> Result<(), Fault>
     }
 }
 
-// Feeds the file of `--feed` to a register, and then does what the subcommand does.
+// Serves the file of `--feed` to a register, and then executes the subcommand.
 fn run_on<T: Files + AllocGlobal + Net + Clock, S: Store, R: Read, W: Write>(
     rt: &T,
     register: &mut Register<S>,
@@ -275,7 +279,7 @@ fn run_on<T: Files + AllocGlobal + Net + Clock, S: Store, R: Read, W: Write>(
     }
 }
 
-// Carries out a line over a store, which is handed back.
+// Executes a command line over a store, and returns the store.
 fn run_over<T: Files + AllocGlobal + Net + Clock, S: Store, R: Read, W: Write>(
     rt: &T,
     store: S,
@@ -294,7 +298,7 @@ fn run_over<T: Files + AllocGlobal + Net + Clock, S: Store, R: Read, W: Write>(
     }
 }
 
-// What is told of a file that is not opened. What is left of it is closed.
+// Returns the fault for a file that could not be opened, and closes what is open of it.
 fn open_fault(refused: (FileFault, UnopenedAt<Unknown>)) -> Fault {
     let (fault, _left) = refused;
     Fault::Open(match fault {
@@ -304,7 +308,7 @@ fn open_fault(refused: (FileFault, UnopenedAt<Unknown>)) -> Fault {
     })
 }
 
-// Carries out a line over the file of `--db`, which is closed behind it.
+// Executes a command line over the file of `--db`, and closes it.
 fn run_at<R: Read, W: Write>(
     rt: &HostRuntime,
     path: &str,
@@ -331,7 +335,7 @@ fn run_at<R: Read, W: Write>(
     }
 }
 
-// Carries out a line. A plain `feed` is the function that says what it answers.
+// Executes a command line. A plain `feed` calls the function whose contract states its answers.
 fn run_line<R: Read, W: Write>(
     rt: &HostRuntime,
     line: &CommandLine<'_>,
@@ -350,13 +354,17 @@ fn run_line<R: Read, W: Write>(
     }
 }
 
-/// Carries out the words of a command line, of which the first is the program's name, and gives the
-/// exit status: 0 done, or help; 1 a file that is refused, or messages that ended by a fault; 2 the
-/// command line; 3 memory, a read or a write. With 1 and 3 one line `npacd: ` and the fault's name
-/// goes to the errors, unless it cannot be written.
+/// Executes the words of a command line, starting with the program's name, and returns the exit
+/// status:
+/// - 0 after success or help;
+/// - 1 if a file or a message was refused;
+/// - 2 for a mistake in the command line;
+/// - 3 if an allocation, a read or a write failed.
 ///
-/// The windows file comes first, then the file of `--db`, then that of `--feed`, then the
-/// subcommand: nothing is done behind the first fault.
+/// With 1 and 3, writes `npacd: ` and the fault's name as one line to `errors`, unless that fails.
+///
+/// Reads the windows file first, then the file of `--db`, then that of `--feed`, and then executes
+/// the subcommand. Stops at the first fault.
 pub fn run<S: AsStr, R: Read, W: Write, E: Write>(
     rt: &HostRuntime,
     words: &[S],

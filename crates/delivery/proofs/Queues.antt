@@ -1,4 +1,4 @@
--- Keys of waiting downloads, and the downloads themselves.
+-- Keys of pending downloads, beside the downloads.
 use Rattle.std.proofs.Common.{◌≡◌, ℕ, Bool, true, false, not, cond, ◌&&◌, ◌||◌, List, [], ◌∷◌, Some, None, refl, ap, sym, ◌∙◌}
 use Rattle.std.specs.Prelude.{find, is_some, if◌then◌else◌, ◌==◌, nat_lt}
 use Rattle.std.specs.List.{list_any}
@@ -19,7 +19,7 @@ any_found test (x ∷ xs) = by_cases (any_found test xs) (test x)
     by_cases later true = refl
     by_cases later false = later
 
--- ---- the keys say what the downloads say
+-- ---- keys agree with downloads
 
 module _ (s : Subject) (P : Download → Bool) (Q : DownloadKey
     → Bool) (same : (k : DownloadKey) (d : Download) → IsKeyOf s k d → P d ≡ Q k) where
@@ -80,7 +80,7 @@ module _ (s : Subject) (ks : List DownloadKey) (ds : List Download) (are : AreKe
       ap not (any_same s (is_download id attempt) (is_key id attempt) (key_same s id attempt) ks ds
       are)
 
-  -- the keys and the downloads are refused alike
+  -- The keys and the downloads lead to the same refusal.
   pub refused_alike : key_refusal ks id attempt ≡ queue_refusal ds id attempt
   refused_alike =
       sym (ap (λ b. if b then Some 25 else (if is_preceded ds id attempt then Some 26 else None))

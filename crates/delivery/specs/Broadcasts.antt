@@ -1,4 +1,4 @@
--- What the definitions see of the code's broadcasts.
+-- The models of broadcasts.
 use Rattle.std.specs.Prelude.{ℕ, Bool, true, false, List, [], Option, option_map}
 use Rattle.numbers.specs.Subjects.{Subject}
 use Rattle.numbers.specs.Routings.{Routing}
@@ -10,7 +10,7 @@ use Rattle.model.specs.declared.words.Outcome.TheVariants.{Open, AllAcknowledged
 use Rattle.model.specs.Versions.{Broadcast, is_open_broadcast, with_number}
 use Rattle.model.specs.Content.{BroadcastRow, is_nonempty}
 
--- a broadcast of the code is the row of one
+-- The row of a broadcast of the code.
 abbrev pub row_of : BroadcastImpl → BroadcastRow
 row_of b = record {
   minute = b.minute.number;
@@ -21,7 +21,7 @@ row_of b = record {
   any = b.is_acknowledged;
 }
 
--- the row of a broadcast of the subject
+-- The row of a broadcast of the subject.
 abbrev pub broadcast_row : Subject → Broadcast → BroadcastRow
 broadcast_row s b = record {
   minute = b.minute;
@@ -32,7 +32,7 @@ broadcast_row s b = record {
   any = is_nonempty b.acknowledged;
 }
 
--- a broadcast as it begins: to every carrier that there is
+-- A new broadcast, to every registered carrier.
 abbrev pub new_broadcast : (attempt minute : ℕ) → Action → Option Routing → (all_carriers : List ℕ)
     → Broadcast
 new_broadcast attempt minute action routing all_carriers = record {
@@ -45,7 +45,7 @@ new_broadcast attempt minute action routing all_carriers = record {
   outcome = Open;
 }
 
--- the last recipient closes a broadcast that is open
+-- The outcome after an acknowledgement: the last recipient's closes an open broadcast.
 abbrev pub outcome_after : (is_last : Bool) → Outcome → Outcome
 outcome_after true Open = AllAcknowledged
 outcome_after false Open = Open
@@ -53,15 +53,15 @@ outcome_after is_last AllAcknowledged = AllAcknowledged
 outcome_after is_last SomeAcknowledged = SomeAcknowledged
 outcome_after is_last NoneAcknowledged = NoneAcknowledged
 
--- a broadcast after the acknowledgement of the carrier c
+-- The broadcast after an acknowledgement by carrier c.
 abbrev pub after_acknowledgement : (c : ℕ) → (is_last : Bool) → Broadcast → Broadcast
 after_acknowledgement c is_last b = record b {
   acknowledged = with_number c b.acknowledged;
   outcome = outcome_after is_last b.outcome;
 }
 
--- how a broadcast for which some carrier waits stands: once its window ended it is partly
--- acknowledged
+-- The outcome of a broadcast that is pending for some carrier: partly acknowledged once its window
+-- has ended.
 abbrev pub outcome_while_waited : (is_open : Bool) → Outcome
 outcome_while_waited true = Open
 outcome_while_waited false = SomeAcknowledged

@@ -1,4 +1,4 @@
--- What the definitions see of a carrier's own copy, and of what is handed to it.
+-- The models of downloads and of a carrier's copy.
 use Rattle.std.specs.Prelude.{Option, Some, option_map}
 use Rattle.std.specs.Ordering.{nat_cmp, on}
 use Rattle.std.specs.BTreeMap.{BTreeMap, get}
@@ -10,7 +10,7 @@ use Rattle.model.specs.State.{Download, InForce}
 use Rattle.delivery.specs.declared.download.Download.{Download as DownloadImpl}
 use Rattle.delivery.specs.declared.mirror.RoutedRow.{RoutedRow}
 
--- a download of the code
+-- The model of a download.
 abbrev pub download_of : DownloadImpl → Download
 download_of d = record {
   id = d.id;
@@ -21,10 +21,10 @@ download_of d = record {
   routing = option_map routing_of d.routing;
 }
 
--- what is in force, with its routing
+-- A subject in force, with its routing.
 abbrev pub in_force_of : RoutedRow → InForce
 in_force_of r = record { subject = subject_of r.subject; routing = Some (routing_of r.routing) }
 
--- where a copy routes a subject
+-- The routing of a subject in a copy.
 abbrev pub routing_in_copy : BTreeMap SubjectImpl RoutingImpl → SubjectImpl → Option Routing
 routing_in_copy routings s = option_map routing_of (get (on key_of nat_cmp) routings s)

@@ -1,4 +1,4 @@
--- The number of the refusal that a call answered with.
+-- The number of the refusal in a result, if it is one.
 use Rattle.std.specs.Prelude.{ℕ, Option, Some, None}
 use Rattle.std.specs.Prelude.{Result, Ok, Err}
 use Rattle.model.specs.declared.refusal.Refusal.{Refusal}

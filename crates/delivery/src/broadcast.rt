@@ -1,4 +1,4 @@
-//! One send of a version.
+//! Broadcasts: attempts of versions, as sent to the carriers.
 ghost use Rattle.std.specs.Prelude.{◌≡◌, ℕ, List, Some, option_map};
 ghost use Rattle.numbers.specs.Subjects.{Subject as SubjectModel};
 ghost use Rattle.numbers.specs.Abstraction.{routing_of, subject_of};
@@ -9,22 +9,23 @@ ghost use Rattle.delivery.specs.Broadcasts.{after_acknowledgement, new_broadcast
 use model::{Action, Outcome};
 use numbers::{Minute, Routing, Subject};
 
-/// One send of a version to every carrier: open until its last recipient acknowledges it or its
-/// window ends. A create and a modify carry the routing that they put, a delete none.
+/// An attempt of a version, as sent to every carrier. It is open until its last recipient
+/// acknowledges it or its window ends. A create and a modify have the new routing; a delete has
+/// none.
 #[derive(Clone, Copy, Debug, PartialEq, Eq)]
 pub struct Broadcast {
-    /// The minute in which it was sent.
+    /// The minute of sending.
     pub minute: Minute,
     pub subject: Subject,
     pub action: Action,
     pub routing: Option<Routing>,
     pub is_open: bool,
-    /// Whether any recipient has acknowledged it.
+    /// Whether some recipient has acknowledged it.
     pub is_acknowledged: bool,
 }
 
 impl Broadcast {
-    /// A broadcast that begins: open, and acknowledged by nobody.
+    /// Creates a broadcast that is open and that no carrier has acknowledged.
     pub fn send(
         minute: Minute,
         subject: Subject,
@@ -47,7 +48,7 @@ impl Broadcast {
         }
     }
 
-    /// The broadcast after one recipient more has acknowledged it. The last one closes it.
+    /// Returns the broadcast after another acknowledgement. The last one closes it.
     pub fn acknowledged(&self, is_last: bool) -> Broadcast
         ensures { (s : SubjectModel) (b : BroadcastModel) (c : ℕ)
             → row_of self.now ≡ broadcast_row s b
@@ -60,8 +61,8 @@ impl Broadcast {
         }
     }
 
-    /// How the broadcast stands while recipients are missing, or once none is: a broadcast that was
-    /// closed before stays partly acknowledged.
+    /// Returns the outcome; `is_last` says that no recipient is left. A broadcast that was closed
+    /// before stays partly acknowledged.
     pub fn outcome(&self, is_last: bool) -> Outcome
         ensures { result ≡ outcome_after is_last (outcome_while_waited self.now.is_open) }
     {

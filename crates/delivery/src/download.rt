@@ -1,4 +1,4 @@
-//! Downloads that wait for a carrier.
+//! Downloads pending for a carrier.
 ghost use Rattle.std.specs.Prelude.{◌≡◌, ℕ, List, IfOk, Some, find};
 ghost use Rattle.delivery.specs.Refused.{refusal_in};
 ghost use Rattle.delivery.specs.Queues.{AreKeysOf, has_earlier, is_behind, is_earlier, is_key, key_refusal, queue_refusal};
@@ -8,22 +8,21 @@ ghost use Rattle.model.specs.State.{Download as DownloadModel};
 use model::{Action, Refusal};
 use numbers::{Minute, Routing, Subject};
 
-/// A broadcast as a carrier is handed it: a create or a modify with the routing that it puts, or a
-/// delete.
+/// A broadcast as a carrier receives it: a create or a modify with the new routing, or a delete.
 #[derive(Clone, Copy, Debug, PartialEq, Eq)]
 pub struct Download {
     /// The version's id.
     pub id: u64,
     pub attempt: u64,
-    /// The minute in which it was sent.
+    /// The minute of sending.
     pub minute: Minute,
     pub subject: Subject,
     pub action: Action,
     pub routing: Option<Routing>,
 }
 
-/// A download by its broadcast's minute, its version's id and its attempt: the order of a carrier's
-/// queue.
+/// The key of a download: its broadcast's minute, its version's id and its attempt. Keys order a
+/// carrier's queue.
 #[derive(Clone, Copy, Debug, PartialEq, Eq, PartialOrd, Ord)]
 pub struct DownloadKey {
     pub minute: Minute,
@@ -77,11 +76,15 @@ fn acknowledgeable(waiting: &[DownloadKey], id: u64, attempt: u64) -> Result<Dow
     Ok(found)
 }
 
-/// Whether a carrier may acknowledge an attempt of a version. `waiting` are the downloads of the
-/// version's subject that wait for the carrier.
+/// Decides whether a carrier may acknowledge an attempt of a version, and returns the download's
+/// key.
 ///
-/// Refused with `NotQueued` where no such download waits, and with `OutOfOrder` while an earlier
-/// download of the subject does.
+/// `waiting` are the downloads of the version's subject that are pending for the carrier.
+///
+/// # Errors
+///
+/// `NotQueued` if no such download is pending; then `OutOfOrder` if an earlier one of the subject
+/// is.
 pub fn may_acknowledge(
     waiting: &[DownloadKey],
     id: u64,

@@ -1,4 +1,4 @@
-//! Broadcasts of subscription versions to the carriers, and what waits for whom.
+//! Broadcasts of subscription versions to the carriers, and the downloads pending for each.
 #![tactic(auto)]
 
 mod broadcast;

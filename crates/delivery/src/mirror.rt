@@ -1,4 +1,4 @@
-//! A carrier's own copy.
+//! A carrier's copy of what is in force.
 ghost use Rattle.std.specs.Prelude.{◌≡◌, map, None, option_map, IfOk, OnOk, OnErr};
 ghost use Rattle.numbers.specs.Abstraction.{routing_of, subject_of};
 ghost use Rattle.numbers.specs.declared.ported.Subject.{Subject as SubjectImpl};
@@ -10,23 +10,24 @@ use numbers::{Routing, Subject};
 use std::alloc::{AllocError, Global};
 use std::collections::BTreeMap;
 
-/// Something in force, and where it is routed.
+/// A subject in force, and its routing.
 #[derive(Clone, Copy, Debug, PartialEq, Eq)]
 pub struct RoutedRow {
     pub subject: Subject,
     pub routing: Routing,
 }
 
-/// A carrier's own copy of what is in force: it is started with the rows that the carrier's
-/// registration answered, and then each download is applied to it that the carrier acknowledges, in
-/// order. It routes calls without asking the register.
+/// A carrier's copy of what is in force, which routes calls without asking the register.
+///
+/// It starts with the rows that the carrier's registration returned. After that, each download that
+/// the carrier acknowledges is applied, in order.
 #[derive(Drop)]
 pub struct Mirror {
     alloc: Global,
     routings: BTreeMap<Subject, Routing>,
 }
 
-// A map of these rows. Of two rows of one subject the later one counts.
+// Returns a map of these rows. Of two rows of one subject the later one counts.
 fn routings_of(alloc: Global, rows: &[RoutedRow]) -> Result<BTreeMap<Subject, Routing>, AllocError>
     ensures { IfOk result (λ routings. (s : SubjectImpl)
         → routing_in_copy routings s ≡ copy_of_rows (map in_force_of rows.now) (subject_of s)) }
@@ -39,7 +40,7 @@ fn routings_of(alloc: Global, rows: &[RoutedRow]) -> Result<BTreeMap<Subject, Ro
 }
 
 impl Mirror {
-    /// An empty copy.
+    /// Creates an empty copy.
     pub fn new(alloc: Global) -> Mirror
         ensures { (s : SubjectImpl) → routing_in_copy result.routings s ≡ None }
     {
@@ -49,9 +50,12 @@ impl Mirror {
         }
     }
 
-    /// The copy is these rows from now on, and nothing else: those that the carrier's registration
-    /// answered. Of two rows of one subject the later one counts. After want of memory the copy is
-    /// as it was.
+    /// Replaces the copy with these rows, which the carrier's registration returned. Of two rows of
+    /// one subject the later one counts.
+    ///
+    /// # Errors
+    ///
+    /// `AllocError` if an allocation fails; the copy is then unchanged.
     pub fn start(&mut self, rows: &[RoutedRow]) -> Result<(), AllocError>
         ensures started { OnOk result ((s : SubjectImpl)
             → routing_in_copy self.new.routings s ≡ copy_of_rows (map in_force_of rows.now)
@@ -62,9 +66,12 @@ impl Mirror {
         Ok(())
     }
 
-    /// Applies a download: a create or a modify puts its routing in place of what the copy had of
-    /// its subject, a delete takes that away. After want of memory the copy is as it was, and a
-    /// delete takes none.
+    /// Applies a download: a create or a modify sets the routing of its subject, a delete removes
+    /// it.
+    ///
+    /// # Errors
+    ///
+    /// `AllocError` if an allocation fails; the copy is then unchanged. A delete allocates nothing.
     pub fn apply(&mut self, download: &Download) -> Result<(), AllocError>
         ensures applied { OnOk result ((s : SubjectImpl)
             → routing_in_copy self.new.routings s
@@ -84,7 +91,7 @@ impl Mirror {
         Ok(())
     }
 
-    /// Where the subject is routed by this copy, if it has it. It takes no memory.
+    /// Returns the routing of the subject in this copy, if it has one. Allocates nothing.
     pub fn get(&self, subject: Subject) -> Option<Routing>
         ensures { option_map routing_of result ≡ routing_in_copy self.now.routings subject }
     {

@@ -1,4 +1,4 @@
--- Empty lines, by the test and as the grammar has them.
+-- Empty lines: the code's test, and the grammar.
 use Rattle.std.proofs.Common.{◌≡◌, ℕ, ◌++◌, List, [], ◌∷◌, Bool, true, false, not, ◌&&◌, cond, Option, Some, None, refl, sym, ap, ◌∙◌, subst, append-nil}
 use Rattle.std.proofs.lemmas.Bool.{eqb-true}
 use Rattle.std.specs.Prelude.{IfSome, ◌==◌}
@@ -13,7 +13,7 @@ lines_are_blank [] = refl
 lines_are_blank (lf ∷ ends) = lines_are_blank ends
 lines_are_blank (crlf ∷ ends) = lines_are_blank ends
 
--- the lines that the bytes are, behind a CR where the flag says so
+-- Holds if the bytes are empty lines, after a CR if the flag is true.
 abbrev AreLines : Bool → List ℕ → Type 0
 AreLines true s = IsEmptyLines (13 ∷ s)
 AreLines false s = IsEmptyLines s
@@ -45,7 +45,7 @@ lines true [] h = cc
 lines false [] h = ([], refl)
 lines cr (b ∷ s) h = lines_by cr b s (b == 10) (b == 13) refl refl (lines false s) (lines true s) h
 
--- where the input ended, what is held is all of it
+-- At the end of the input the buffered bytes are all of it.
 all_is : (all r : Option (List ℕ)) (held : List ℕ) (P : List ℕ → Type 0)
     → Keeps all (prepend_known held r) → IsAtEnd r → P held → IfSome all P
 all_is None r held P k end h = tt
@@ -67,7 +67,7 @@ known : (held : List ℕ) (r : Option (List ℕ)) (P : List ℕ → Type 0)
 known held None P f = tt
 known held (Some more) P f = f more
 
--- the ways of a front that is no empty line
+-- ---- inputs that do not begin with an empty line
 pub not_blank_end : (held : List ℕ) (r : Option (List ℕ)) → is_blank held ≡ false → IsAtEnd r
     → IfSome (prepend_known held r) (λ input. ¬ (IsBlank input))
 not_blank_end held None e end = tt

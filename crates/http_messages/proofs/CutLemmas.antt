@@ -1,4 +1,4 @@
--- An input is cut in one way alone.
+-- An input parses in one way only.
 use Rattle.std.proofs.Common.{◌≡◌, ℕ, ◌<◌, ◌≤◌, List, [], ◌∷◌, ◌++◌, length, drop, get_or, codes, ◌/◌, ◌%◌, Option, Some, None, refl, sym, ap, ◌∙◌, subst, arith, length-append}
 use Rattle.std.proofs.Math.Bool.{Bool-set}
 use Rattle.httparse.specs.Grammar.{RequestHead}
@@ -87,9 +87,9 @@ one_message input a b body text rest left one x y =
     ∙ sym y.whole) heads.1 in
     λ i. WholeMessage (asked i) (split.0 i) (split.1 i)
 
--- ---- one of what stands in place of a message
+-- ---- one parse
 
--- a head of the input says this length, and so many bytes are behind it
+-- Holds if the input begins with a head that gives this length, and `behind` bytes follow the head.
 abbrev Says : List ℕ → ℕ → ℕ → Type 0
 Says input size behind = (h : RequestHead) × (rest : List ℕ) × HasHead input h rest
     × (body_length h ≡ Some size) × (behind ≡ length rest)

@@ -1,3 +1,4 @@
+-- The values of the fields with a name, field by field.
 use Rattle.std.proofs.Common.{◌≡◌, ℕ, ◌+◌, ◌<◌, List, [], ◌∷◌, ◌++◌, length, take, get_or, map, Bool, true, false, ◌||◌, drop, cond, refl, ap, ◌∙◌, sym, subst, arith, ◌≤◌, length-append}
 use Rattle.std.specs.Str.{bytes_eq}
 use Rattle.std.proofs.lemmas.Slice.Eq.{bytes_eq-Decides}
@@ -63,7 +64,7 @@ found_again buf Absent vs ws v n h w = absurd (n refl)
 found_again buf (Once s) vs ws v n h w = rw (w, h.0) (omega arith)
 found_again buf Twice vs ws v n h w = rw w (omega (arith, length-append vs (v ∷ [])))
 
--- whether some value of a name passes a test
+-- Whether some value of the fields with this name passes the test.
 abbrev pub any_value : (List ℕ → Bool) → List ℕ → List ℕ → List HeaderSpan → Bool
 any_value P name buf hs = list_any P (values_in name (map (header_bytes buf) hs))
 

@@ -1,3 +1,4 @@
+-- The buffered bytes, as reads add to them and consumers drop them.
 use Rattle.std.proofs.Common.{◌≡◌, ℕ, ◌+◌, ◌-◌, ◌≤◌, List, ◌++◌, length, take, drop, ap, ◌∙◌, sym, arith, append_assoc, append-nil, [], ◌∷◌, refl, Option, Some, None, length-drop}
 use Rattle.std.specs.Io.KnownBytes.{Keeps, prepend_known}
 use Rattle.std.specs.Vec.{with_items}
@@ -16,7 +17,7 @@ taken_more old buf post f n h k =
     ∙ take-append-add (take f old) (buf ++ post) n ∙ ap (λ (t : List ℕ). take f old ++ t)
     (take-append-le n buf post k)
 
--- what a read puts behind the held bytes, which begin at start, is held behind them
+-- What a read puts after the buffered bytes, which begin at start, is buffered after them.
 pub held_more : (old new : List ℕ) (start filled n : ℕ) (had has : Option (List ℕ))
     (r : ReadsAt old new filled n had has) → start ≤ filled → filled ≤ length old
     → take (filled + n - start) (drop start new) ≡ take (filled - start) (drop start old) ++ r.more
@@ -38,7 +39,7 @@ more_held items old new held start filled n had has r e s f h =
     held_more old new start filled n had has r s f ∙ ap (λ (t : List ℕ). t ++ r.more)
     (ap (λ (t : List ℕ). take (filled - start) (drop start t)) e ∙ h)
 
--- a read that gave nothing leaves what is held
+-- A read of no bytes leaves the buffered bytes.
 pub none_more : (old new held held' : List ℕ) (filled n : ℕ) (had has : Option (List ℕ))
     (r : ReadsAt old new filled n had has) → held' ≡ held ++ r.more → n ≡ 0 → held' ≡ held
 none_more old new held held' filled n had has r e z =
@@ -53,7 +54,7 @@ Keeps-read old new held held' filled n (Some xs) (Some ys) r e =
     ap (λ (t : List ℕ). t ++ ys) e ∙ append_assoc held r.more ys ∙ ap (λ (t : List ℕ). held ++ t)
     (sym r.read)
 
--- a read that failed leaves what is held
+-- A read that failed leaves the buffered bytes.
 held_kept : (items old new : List ℕ) (start filled : ℕ) → old ≡ items → start ≤ filled
     → take filled new ≡ take filled old
     → take (filled - start) (drop start new) ≡ take (filled - start) (drop start items)
@@ -80,7 +81,7 @@ Keeps-same held held' (Some xs) None e k = absurd k
 Keeps-same held held' (Some xs) (Some ys) e k =
     ap (λ (t : List ℕ). t ++ ys) e ∙ ap (λ (t : List ℕ). held ++ t) k
 
--- to hold from so much further on is to drop the front
+-- Raising the start by n drops the first n buffered bytes.
 pub front_dropped : (xs : List ℕ) (start filled n : ℕ) → n ≤ filled - start
     → take (filled - (start + n)) (drop (start + n) xs)
     ≡ drop n (take (filled - start) (drop start xs))
@@ -90,7 +91,7 @@ front_dropped xs start filled n h =
     ∙ sym (drop-take n (filled - (start + n)) (drop start xs))
     ∙ ap (λ (m : ℕ). drop n (take m (drop start xs))) sum
 
--- how much is held
+-- The number of buffered bytes.
 pub held_length : (held : ReadBuffer) → length (buffered_bytes held) ≡ held.filled - held.start
 held_length held = length-take-le (held.filled - held.start) (drop held.start held.bytes.items)
     (omega (

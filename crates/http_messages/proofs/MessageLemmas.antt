@@ -1,4 +1,4 @@
--- The front of the input, by what is held of it.
+-- What the buffered bytes say of the start of the input.
 use Rattle.std.proofs.Common.{◌≡◌, ℕ, ◌<◌, ◌≤◌, List, [], ◌∷◌, ◌++◌, length, take, drop, Option, Some, None, refl, sym, ap, ◌∙◌, subst, arith, length-append, vec_len}
 use Rattle.std.specs.Prelude.{IfSome}
 use Rattle.std.specs.Io.KnownBytes.{Consumes, Keeps, prepend_known}
@@ -24,7 +24,7 @@ pub held_short : (held : ReadBuffer) → vec_len held.bytes ≡ 8192
 held_short held size =
     omega (arith, held_length held, held.fits, size)
 
--- a head of so many bytes is at the front of what is held
+-- Holds if the buffered bytes begin with a head of this length.
 pub record HoldsHead (all r : Option (List ℕ)) (held : List ℕ) (len : ℕ)
     (h : RequestHead) : Type 0 where
   pub keeps : Keeps all (prepend_known held r)
@@ -73,8 +73,7 @@ message_made (Some input) (Some more) (Some rest) held held' body len h request 
       },
     )
 
--- a message that is held whole: its body is taken off what is held behind its head, by a body that
--- was empty
+-- A message that is buffered whole is taken, with its body in a buffer that was empty.
 pub taken_made : (r : Option (List ℕ)) (held held' held'' body body' : List ℕ) (len : ℕ)
     (h : RequestHead) (request : Request)
     → HoldsHead (prepend_known held r) r held len h → IsRequestOf h request
@@ -117,7 +116,7 @@ cut_made (Some input) (Some more) held held' len h request x asks small e short 
   short = subst (λ (t : List ℕ). length (t ++ more) < request.length) e short;
 }
 
--- what a head of the input says of its body, every head says
+-- Holds if no input begins with two heads.
 abbrev pub OneHead : Type 0
 OneHead = (s : List ℕ) (h k : RequestHead) (r q : List ℕ) → HasHead s h r → HasHead s k q
     → (h ≡ k) × (r ≡ q)

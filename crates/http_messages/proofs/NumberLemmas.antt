@@ -1,3 +1,4 @@
+-- The number that digits write, digit by digit.
 use Rattle.std.proofs.Common.{◌≡◌, ℕ, ◌+◌, ◌-◌, ◌*◌, ◌^◌, ◌<◌, ◌≤◌, List, [], ◌∷◌, ◌++◌, length, take, drop, get_or, Bool, true, false, ◌&&◌, cond, Option, Some, None, refl, ap, ◌∙◌, sym, arith, lit<, add-one}
 use Rattle.std.proofs.Math.Nat.{pow-le-pow_right, pow-suc}
 use Rattle.std.proofs.lemmas.Bool.Decides.{nat_tests}
@@ -28,7 +29,7 @@ digits-append (x ∷ xs) ys =
 pub digit_is : (c : ℕ) → is_ascii_digit c ≡ true → (48 ≤ c) × (c < 58) × (digit_value c ≡ c - 48)
 digit_is c h = (grind (arith, nat_tests), grind (arith, nat_tests), grind (arith, nat_tests))
 
--- the digits so far and their number
+-- Holds if the first i bytes are digits and write n.
 pub record IsSoFar (v : List ℕ) (i n : ℕ) : Type 0 where
   pub digits : all_ascii_digits (take i v) ≡ true
   pub value : n ≡ digits_value 10 (take i v)
@@ -58,7 +59,7 @@ pub none_number : (v : List ℕ) → all_ascii_digits v ≡ false → None ≡ n
 none_number v h =
     rw h (none_by (nat_lt 0 (length v)) (nat_le (length v) 19) (Some (digits_value 10 v)))
 
--- a byte that is no digit
+-- A byte that is no digit makes the text no number.
 pub not_digits : (v : List ℕ) (i : ℕ) → i < length v → is_ascii_digit (get_or v i 0) ≡ false
     → all_ascii_digits v ≡ false
 not_digits v i l d =

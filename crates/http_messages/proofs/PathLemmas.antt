@@ -22,7 +22,7 @@ abbrev are_bytes : List ℕ → Bool
 are_bytes [] = true
 are_bytes (x ∷ t) = nat_lt x 256 && are_bytes t
 
--- all tokens of each row are bytes
+-- Holds if all tokens of each row are bytes.
 abbrev AreFixed : {K : Type 0} → RowsOf K → Type 0
 AreFixed [] = Unit {0}
 AreFixed (row ∷ rs) = (are_bytes row.0 ≡ true) × AreFixed rs
@@ -61,7 +61,7 @@ module _ {K : Type 0} where
   step_fixed b ((x ∷ u, key) ∷ rs) h =
       fixed_by u key (step b rs) (x == b) (and_both _ _ h.0).1 (step_fixed b rs h.1)
 
-  -- no row goes on with a token that is no byte
+  -- No row continues with a token that is no byte.
   no_token : (token : ℕ) (rs : RowsOf K) → 255 < token → AreFixed rs → step token rs ≡ []
   no_token token [] l h = refl
   no_token token (([], key) ∷ rs) l h = no_token token rs l h.1
@@ -84,7 +84,7 @@ module _ {K : Type 0} where
   none_by true m p h = h _
   none_by false m p h = h _
 
-  -- nothing is found among no rows
+  -- A search among no rows finds nothing.
   seek_none : (n : ℕ) (p : List ℕ) → seek {K = K} n [] p ≡ None
   unfolding seek param_step
   seek_none n [] = refl
@@ -145,7 +145,7 @@ found_path target r e = sym (ap (option_map (λ (r : RouteOf Route). r.value)) e
 pub no_path : (target : List ℕ) → first table target ≡ None → None ≡ path_among paths target
 no_path target e = sym (ap (option_map (λ (r : RouteOf Route). r.value)) e) ∙ path_is target
 
--- what is no text is no path
+-- What is not UTF-8 is no constant path.
 not_among_by : (p : List ℕ × Route) (rest : Option Route) (target : List ℕ) (c : Bool)
     → bytes_eq p.0 target ≡ c → IsUtf8 p.0 → ¬ (IsUtf8 target) → None ≡ rest
     → None ≡ cond c (Some p.1) rest
@@ -177,7 +177,7 @@ are_texts = all_texts paths refl
 pub no_text : (target : List ℕ) → ¬ (IsUtf8 target) → None ≡ path_among paths target
 no_text target n = not_among paths target are_texts n
 
--- where no row conflicts with the new one, it is refused for want of memory alone
+-- If no row conflicts with the new one, only an allocation failure refuses it.
 is_memory : {T : Type 0} (p : List ℕ) (rs : RowsOf (RouteOf T)) (e : InsertError)
     → nearest p rs ≡ None → Refused p rs e → e ≡ OutOfMemory
 is_memory p rs (Conflict with) none h = cc
@@ -186,7 +186,7 @@ is_memory p rs InvalidParamSegment none h = elim h [ ]
 is_memory p rs InvalidParam none h = elim h [ ]
 is_memory p rs InvalidCatchAll none h = elim h [ ]
 
--- where the first path and all behind it can be placed, those behind it can once it is
+-- If the first path and all after it can be placed, those after it can once the first is.
 module _ (old new rows : RowsOf (RouteOf Route)) (ps : List (List ℕ × Route)) where
   abbrev pub IsPlaced : Result (Unit {0}) InsertError → Type 0
   IsPlaced r = OnOk r (all_placed ps new ≡ Some rows) × IfErr r (λ e. e ≡ OutOfMemory)
@@ -211,7 +211,7 @@ module _ (old new rows : RowsOf (RouteOf Route)) (ps : List (List ℕ × Route))
       → IsPlaced r
   placed_on p r put all = by_read p.1 (parse_route p.0) r put all
 
--- and so the next of the code's paths
+-- The code's next path is placed.
 pub placed_next : (all : List (Bor (List ℕ) × Route)) (i : ℕ) (default : Bor (List ℕ) × Route)
     (old new rows : RowsOf (RouteOf Route)) (r : Result (Unit {0}) InsertError) → i < length all
     → InsertsRead (parse_route (get_or all i default).0.now) (get_or all i default).1 old new r

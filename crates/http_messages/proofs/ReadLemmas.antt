@@ -1,4 +1,4 @@
--- How much was read of the input.
+-- How much of the input was read.
 use Rattle.std.proofs.Common.{◌≡◌, ℕ, ◌<◌, ◌≤◌, List, [], ◌++◌, length, drop, Option, Some, None, refl, sym, ap, ◌∙◌, subst, arith, append_assoc, length-append}
 use Rattle.std.specs.Prelude.{IfSome}
 use Rattle.std.specs.Io.KnownBytes.{Consumes, Keeps, prepend_known}
@@ -13,7 +13,7 @@ use Rattle.http_messages.specs.declared.message.Request.{Request}
 use Rattle.http_messages.proofs.MessageLemmas.{HoldsHead}
 use Rattle.numbers.proofs.Small.{some_is}
 
--- all that was read is held
+-- All that was read is buffered.
 pub held_ahead : (all r : Option (List ℕ)) (held : List ℕ) → Keeps all (prepend_known held r)
     → length held ≤ 8192 → IfSome all (λ input. IsReadAhead input r)
 held_ahead None r held keeps short = tt
@@ -25,7 +25,7 @@ held_ahead (Some input) (Some more) held keeps short = record {
       ap Some keeps;
 }
 
--- where nothing is held, what is left of the input is what the reader has
+-- If nothing is buffered, the reader's bytes are the rest of the input.
 pub nothing_held : (all before behind : Option (List ℕ)) (held body : List ℕ)
     → Consumes all before body → Keeps before (prepend_known held behind) → held ≡ []
     → Consumes all behind body
@@ -35,7 +35,7 @@ nothing_held all before (Some more) held body taken keeps e =
     Consumes-kept all before (Some more) body taken
     (subst (λ (h : List ℕ). Keeps before (Some (h ++ more))) e keeps)
 
--- behind the head there are fewer bytes than it says
+-- With fewer bytes after the head than it gives its body, the input is no whole message.
 short_body : (read body : List ℕ) (h : RequestHead) (request other : Request) (text rest : List ℕ)
     → HasHead read h body → IsRequestOf h request → length body < request.length
     → ¬ (IsMessage read other text rest)
@@ -53,7 +53,7 @@ short_body read body h request other text rest front asks short message =
       length-append text rest,
     )
 
--- the head was read, and of its body less than it says
+-- If less was read after the head than it gives its body, no whole message was read.
 pub no_body_yet : (all r left : Option (List ℕ)) (held held' body : List ℕ) (len : ℕ)
     (h : RequestHead) (request : Request)
     → HoldsHead all r held len h → IsRequestOf h request → held' ≡ drop len held

@@ -1,4 +1,4 @@
--- Why a message is not carried out: a name, a number and a status for each fault.
+-- The name, the number and the HTTP status of each fault of a message.
 use Rattle.std.specs.Prelude.{ℕ, List, codes}
 use Rattle.http_messages.specs.declared.fault.MessageFault.{MessageFault}
 use Rattle.http_messages.specs.declared.fault.MessageFault.TheVariants.{BadRequest, NoPath, BadMethod, TooLarge, BadHead, CutBody}

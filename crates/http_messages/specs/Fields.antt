@@ -9,11 +9,11 @@ use Rattle.httparse.specs.Spans.{name_and_value, span_bytes, IsWithin}
 use Rattle.http_messages.specs.declared.head.Occurrence.{Occurrence}
 use Rattle.http_messages.specs.declared.head.Occurrence.TheVariants.{Absent, Once, Twice}
 
--- the text in lower case
+-- The text in lower case.
 abbrev pub lower : List ℕ → List ℕ
 lower = map to_ascii_lowercase
 
--- the values of the fields of a name, which is in lower case
+-- The values of the fields with a name, which is in lower case.
 abbrev pub values_in : List ℕ → List (List ℕ × List ℕ) → List (List ℕ)
 values_in name [] = []
 values_in name (p ∷ ps) = if bytes_eq (lower p.0) name then p.1 ∷ values_in name ps
@@ -22,18 +22,18 @@ values_in name (p ∷ ps) = if bytes_eq (lower p.0) name then p.1 ∷ values_in 
 abbrev pub values_of : List ℕ → RequestHead → List (List ℕ)
 values_of name h = values_in name (map name_and_value h.fields)
 
--- none, one or more
+-- Holds if the outcome says whether there is no value, one or several.
 abbrev pub IsFound : List ℕ → Occurrence → List (List ℕ) → Type 0
 IsFound buf Absent values = values ≡ []
 IsFound buf (Once span) values = (values ≡ span_bytes buf span ∷ []) × IsWithin (length buf) span
 IsFound buf Twice values = 2 ≤ length values
 
--- 1 to 19 digits
+-- The number that 1 to 19 digits write.
 abbrev pub number_of : List ℕ → Option ℕ
 number_of v = if nat_lt 0 (length v) && (nat_le (length v) 19 && all_ascii_digits v)
     then Some (digits_value 10 v) else None
 
--- the length that the fields `content-length` say, none of them 0
+-- The length that the values of `content-length` give: 0 without a value, none with several.
 abbrev pub length_said : List (List ℕ) → Option ℕ
 length_said [] = Some 0
 length_said (v ∷ []) = number_of v
@@ -43,17 +43,17 @@ abbrev pub is_empty : List (List ℕ) → Bool
 is_empty [] = true
 is_empty (v ∷ vs) = false
 
--- the length of the body, or None where the head is refused
+-- The length of the body, or `None` if the head is refused.
 abbrev pub body_length : RequestHead → Option ℕ
 body_length h = if is_empty (values_of (codes "transfer-encoding") h)
     then length_said (values_of (codes "content-length") h) else None
 
--- the answer to it is the last
+-- Whether the answer to this head is the last of the connection.
 abbrev pub closes : RequestHead → Bool
 closes h = h.minor == 0 || list_any (λ v. bytes_eq (lower v) (codes "close"))
     (values_of (codes "connection") h)
 
--- where a field is there once, its value lies in the first n bytes
+-- Holds if the value of a field that occurs once lies in the first n bytes.
 abbrev pub IsFoundWithin : ℕ → Occurrence → Type 0
 IsFoundWithin n Absent = ⊤
 IsFoundWithin n (Once span) = IsWithin n span

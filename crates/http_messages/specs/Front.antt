@@ -1,4 +1,4 @@
--- What stands at the front of the input.
+-- What the input begins with, as far as it is buffered.
 use Rattle.std.specs.Prelude.{◌≡◌, ℕ, ◌<◌, List, length, true, Option}
 use Rattle.std.specs.Io.KnownBytes.{IsAtEnd}
 use Rattle.httparse.specs.declared.spans.HeaderSpan.{HeaderSpan}
@@ -8,15 +8,15 @@ use Rattle.httparse.specs.Spans.{IsRequestAt, IsRequestWithin}
 use Rattle.http_messages.specs.Head.{HasHead}
 use Rattle.http_messages.specs.Blank.{is_blank}
 
--- a head that was found in the held bytes, within the limits
+-- Holds if the spans are those of a head within the limits, in the buffered bytes.
 abbrev pub IsHeadAt : List ℕ → List HeaderSpan → RequestSpans → Type 0
 IsHeadAt held headers spans = IsRequestWithin held headers spans
     × ((h : RequestHead) × IsRequestAt held headers spans h × (length h.fields < 65))
 
--- nothing but empty lines is left
+-- Holds if only empty lines are left of the input.
 abbrev pub IsDone : List ℕ → Option (List ℕ) → Type 0
 IsDone held has = (is_blank held ≡ true) × (length held < 8192) × IsAtEnd has
 
--- no head within the limits is at the front of what is left
+-- Holds if the input does not begin with a head within the limits.
 abbrev pub HasNoHead : List ℕ → Type 0
 HasNoHead s = (h : RequestHead) (rest : List ℕ) → ¬ (HasHead s h rest)

@@ -1,4 +1,4 @@
--- What the input is cut into: messages, and what stands in place of one.
+-- How an input parses: as a message, as one that is refused, or as its end.
 use Rattle.std.specs.Prelude.{◌≡◌, ℕ, ◌<◌, ◌≤◌, List, [], ◌∷◌, ◌++◌, length, codes, Option, Some, None, IfSome}
 use Rattle.httparse.specs.Grammar.{RequestHead}
 use Rattle.numbers.specs.Spids.{IsSpid}
@@ -13,18 +13,18 @@ use Rattle.http_messages.specs.Fields.{body_length, closes, values_of}
 use Rattle.http_messages.specs.Head.{HasHead, IsBlank, IsBad}
 use Rattle.http_messages.specs.Table.{path_of, method_of}
 
--- the provider that the bytes name
+-- Holds if this is the provider that the bytes name.
 abbrev pub IsNamed : List ℕ → Option Spid → Type 0
 IsNamed value (Some spid) = value ≡ spid_text spid.number
 IsNamed value None = (n : ℕ) → IsSpid n → ¬ (value ≡ spid_text n)
 
--- the provider that the only value names
+-- Holds if this is the provider that the only value names.
 abbrev pub IsCaller : List (List ℕ) → Option Spid → Type 0
 IsCaller [] caller = caller ≡ None
 IsCaller (v ∷ []) caller = IsNamed v caller
 IsCaller (v ∷ w ∷ vs) caller = caller ≡ None
 
--- what a head asks for
+-- Holds if this is the request of a head.
 pub record IsRequestOf (h : RequestHead) (request : Request) : Type 0 where
   pub route : request.route ≡ path_of h.target
   pub method : request.method ≡ method_of h.method
@@ -32,15 +32,15 @@ pub record IsRequestOf (h : RequestHead) (request : Request) : Type 0 where
   pub length : body_length h ≡ Some request.length
   pub closes : request.closes ≡ closes h
 
--- the most bytes of a body
+-- The most bytes of a body.
 abbrev pub body_limit : ℕ
 body_limit = 1048576
 
--- the length that a head says for its body is too large
+-- Holds if the body's length, as the head gives it, is over the limit.
 abbrev pub SaysTooMuch : RequestHead → Type 0
 SaysTooMuch h = (n : ℕ) × (body_length h ≡ Some n) × (body_limit < n)
 
--- the input is a whole message, and then rest
+-- Holds if the input is a whole message, followed by rest.
 pub record IsMessage (input : List ℕ) (request : Request) (body rest : List ℕ) : Type 0 where
   pub head : RequestHead
   pub front : HasHead input head (body ++ rest)
@@ -48,14 +48,14 @@ pub record IsMessage (input : List ℕ) (request : Request) (body rest : List �
   pub whole : length body ≡ request.length
   pub small : length body ≤ body_limit
 
--- the input is a head whose body is too large
+-- Holds if the input begins with a head whose body is too large.
 pub record IsTooLarge (input : List ℕ) : Type 0 where
   pub head : RequestHead
   pub rest : List ℕ
   pub front : HasHead input head rest
   pub large : SaysTooMuch head
 
--- the input is a head, and ends before its body does
+-- Holds if the input begins with a head and ends before its body does.
 pub record IsCutShort (input : List ℕ) : Type 0 where
   pub head : RequestHead
   pub rest : List ℕ
@@ -65,8 +65,8 @@ pub record IsCutShort (input : List ℕ) : Type 0 where
   pub small : says ≤ body_limit
   pub short : length rest < says
 
--- what stands at the front of the input: nothing more, what is refused, or a message with its body
--- and what follows it
+-- What an input begins with: nothing more, a refused message, or a whole message with its body and
+-- what follows.
 pub data Parsed : Type 0 where
   EndOfInput : Parsed
   RefusedMessage : (fault : MessageFault) → Parsed
@@ -82,26 +82,26 @@ ParsesAs input (RefusedMessage NoPath) = ⊥
 ParsesAs input (RefusedMessage BadMethod) = ⊥
 ParsesAs input (WholeMessage request body rest) = IsMessage input request body rest
 
--- what comes next in the input, of which so much is left
+-- Holds if this comes next in the input; after a message, left is the input that follows it.
 abbrev pub IsNextMessage : List ℕ → NextMessage → List ℕ → Option (List ℕ) → Type 0
 IsNextMessage input (Message request) body left = (rest : List ℕ) × (left ≡ Some rest)
     × ParsesAs input (WholeMessage request body rest)
 IsNextMessage input (Refused fault) body left = ParsesAs input (RefusedMessage fault)
 
--- the same, or nothing more comes
+-- Holds if this comes next in the input, or the input ends.
 abbrev pub IsNextOrEnd : List ℕ → Option NextMessage → List ℕ → Option (List ℕ) → Type 0
 IsNextOrEnd input None body left = ParsesAs input EndOfInput
 IsNextOrEnd input (Some next) body left = IsNextMessage input next body left
 
--- a message was taken off the front of the input, with its body, and so much of the input is left
--- behind it; or none was, and all is left
+-- Holds if the message and its body were taken from the input, and left is what follows them.
+-- Without a message, left is the whole input.
 abbrev pub IsTaken : (input : Option (List ℕ)) → Option Request → List ℕ → (left : Option (List ℕ))
     → Type 0
 IsTaken input None body left = left ≡ input
 IsTaken input (Some request) body left =
     IfSome input (λ s. IsNextMessage s (Message request) body left)
 
--- a head is refused for what its fields say
+-- Holds if the fields of the head are refused with this fault.
 abbrev pub RefusesHead : RequestHead → MessageFault → Type 0
 RefusesHead h BadHead = body_length h ≡ None
 RefusesHead h TooLarge = SaysTooMuch h

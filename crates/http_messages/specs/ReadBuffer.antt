@@ -1,18 +1,17 @@
--- The bytes that were read and are not yet used up.
+-- The bytes that were read and not yet consumed.
 use Rattle.std.specs.Prelude.{◌≡◌, ℕ, ◌+◌, ◌-◌, ◌≤◌, List, ◌++◌, length, take, drop, Option}
 use Rattle.std.specs.Io.KnownBytes.{Consumes, IsAtEnd, prepend_known}
 use Rattle.http_messages.specs.declared.read_buffer.ReadBuffer.{ReadBuffer}
 
--- the bytes that are held
+-- The buffered bytes.
 abbrev pub buffered_bytes : ReadBuffer → List ℕ
 buffered_bytes h = take (h.filled - h.start) (drop h.start h.bytes.items)
 
--- what is left of the input, where the reader's bytes are known: what is held, and then what the
--- reader has
+-- The rest of the input, if the reader's bytes are known: the buffered bytes, then the reader's.
 abbrev pub remaining_input : ReadBuffer → Option (List ℕ) → Option (List ℕ)
 remaining_input h remaining = prepend_known (buffered_bytes h) remaining
 
--- A read gave n bytes, which stand in the buffer from start on. None come only at the end.
+-- Holds if a read put n bytes into the buffer, from start on. It gives none only at the end.
 pub record ReadsAt (old new : List ℕ) (start n : ℕ) (had has : Option (List ℕ)) : Type 0 where
   pub fits : start + n ≤ length old
   pub more : List ℕ

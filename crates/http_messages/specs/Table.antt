@@ -1,4 +1,4 @@
--- The paths of the interface, their methods, and the router's rows, in the order of their texts.
+-- The paths of the interface, their methods, and the router's rows, ordered by text.
 use Rattle.std.specs.Prelude.{ℕ, ◌^◌, List, [], ◌∷◌, length, take, drop, codes, map, Bool, true, false, not, ◌&&◌, ◌==◌, nat_lt, Option, Some, None, Result, Ok, Err, option_and_then, option_map, if◌then◌else◌}
 use Rattle.std.specs.Borrow.{Bor}
 use Rattle.std.specs.List.{list_all}
@@ -17,7 +17,7 @@ use Rattle.http_messages.specs.declared.paths.Route.TheVariants.{Carriers, Clock
 use Rattle.http_messages.specs.declared.paths.BlockPath.TheVariants.{Assign, Donate, Release}
 use Rattle.http_messages.specs.declared.paths.VersionPath.TheVariants.{Activate, PutInConflict, RemoveFromConflict, Cancel, OldProviderCancellationAcknowledge, NewProviderCancellationAcknowledge, Disconnect, ModifyRouting}
 
--- ---- the paths that are one text
+-- ---- constant paths
 
 abbrev pub paths : List (List ℕ × Route)
 paths =
@@ -49,39 +49,40 @@ paths =
     ∷ (codes "/windows", Windows)
     ∷ []
 
--- the first of these whose text is the target, byte for byte
+-- The route of the first path whose text is the target, byte for byte.
 abbrev pub path_among : List (List ℕ × Route) → List ℕ → Option Route
 path_among [] target = None
 path_among (p ∷ ps) target = if bytes_eq p.0 target then Some p.1 else path_among ps target
 
--- ---- the paths that end in a number: `/versions/`, `/numbers/` or `/downloads/` and one part
+-- ---- paths that end in a number: `/versions/`, `/numbers/` or `/downloads/` and one part
 
--- a byte of a part: neither a slash (47) nor a question mark (63)
+-- Whether a part may have this byte: neither a slash (47) nor a question mark (63).
 abbrev pub is_of_part : ℕ → Bool
 is_of_part b = not (b == 47) && not (b == 63)
 
 abbrev pub is_part : List ℕ → Bool
 is_part part = nat_lt 0 (length part) && list_all is_of_part part
 
--- a zero stands in front of more
+-- Whether the part begins with a zero and continues.
 abbrev pub has_zero_in_front : List ℕ → Bool
 has_zero_in_front part = nat_lt 1 (length part) && bytes_eq (codes "0") (take 1 part)
 
 abbrev pub below_limit : ℕ → Option ℕ
 below_limit n = if nat_lt n (2 ^ 40) then Some n else None
 
--- the number below 2^40 that the part writes in digits, with no zero in front
+-- The number below 2^40 that the part writes in digits, without leading zeros.
 unfoldable pub number_in : List ℕ → Option ℕ
 number_in part = if has_zero_in_front part then None
     else option_and_then below_limit (number_of part)
 
--- what is written behind the prefix, where that is one part: a number, or none
+-- What follows the prefix, if it is one part: its number, or `None` inside.
 unfoldable pub number_behind : (prefix : List ℕ) → List ℕ → Option (Option ℕ)
 number_behind prefix target =
     if bytes_eq (take (length prefix) target) prefix && is_part (drop (length prefix) target)
     then Some (number_in (drop (length prefix) target)) else None
 
--- a version by its id, a telephone number by its digits, or so many downloads
+-- The route of a version by its id, of a telephone number by its digits, or of a count of
+-- downloads.
 abbrev pub numbered_path : List ℕ → Option Route
 numbered_path target =
     option_or (option_map (λ id. Version id) (number_behind (codes "/versions/") target))
@@ -90,7 +91,7 @@ numbered_path target =
 
 -- ---- all paths
 
--- a path that is one text, or else one that ends in a number
+-- The route of a constant path, or else of one that ends in a number.
 unfoldable pub path_of : List ℕ → Option Route
 path_of target = option_or (path_among paths target) (numbered_path target)
 
@@ -110,7 +111,7 @@ is_get Get = true
 is_get Post = false
 is_get Other = false
 
--- whether a path is there with this method: those that end in a number by GET, and all else by POST
+-- Whether the path has this method: GET for paths that end in a number, POST for all others.
 abbrev pub allows_method : Route → Method → Bool
 allows_method (Version number) method = is_get method
 allows_method (Number number) method = is_get method
@@ -127,7 +128,7 @@ allows_method (OnBlock path) method = is_post method
 allows_method NewProviderCreate method = is_post method
 allows_method OldProviderCreate method = is_post method
 
--- the path, if it is there: that of the clock is only where it is offered
+-- The route, except `Clock` if it is not offered.
 abbrev pub offered_route : (offered : Bool) → Option Route → Option Route
 offered_route true route = route
 offered_route false (Some Clock) = None
@@ -148,31 +149,31 @@ offered_route false None = None
 
 -- ---- the router's rows
 
--- the row of a path that is one text
+-- The row of a constant path.
 abbrev pub fixed : List ℕ × Route → List ℕ × RouteOf Route
 fixed p = (p.0, record { pattern = p.0; text = p.0; names = []; value = p.1 })
 
 abbrev pub table : RowsOf (RouteOf Route)
 table = map fixed paths
 
--- the rows with the route in its place, where it conflicts with none of them
+-- The rows with the route in its place, or `None` if it conflicts with one of them.
 abbrev pub placed_unless : RowsOf (RouteOf Route) → RouteOf Route → Option (RouteOf Route)
     → Option (RowsOf (RouteOf Route))
 placed_unless rows route None = Some (placed (route.pattern, route) rows)
 placed_unless rows route (Some near) = None
 
--- and where it was read well
+-- The rows with the route in its place, or `None` if the path does not parse or conflicts with one.
 abbrev pub placed_if_read : RowsOf (RouteOf Route) → Route → Result Scan InsertError
     → Option (RowsOf (RouteOf Route))
 placed_if_read rows value (Err e) = None
 placed_if_read rows value (Ok read) =
     placed_unless rows (route_from read value) (nearest (route_from read value).pattern rows)
 
--- paths of the code, by their bytes
+-- The code's paths, by their bytes.
 abbrev pub texts_of : List (Bor (List ℕ) × Route) → List (List ℕ × Route)
 texts_of ps = map (λ p. (p.0.now, p.1)) ps
 
--- the rows with all of these paths, one put after the other
+-- The rows with all of these paths, inserted in order.
 abbrev pub all_placed : List (List ℕ × Route) → RowsOf (RouteOf Route)
     → Option (RowsOf (RouteOf Route))
 all_placed [] rows = Some rows

@@ -1,4 +1,4 @@
-//! Reading the body of a message.
+//! Reads the body of a message.
 ghost use Rattle.std.specs.Prelude.{◌≡◌, ◌+◌, ◌-◌, ◌≤◌, ◌<◌, ◌++◌, [], true, false, Ok, take, drop, length, vec_len, vec_capacity, IfSome, OnErr};
 ghost use Rattle.std.specs.Io.KnownBytes.{Keeps, Consumes, IsAtEnd};
 ghost use Rattle.http_messages.specs.ReadBuffer.{buffered_bytes, remaining_input};
@@ -7,7 +7,7 @@ use crate::read_buffer::ReadBuffer;
 use std::io;
 use std::io::Read;
 
-/// Moves so many held bytes behind a body that has room for them.
+/// Moves the first `count` buffered bytes to the end of `body`, which has the capacity for them.
 pub fn take_held(held: &mut ReadBuffer, count: usize, body: &mut Vec<u8>)
     requires held { count ≤ length (buffered_bytes held.old) }
     requires room { vec_len body.old + count ≤ vec_capacity body.old }
@@ -23,7 +23,7 @@ pub fn take_held(held: &mut ReadBuffer, count: usize, body: &mut Vec<u8>)
     }
 }
 
-// Whether a byte is held, after a read where none was.
+// Returns whether a byte is buffered, reading once if none was.
 fn holds_some<R: Read>(held: &mut ReadBuffer, reader: &mut R) -> io::Result<bool>
     requires size { vec_len held.old.bytes ≡ 8192 }
     ensures size { vec_len held.new.bytes ≡ 8192 }
@@ -40,7 +40,7 @@ fn holds_some<R: Read>(held: &mut ReadBuffer, reader: &mut R) -> io::Result<bool
     Ok(held.fill(reader)? > 0)
 }
 
-/// Reads a body of so many bytes. The answer is false where the input ends in it.
+/// Reads a body of `count` bytes. Returns `false` if the input ends first.
 pub fn read_body<R: Read>(
     held: &mut ReadBuffer,
     reader: &mut R,

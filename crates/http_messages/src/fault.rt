@@ -1,8 +1,8 @@
-//! Why a message is not carried out.
+//! Faults of a message that is not executed.
 ghost use Rattle.std.specs.Prelude.{◌≡◌, ◌≤◌, length};
 ghost use Rattle.http_messages.specs.Faults.{message_name};
 
-/// Why a message was not carried out.
+/// Why a message was not executed. The value is the fault's number.
 #[derive(Clone, Copy, Debug, PartialEq, Eq)]
 pub enum MessageFault {
     BadRequest = 41,
@@ -14,7 +14,7 @@ pub enum MessageFault {
 }
 
 impl MessageFault {
-    /// The name on the wire.
+    /// Returns the fault's name as the answer writes it.
     pub fn name(self) -> &'static str
         ensures text { result.now ≡ message_name self }
         ensures short { length result.now ≤ 16 }

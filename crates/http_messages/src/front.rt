@@ -1,4 +1,4 @@
-//! The next head of the input.
+//! Reads until the next head of the input is whole.
 
 ghost use Rattle.std.specs.Prelude.{◌≡◌, ℕ, ◌≤◌, ◌<◌, List, length, vec_len, IfOk, IfSome, OnErr, Ok};
 ghost use Rattle.httparse.specs.Grammar.{HasNoRequest};
@@ -14,7 +14,7 @@ use httparse::spans::{HeaderSpan, RequestSpans};
 use std::io;
 use std::io::Read;
 
-/// What stands at the front of the input.
+/// How the search for the next head ended: with a head, with something else, or with the input.
 #[derive(Clone, Copy, Debug)]
 pub enum HeadOutcome {
     Head(RequestSpans),
@@ -22,7 +22,7 @@ pub enum HeadOutcome {
     End,
 }
 
-/// Whether bytes are empty lines alone.
+/// Returns whether the bytes are empty lines only.
 pub fn are_empty_lines(bytes: &[u8]) -> bool
     ensures { result ≡ is_blank bytes.now }
 {
@@ -39,7 +39,7 @@ pub fn are_empty_lines(bytes: &[u8]) -> bool
     !after_cr
 }
 
-/// Reads until it is clear what stands at the front of the input.
+/// Reads until it is clear whether the input begins with a head.
 pub fn next_head<R: Read>(
     held: &mut ReadBuffer,
     headers: &mut [HeaderSpan],

@@ -1,4 +1,4 @@
-//! The head of a message.
+//! Parses the head of a message.
 
 ghost use Rattle.std.specs.Prelude.{◌≡◌, ℕ, ◌≤◌, ◌<◌, List, length, drop, map, IfSome, IsTrue, ◌↔◌, ◌==◌, ◌++◌};
 ghost use Rattle.std.specs.List.{list_any};
@@ -12,7 +12,7 @@ ghost use Rattle.http_messages.specs.Head.{IsHeadParse, IsHeadOf, HasHead, IsBla
 use httparse::Status;
 use httparse::spans::{HeaderSpan, RequestSpans, Span, parse_request};
 
-/// How often a field is there.
+/// How often a field occurs.
 #[derive(Clone, Copy, Debug)]
 pub enum Occurrence {
     Absent,
@@ -20,17 +20,17 @@ pub enum Occurrence {
     Twice,
 }
 
-/// What stands at the front of the bytes that came so far.
+/// What the bytes read so far begin with.
 #[derive(Clone, Copy, Debug)]
 pub enum HeadParse {
     Head(RequestSpans),
-    /// No head comes.
+    /// No head, however the bytes continue.
     Bad,
-    /// No head is whole yet.
+    /// No whole head yet.
     More,
 }
 
-/// Looks for a head.
+/// Parses the head at the start of `buf`, if it is whole.
 pub fn parse_head(buf: &[u8], headers: &mut [HeaderSpan]) -> HeadParse
     requires room { length headers.old ≡ 64 }
     requires short { length buf.now ≤ 8192 }
@@ -43,8 +43,8 @@ pub fn parse_head(buf: &[u8], headers: &mut [HeaderSpan]) -> HeadParse
     }
 }
 
-// Whether a field has this name, in letters of either case. As a rule it is written in small ones,
-// and those are compared many at once.
+// Returns whether a field has this name, ignoring case. Most names are written in lower case, and
+// `starts_with` compares those many bytes at once.
 fn is_name(own: &[u8], name: &[u8]) -> bool
     requires { lower name.now ≡ name.now }
     ensures { IsTrue result ↔ (lower own.now ≡ name.now) }
@@ -55,7 +55,7 @@ fn is_name(own: &[u8], name: &[u8]) -> bool
     own.starts_with(name) || own.eq_ignore_ascii_case(name)
 }
 
-/// How often a field of this name is there.
+/// Returns how often a field with this name occurs.
 #[tactic(auto, using(crate::proofs::FieldLemmas::found_within))]
 pub fn find(buf: &[u8], headers: &[HeaderSpan], name: &[u8]) -> Occurrence
     requires within { All (IsHeaderWithin (length buf.now)) headers.now }
@@ -76,7 +76,7 @@ pub fn find(buf: &[u8], headers: &[HeaderSpan], name: &[u8]) -> Occurrence
     found
 }
 
-/// The number that 1 to 19 digits write.
+/// Returns the number that 1 to 19 digits write, or `None` for other bytes.
 pub fn read_number(value: &[u8]) -> Option<u64>
     ensures { result ≡ number_of value.now }
 {
@@ -93,7 +93,7 @@ pub fn read_number(value: &[u8]) -> Option<u64>
     Some(n)
 }
 
-/// Whether some field of this name has this value, in any case.
+/// Returns whether some field with this name has this value, ignoring case.
 pub fn says(buf: &[u8], headers: &[HeaderSpan], name: &[u8], value: &[u8]) -> bool
     requires within { All (IsHeaderWithin (length buf.now)) headers.now }
     requires lower { lower name.now ≡ name.now }
@@ -112,7 +112,7 @@ pub fn says(buf: &[u8], headers: &[HeaderSpan], name: &[u8], value: &[u8]) -> bo
     false
 }
 
-/// What the engine needs of a head.
+/// The parts of a head that the engine reads.
 #[derive(Clone, Copy, Debug)]
 pub struct Head {
     pub method: Span,
@@ -120,13 +120,13 @@ pub struct Head {
     /// The length of the body.
     pub body: u64,
     pub caller: Occurrence,
-    /// The answer is the last.
+    /// Whether the answer is the last of the connection.
     pub closes: bool,
     /// The length of the head.
     pub len: usize,
 }
 
-/// Reads the fields of a head, or answers `None` where they refuse it.
+/// Reads the fields of a head. Returns `None` if they are refused.
 pub fn read_head(buf: &[u8], headers: &[HeaderSpan], spans: &RequestSpans) -> Option<Head>
     requires { IsRequestWithin buf.now headers.now spans.now }
     ensures head { (h : RequestHead) → IsRequestAt buf.now headers.now spans.now h
@@ -152,8 +152,8 @@ pub fn read_head(buf: &[u8], headers: &[HeaderSpan], spans: &RequestSpans) -> Op
     })
 }
 
-/// A head that was found is the head of the whole input, and it is no other; where none is in the
-/// first 8,192 bytes or in all there is, none is at all. Empty lines alone have no head.
+/// States that a head that was found is the only head of the whole input. If the first 8,192 bytes,
+/// or the whole input, begin with no head, the input has none. Empty lines have no head.
 pub fn head_is_unique()
     ensures found { (buf more : List ℕ) (h : RequestHead)
         → ReadsRequest buf h (drop (length (print_request h)) buf) → length buf ≤ 8192

@@ -1,5 +1,4 @@
-//! Messages of HTTP/1.1, cut out of any reader: heads, paths, callers and bodies, and texts written
-//! whole to any writer.
+//! Reads HTTP/1.1 messages from any reader and writes texts to any writer.
 #![tactic(auto)]
 
 mod body;

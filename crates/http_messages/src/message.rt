@@ -1,4 +1,4 @@
-//! The next message of the input.
+//! Reads the next message of the input.
 ghost use Rattle.std.specs.Prelude.{◌≡◌, ℕ, ◌≤◌, List, length, vec_len, vec_capacity, Option, IfOk, IfErr, IfSome, OnOk};
 ghost use Rattle.httparse.specs.Grammar.{RequestHead};
 ghost use Rattle.httparse.specs.Spans.{IsRequestAt, IsRequestWithin};
@@ -20,38 +20,38 @@ use numbers::Spid;
 use std::alloc::AllocError;
 use std::io::Read;
 
-/// The most bytes that a body may have.
+/// The greatest length of a body, in bytes.
 pub const BODY_LIMIT: u64 = 1_048_576;
 
-/// What the head of a message says.
+/// What the head of a message asks.
 #[derive(Clone, Copy, Debug)]
 pub struct Request {
-    /// The path, if it is one.
+    /// The path, if it is one of the interface's.
     pub route: Option<Route>,
     pub method: Method,
-    /// The caller, where `x-spid` names one once.
+    /// The caller, if `x-spid` occurs once and names one.
     pub caller: Option<Spid>,
     /// The length of the body.
     pub length: usize,
-    /// Whether the answer is the last.
+    /// Whether the answer is the last of the connection.
     pub closes: bool,
 }
 
-/// What comes next: a message, or what is refused in place of one.
+/// The next part of the input: a message, or the fault that refuses it.
 #[derive(Clone, Copy, Debug)]
 pub enum NextMessage {
     Message(Request),
     Refused(MessageFault),
 }
 
-/// Why no next message came: the reader failed, or the room for a body found no memory.
+/// Why there is no next message: the reader failed, or the allocation of the body did.
 #[derive(Clone, Copy, Debug)]
 pub enum NextFault {
     Read,
     Memory,
 }
 
-// The provider that a text names.
+// Returns the provider that the bytes name.
 fn named(value: &[u8]) -> Option<Spid>
     ensures { IsNamed value.now result }
 {
@@ -61,7 +61,7 @@ fn named(value: &[u8]) -> Option<Spid>
     }
 }
 
-// The provider that a field names, if it is there once.
+// Returns the provider that a field names, if the field occurs once.
 fn caller_of(held: &[u8], found: Occurrence) -> Option<Spid>
     requires { IsFoundWithin (length held.now) found }
     ensures { (values : List (List ℕ)) → IsFound held.now found values → IsCaller values result }
@@ -72,8 +72,7 @@ fn caller_of(held: &[u8], found: Occurrence) -> Option<Spid>
     }
 }
 
-// What a head says that was found in the held bytes, and how long it is. `BadHead` comes before
-// `TooLarge`.
+// Returns what the head in the buffered bytes asks. `BadHead` precedes `TooLarge`.
 fn request_of(
     held: &[u8],
     headers: &[HeaderSpan],
@@ -103,8 +102,7 @@ fn request_of(
     })
 }
 
-/// An input is cut in one way alone: into one message with its body and what follows it, or into
-/// one of what stands in place of a message.
+/// States that an input parses in one way only.
 pub fn parse_is_unique()
     ensures { (input : List ℕ) (a b : Parsed) → ParsesAs input a → ParsesAs input b → a ≡ b }
 {
@@ -119,12 +117,11 @@ fn reserve(body: &mut Vec<u8>, length: usize) -> Result<(), AllocError>
     body.reserve(length)
 }
 
-/// Takes the next message where it is held whole, and makes no read for it: its body goes into
-/// `body`.
+/// Takes the next message if it is buffered whole, with its body in `body`. Reads nothing.
 ///
-/// `None` says nothing of what comes: a message that is not held whole yet, one that finds no
-/// memory for its body, what is refused, or the end. Nothing is used up then, and `next_message`
-/// tells which it is.
+/// Returns `None`, and leaves the buffered bytes, in every other case: the message is not whole
+/// yet, the allocation of its body failed, it is refused, or the input ended. `next_message` then
+/// finds which.
 pub fn next_buffered(
     held: &mut ReadBuffer,
     headers: &mut [HeaderSpan],
@@ -157,9 +154,13 @@ pub fn next_buffered(
 
 /// Reads the next message, if there is one: its head, and then its body into `body`.
 ///
-/// A message is refused with `BadHead`, `TooLarge` or `CutBody`, in this order; its path, its
-/// method and its form are judged later. It makes no read once the message is held whole, and none
-/// behind what is refused for its head.
+/// Reads nothing more once the message is buffered whole, and nothing after a head that is refused.
+/// Path, method and the form of the body are judged later.
+///
+/// # Errors
+///
+/// `Read` if the reader fails, `Memory` if the allocation of the body fails. A refused message is
+/// `Ok`, with `BadHead`, `TooLarge` or `CutBody`, in this order.
 pub fn next_message<R: Read>(
     held: &mut ReadBuffer,
     headers: &mut [HeaderSpan],

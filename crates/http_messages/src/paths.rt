@@ -53,18 +53,19 @@ pub enum Route {
     OnBlock(BlockPath),
     Acknowledge,
     Query,
-    /// The windows.
+    /// Setting the windows.
     Windows,
-    /// A version, by its id, where the path's last part is a number below 2^40 with no zero in
-    /// front.
+    /// A version, by its id. `None` unless the path's last part is a number below 2^40 without
+    /// leading zeros.
     Version(Option<u64>),
-    /// A telephone number, by its digits, where the path's last part is such a number.
+    /// A telephone number, by its digits. `None` unless the path's last part is such a number.
     Number(Option<u64>),
-    /// The caller's first downloads, so many, where the path's last part is such a number.
+    /// How many of the caller's first downloads are asked. `None` unless the path's last part is
+    /// such a number.
     Downloads(Option<u64>),
 }
 
-/// The method that a head names.
+/// Returns the method that a head names.
 pub fn method_of(name: &[u8]) -> Method
     ensures { result ≡ method_model name.now }
 {
@@ -77,8 +78,8 @@ pub fn method_of(name: &[u8]) -> Method
     Method::Other
 }
 
-/// Whether a path is there with this method: those that end in a number with GET, the others with
-/// POST.
+/// Returns whether the path has this method: GET for paths that end in a number, POST for all
+/// others.
 pub fn allows_method(route: Route, method: Method) -> bool
     ensures { result ≡ takes_method route method }
 {
@@ -98,7 +99,7 @@ pub fn allows_method(route: Route, method: Method) -> bool
     }
 }
 
-/// The path, if it is there: that of the clock is only where it is offered.
+/// Returns `route`, except `Route::Clock` if `clock` is false.
 pub fn offered_route(route: Option<Route>, clock: bool) -> Option<Route>
     ensures { result ≡ offered_route clock route }
 {
@@ -108,7 +109,7 @@ pub fn offered_route(route: Option<Route>, clock: bool) -> Option<Route>
     }
 }
 
-// The paths that are one text.
+// The constant paths.
 const PATHS: [(&str, Route); 20] = [
     ("/carriers", Route::Carriers),
     ("/clock", Route::Clock),
@@ -156,7 +157,7 @@ const PATHS: [(&str, Route); 20] = [
     ("/windows", Route::Windows),
 ];
 
-// Puts these paths into a router, one after the other, where all of them can stand in it.
+// Inserts these paths into a router, in order. The router must have a place for all of them.
 fn insert_paths(router: &mut Router<Route>, paths: &[(&str, Route)]) -> Result<(), InsertError>
     ensures paths { (rows : RowsOf (RouteOf RouteImpl))
         → all_placed (texts_of paths.now) router.old ≡ Some rows
@@ -171,7 +172,11 @@ fn insert_paths(router: &mut Router<Route>, paths: &[(&str, Route)]) -> Result<(
     Ok(())
 }
 
-/// The router of the paths that are one text, for `next_message`, or `matchit`'s want of memory.
+/// Creates the router of the constant paths, for `next_message`.
+///
+/// # Errors
+///
+/// `InsertError::OutOfMemory` if an allocation fails.
 pub fn router(alloc: Global) -> Result<Router<Route>, InsertError>
     ensures paths { IfOk result (λ r. r ≡ table) }
     ensures memory { IfErr result (λ e. e ≡ OutOfMemory) }
@@ -181,7 +186,7 @@ pub fn router(alloc: Global) -> Result<Router<Route>, InsertError>
     Ok(router)
 }
 
-// The path that is one text.
+// Returns the route of a constant path.
 fn fixed_route_of(router: &Router<Route>, target: &[u8]) -> Option<Route>
     requires { router.now ≡ table }
     ensures { result ≡ path_among paths target.now }
@@ -195,14 +200,14 @@ fn fixed_route_of(router: &Router<Route>, target: &[u8]) -> Option<Route>
     }
 }
 
-// Whether none of the bytes is a slash or a question mark.
+// Returns whether no byte is a slash or a question mark.
 fn are_of_part(part: &[u8]) -> bool
     ensures { result ≡ list_all is_of_part part.now }
 {
     part.iter().all(|b| *b != b'/' && *b != b'?')
 }
 
-// Whether the bytes are one part of a path.
+// Returns whether the bytes are one part of a path.
 fn is_part(part: &[u8]) -> bool
     ensures { result ≡ is_one_part part.now }
 {
@@ -212,7 +217,7 @@ fn is_part(part: &[u8]) -> bool
     are_of_part(part)
 }
 
-// The number that a part writes in digits, with no zero in front.
+// Returns the number below 2^40 that a part writes in digits, without leading zeros.
 #[tactic(auto, unfolding(crate::specs::Table::number_in))]
 fn number_of_part(part: &[u8]) -> Option<u64>
     ensures { result ≡ number_in part.now }
@@ -223,7 +228,7 @@ fn number_of_part(part: &[u8]) -> Option<u64>
     read_number(part).filter(|n| *n < 1 << 40)
 }
 
-// What is written behind a prefix, where that is one part of a path: a number, or none.
+// Returns what follows `prefix`, if it is one part of a path: its number, or `None` inside.
 #[tactic(auto, unfolding(crate::specs::Table::number_behind))]
 fn number_behind(target: &[u8], prefix: &[u8]) -> Option<Option<u64>>
     ensures { result ≡ number_behind prefix.now target.now }
@@ -235,7 +240,7 @@ fn number_behind(target: &[u8], prefix: &[u8]) -> Option<Option<u64>>
     Some(number_of_part(part))
 }
 
-// The path that ends in a number.
+// Returns the route of a path that ends in a number.
 fn numbered_route_of(target: &[u8]) -> Option<Route>
     ensures { result ≡ numbered_path target.now }
 {
@@ -249,7 +254,7 @@ fn numbered_route_of(target: &[u8]) -> Option<Route>
     Some(Route::Downloads(count))
 }
 
-/// The path of a message's target, if it is one: byte for byte, with no decoding.
+/// Returns the route of a message's target, if it is a path. Compares bytes and decodes nothing.
 #[tactic(auto, unfolding(crate::specs::Table::path_of))]
 pub fn route_of(router: &Router<Route>, target: &[u8]) -> Option<Route>
     requires { router.now ≡ table }

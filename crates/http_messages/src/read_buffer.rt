@@ -1,4 +1,4 @@
-//! The bytes that were read and are not yet used up.
+//! A buffer of the bytes that were read and not yet consumed.
 ghost use Rattle.std.specs.Prelude.{◌≡◌, ℕ, ◌≤◌, ◌<◌, vec_len, IfOk, OnErr, List, [], take, length, drop, ◌+◌};
 ghost use Rattle.std.specs.Io.KnownBytes.{Keeps, IsAtEnd};
 
@@ -8,13 +8,13 @@ use std::io::Read;
 
 mod reads;
 
-/// How many bytes a head may have, with the empty lines in front of it.
+/// The most bytes of a head, with the empty lines before it.
 pub const HEAD_LIMIT: usize = 8192;
 
-/// Less room than this behind what is held is too little for a read.
+/// The least free capacity, after the buffered bytes, that is enough for a read.
 pub const LEAST_CAPACITY: usize = 1024;
 
-/// What was read and is not yet used up: the bytes of a buffer from `start` to `filled`.
+/// Bytes read and not yet consumed: `bytes` from `start` to `filled`.
 #[derive(Drop)]
 pub struct ReadBuffer {
     pub(crate) bytes: Vec<u8>,
@@ -27,7 +27,11 @@ pub struct ReadBuffer {
 impl ReadBuffer {
     ghost use Rattle.http_messages.specs.ReadBuffer.{buffered_bytes, remaining_input};
 
-    /// An empty buffer for a head of up to 8,192 bytes, or want of memory.
+    /// Creates an empty buffer for a head of up to 8,192 bytes.
+    ///
+    /// # Errors
+    ///
+    /// `AllocError` if the allocation fails.
     pub fn new(alloc: Global) -> Result<ReadBuffer, AllocError>
         ensures size { IfOk result (λ held. vec_len held.bytes ≡ 8192) }
         ensures empty { IfOk result (λ held. buffered_bytes held ≡ []) }
@@ -40,14 +44,14 @@ impl ReadBuffer {
         })
     }
 
-    /// What is held.
+    /// Returns the buffered bytes.
     pub(crate) fn held(&self) -> &[u8]
         ensures { result.now ≡ buffered_bytes self.now }
     {
         &self.bytes[self.start..self.filled]
     }
 
-    /// How many bytes are held.
+    /// Returns the number of buffered bytes.
     pub(crate) fn len(&self) -> usize
         ensures value { result ≡ length (buffered_bytes self.now) }
         ensures most { result ≤ vec_len self.now.bytes }
@@ -55,7 +59,7 @@ impl ReadBuffer {
         self.filled - self.start
     }
 
-    /// Lets go of the first n bytes. They stay where they are: only what is behind them is held.
+    /// Discards the first `n` buffered bytes. Moves `start` and no byte.
     pub(crate) fn drop_front(&mut self, n: usize)
         requires { n ≤ length (buffered_bytes self.old) }
         ensures size { vec_len self.new.bytes ≡ vec_len self.old.bytes }
@@ -68,7 +72,7 @@ impl ReadBuffer {
         }
     }
 
-    // Moves what is held to the front.
+    // Moves the buffered bytes to the start of `bytes`.
     fn move_to_front(&mut self)
         ensures size { vec_len self.new.bytes ≡ vec_len self.old.bytes }
         ensures held { buffered_bytes self.new ≡ buffered_bytes self.old }
@@ -79,7 +83,7 @@ impl ReadBuffer {
         self.start = 0;
     }
 
-    // Makes room behind what is held, where there is too little.
+    // Frees capacity after the buffered bytes if there is too little for a read.
     fn make_room(&mut self)
         requires { length (buffered_bytes self.old) < vec_len self.old.bytes }
         ensures size { vec_len self.new.bytes ≡ vec_len self.old.bytes }
@@ -91,7 +95,7 @@ impl ReadBuffer {
         }
     }
 
-    /// Reads once more behind what is held. 0 bytes come only at the end of the input.
+    /// Reads once, to after the buffered bytes. Reads 0 bytes only at the end of the input.
     pub(crate) fn fill<R: Read>(&mut self, reader: &mut R) -> io::Result<usize>
         requires { length (buffered_bytes self.old) < vec_len self.old.bytes }
         ensures size { vec_len self.new.bytes ≡ vec_len self.old.bytes }

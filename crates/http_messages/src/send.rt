@@ -1,4 +1,4 @@
-//! Writing the whole of a text.
+//! Writes a whole text to a writer.
 ghost use Rattle.std.specs.Prelude.{◌≡◌, ◌≢◌, ℕ, ◌≤◌, List, length, take, ◌++◌, IfOk, IfErr, OnOk, OnErr};
 ghost use Rattle.std.specs.Io.KnownBytes.{Appends, Keeps};
 ghost use Rattle.std.specs.IoError.{error_kind};
@@ -7,8 +7,7 @@ ghost use Rattle.http_messages.specs.Sending.{AppendsFront};
 use std::io;
 use std::io::{ErrorKind, Write};
 
-// Writes once. A write that is interrupted is tried again, as often as the standard's own writers
-// try.
+// Writes once. Retries an interrupted write, as often as the standard library's own writers do.
 fn write_some<W: Write>(writer: &mut W, text: &[u8]) -> io::Result<usize>
     ensures ok { IfOk result (λ n. (n ≤ length text.now)
         × Appends (W.contents writer.old) (W.contents writer.new) (take n text.now)) }
@@ -25,7 +24,7 @@ fn write_some<W: Write>(writer: &mut W, text: &[u8]) -> io::Result<usize>
     Err(ErrorKind::Other.into())
 }
 
-// Flushes. What is interrupted is tried again.
+// Flushes. Retries an interrupted flush.
 fn flush<W: Write>(writer: &mut W) -> io::Result<()>
     ensures kept { Keeps (W.contents writer.old) (W.contents writer.new) }
     ensures retried { IfErr result (λ e. error_kind e ≢ ErrorKind.Interrupted) }
@@ -40,8 +39,12 @@ fn flush<W: Write>(writer: &mut W) -> io::Result<()>
     Err(ErrorKind::Other.into())
 }
 
-/// Writes a text, and flushes where it is told to. After an `Err` a front of the text may have been
-/// written. What is interrupted is tried again.
+/// Writes a text, and then flushes if `flushes` is true. Retries interrupted calls.
+///
+/// # Errors
+///
+/// The writer's error, or `WriteZero` if it takes no byte. A prefix of the text may have been
+/// written.
 pub fn send_all<W: Write>(writer: &mut W, text: &[u8], flushes: bool) -> io::Result<()>
     ensures ok { OnOk result (Appends (W.contents writer.old) (W.contents writer.new) text.now) }
     ensures err { OnErr result

@@ -1,4 +1,4 @@
--- A body asks one thing at most.
+-- A body asks at most one thing.
 use Rattle.std.proofs.Common.{◌≡◌, ℕ, ◌/◌, ◌%◌, codes, List, Option, Some, None, true, get_or, option_and_then, IsSomeAnd, [], ◌∷◌, refl, ap, sym, ◌∙◌, arith}
 use Rattle.serde_json.specs.Data.{Data, null, boolean, number, string, array, object, Items, no_items, item}
 use Rattle.serde_json.specs.Find.{get, as_number, as_str, as_u64}

@@ -1,4 +1,4 @@
--- Members that were read one after another.
+-- The members read one after another.
 use Rattle.std.proofs.Common.{◌≡◌, ℕ, ◌<◌, ◌≤◌, ◌+◌, ◌-◌, Bool, true, false, Option, None, List, [], ◌∷◌, ◌++◌, get_or, length, Some, refl, ap, sym, ◌∙◌, arith}
 use Rattle.std.specs.Prelude.{take, option_map, option_and_then}
 use Rattle.std.specs.Str.{bytes_eq}
@@ -50,7 +50,7 @@ module _ (ms : List Member) (i : ℕ) (d : Member) (within : i < length ms) wher
       ap (get_member key) upon ∙ get_member-put_other key here.key.now (scalar_data here.value)
       (members_upon no_members (take i ms)) other
 
--- by the slice that is looked at from its end
+-- The lookup passes the members from the last to the first.
 module _ (ms seen : List Member) (same : seen ≡ ms) (left : ℕ) (d : Member) (some : 0 < left)
     (within : left ≤ length ms) where
   again : (left - 1) + 1 ≡ left
@@ -94,7 +94,7 @@ of_number s n is depth rest =
     ap (converted of_json) (value_is depth (Token.number s ∷ rest))
     ∙ ap (λ o. option_map {U = Data × List Token} (λ d. (d, rest)) (option_map number o)) is
 
--- ---- the grammar under the conversion to data, a member at a time
+-- ---- the grammar under the conversion to data, one member at a time
 
 abbrev pick : {A : Type 0} → A → Option A → A
 pick d None = d
@@ -149,7 +149,7 @@ whole_object text ts ms begins found =
     (parse_map json.object o))) parts.1
     ∙ ap (option_map object) parts.2
 
--- ---- no array stands under a key
+-- ---- no array is under a key
 
 no_array : (s : Scalar) → as_array (scalar_data s) ≡ None
 no_array Null = refl

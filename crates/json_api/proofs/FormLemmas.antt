@@ -1,4 +1,4 @@
--- Texts that are no number's, and values that are of no form.
+-- Texts that are no numbers, and values that have no form.
 use Rattle.std.proofs.Common.{◌≡◌, ◌≢◌, ℕ, List, Option, Some, None, IfNone, ◌∙◌, refl}
 use Rattle.serde_json.specs.Data.{Data}
 use Rattle.model.specs.Commands.{VersionCommand, Command}
@@ -85,6 +85,6 @@ pub no_modify : (d : Data) → ((lrn : ℕ) (cic : Option ℕ) → HasLrn d lrn 
     → (c : VersionCommand) → ¬ (HasVersionCommand ModifyPath d c)
 no_modify d h c x = h x.0 x.1 x.2 x.3
 
--- no window is there, whatever its minutes were
+-- There is no window, whatever its minutes.
 pub no_window : {P : Type 0} (given : Option ℕ) (n : ℕ) → None ≡ given → given ≡ Some n → P
 no_window given n e h = let no : None ≡ Some n = e ∙ h in cc

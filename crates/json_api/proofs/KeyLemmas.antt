@@ -1,4 +1,4 @@
--- The keys of members that were read one after another.
+-- The keys of members read one after another.
 use Rattle.std.proofs.Common.{◌≡◌, ℕ, Bool, true, false, ◌&&◌, List, [], ◌∷◌, map, Bor, refl, ap, sym, ◌∙◌}
 use Rattle.std.specs.List.{list_any, list_all}
 use Rattle.std.specs.Str.{bytes_eq}
@@ -23,7 +23,7 @@ turned true b c = refl
 turned false true c = refl
 turned false false c = refl
 
--- a member that is put is one of those keys, and so are all others
+-- A member added has one of these keys, and so have all others.
 only_put_at : (ks : List (List ℕ)) (o : Ordering) (k l : List ℕ) (d e : Data) (ms : Members)
     → slice_cmp nat_cmp k l ≡ o
     → only_members ks (put k d ms) ≡ (list_any (bytes_eq k) ks && only_members ks ms)

@@ -1,4 +1,4 @@
--- Texts of lines, one after another.
+-- The texts of lines, one after another.
 use Rattle.std.proofs.Common.{◌≡◌, ℕ, zero, suc, ◌<◌, ◌+◌, List, [], ◌∷◌, ◌++◌, length, take, get_or, ap, sym, subst, ◌∙◌, arith}
 use Rattle.std.proofs.lemmas.List.{take_more}
 use Rattle.numbers.specs.declared.line.Line.{Line}
@@ -15,7 +15,7 @@ one_more [] (m ∷ ms) x l are is = absurd are
 one_more (y ∷ ys) [] x l are is = absurd are
 one_more (y ∷ ys) (m ∷ ms) x l are is = (are.0, one_more ys ms x l are.1 is)
 
--- the next of them is the text of the next line
+-- The next value is the text of the next line.
 pub next_line : (xs : List Value) (i : ℕ) (x : Value) (old new : List Line) (l : Line)
     → i < length xs → x ≡ get_or xs i x → new ≡ old ++ l ∷ []
     → AreLineTexts (items_view (take i xs)) (lines_of old) → IsLineText (view x) l.number
@@ -27,7 +27,7 @@ next_line xs i x old new l within item is are here =
     (subst (λ (ys : List Value). AreLineTexts (items_view ys) (lines_of (old ++ l ∷ []))) listed
     (one_more (take i xs) old x l are here))
 
--- one of them is no such text
+-- A value is not the text of a line.
 pub no_line : (xs : List Value) (i : ℕ) (x : Value) → i < length xs → x ≡ get_or xs i x
     → ((n : ℕ) → ¬ (IsLineText (view x) n)) → (lines : List ℕ)
     → ¬ (AreLineTexts (items_view xs) lines)

@@ -1,4 +1,4 @@
--- Lists of what the code holds, and of what the definitions see of it.
+-- Lists of values, and of their models.
 use Rattle.std.proofs.Common.{◌≡◌, ℕ, ◌++◌, List, [], ◌∷◌, map, codes, refl, ap}
 use Rattle.std.proofs.lemmas.List.Folds.{flat_map-map}
 use Rattle.json_api.specs.Texts.{listed}

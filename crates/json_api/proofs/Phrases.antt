@@ -1,4 +1,4 @@
--- The phrases of the statuses that are answered are short.
+-- The reason phrases of the statuses that responses have are short.
 use Rattle.std.proofs.Common.{◌≤◌, ℕ, length, inl, inr, arith}
 use Rattle.json_api.specs.Response.{phrase, IsAnswered}
 

@@ -1,4 +1,4 @@
--- The table of the bytes that stand for themselves in a text.
+-- The table of the bytes that represent themselves in a text.
 use Rattle.std.proofs.Common.{◌≡◌, ℕ, zero, suc, ◌-◌, ◌<◌, Bool, true, false, ◌&&◌, T, get_or, refl, inl, inr, arith, eq-zero-or-pos}
 use Rattle.std.specs.Prelude.{◌==◌, not, cond}
 use lib.Ieee.Fits.{and_l, and_r}
@@ -14,7 +14,7 @@ same-is true false t = absurd t
 same-is false true t = absurd t
 same-is false false t = refl
 
--- the table is right of each byte below n
+-- Whether the table is right for each byte below `n`.
 abbrev are_right : ℕ → Bool
 are_right zero = true
 are_right (suc p) = same (get_or PLAIN p 0 == 49) (is_plain p) && are_right p

@@ -1,4 +1,4 @@
--- What a scan of a body's bytes finds is what the grammar of JSON reads.
+-- A scan of a body's bytes finds what the grammar of JSON reads.
 use Rattle.std.proofs.Common.{◌≡◌, ℕ, ◌+◌, ◌-◌, ◌<◌, ◌≤◌, ◌⊎◌, inl, inr, Bool, true, false, cond, ◌&&◌, nat_lt, nat_le, Some, None, List, [], ◌∷◌, ◌++◌, length, drop, get_or, map, fold, refl, sym, ap, ◌∙◌, subst, arith, append_assoc, length-append}
 use Rattle.std.specs.Prelude.{option_and_then}
 use Rattle.std.specs.Str.{IsUtf8, all_ascii_digits}
@@ -66,7 +66,7 @@ all_prefix p (x ∷ xs) e =
     let first : p x ≡ true = both.0 in
     rw (first, all_prefix p xs both.1) (omega arith)
 
--- the bytes of a number behind its first one are digits too
+-- The bytes of a number after its first one are digits too.
 digits_then : (s : List ℕ) → list_all is_ascii_digit s ≡ true → 0 < length s
     → after_digits s ≡ Some []
 digits_then s e some =
@@ -115,7 +115,7 @@ digits_utf8 s e = IsUtf8-are_ascii s (digits_are_ascii s e)
 
 -- ---- the members of an object, token by token
 
--- the tokens are those of the members, one after another
+-- Holds if the tokens are those of the members, in order.
 abbrev pub AreTokensOf : List Token → List Member → Type 0
 AreTokensOf ts [] = ts ≡ []
 AreTokensOf ts (m ∷ ms) = (t : Token) × (us : List Token) × (ts ≡ Token.key m.key.now ∷ t ∷ us)
@@ -138,7 +138,7 @@ tokens-push ts (n ∷ ms) t m are is = (
   tokens-push are.1 ms t m are.4 is,
 )
 
--- what a list of tokens that ends an object is read as
+-- Tokens that end an object read as the members.
 read_upon : (n : ℕ) (found : Members) (ts : List Token) (ms : List Member) → AreTokensOf ts ms
     → length (ts ++ Token.end_object ∷ []) ≤ n
     → converted (λ js. of_members js found) (members (value 126) n (ts ++ Token.end_object ∷ []))
@@ -172,7 +172,7 @@ gap_more bytes gap rest behind b is split first blank = (
   split ∙ ap (λ l. gap ++ l) first ∙ sym (append_assoc gap (b ∷ []) behind),
 )
 
--- ---- what was read so far
+-- ---- the members read so far
 
 pub said_some : (s : List ℕ) (n : ℕ) → Some n ≡ said s → 0 < length s
 said_some s n is = by_cases (nat_lt 0 (length s)) refl is
@@ -183,7 +183,7 @@ said_some s n is = by_cases (nat_lt 0 (length s)) refl is
     by_cases true e k = ltb-true _ _ e
     by_cases false e k = cc
 
--- tokens behind their gaps, which begin an object and have these members
+-- Tokens with their gaps that begin an object with these members.
 pub record IsBegun (us : List (List ℕ × Token)) (ms : List Member) : Type 0 where
   pub gaps : AreGaps us
   pub printable : ArePrintable (map (λ p. p.1) us)
@@ -191,16 +191,16 @@ pub record IsBegun (us : List (List ℕ × Token)) (ms : List Member) : Type 0 w
   pub tokens_are : (ts : List Token) × (map (λ p. p.1) us ≡ Token.begin_object ∷ ts)
       × AreTokensOf ts ms
 
--- whether they leave a value just ended
+-- Whether a value has just ended after the tokens.
 abbrev pub ended : List (List ℕ × Token) → Bool
 ended us = fold (λ _ u. ends u) false (map (λ q. q.1) us)
 
--- the rest of the body stands where a member may
+-- Holds if a member may begin where the rest of the body begins.
 abbrev pub IsBefore : List ℕ → List ℕ → List Member → Type 0
 IsBefore body rest ms = (us : List (List ℕ × Token)) × IsBegun us ms
     × (body ≡ print_spaced false us ++ (separator (ended us) (Token.key []) ++ rest))
 
--- it stands behind a member
+-- Holds if the rest of the body comes after a member.
 abbrev pub IsAfter : List ℕ → List ℕ → List Member → Type 0
 IsAfter body rest ms = (us : List (List ℕ × Token)) × IsBegun us ms × (ended us ≡ true)
     × (body ≡ print_spaced false us ++ rest)
@@ -227,7 +227,7 @@ with_comma body rest after ms is comma = (
       ∙ ap (λ b. print_spaced false is.0 ++ (separator b (Token.key []) ++ rest)) (sym is.2),
 )
 
--- ---- one token more
+-- ---- one more token
 
 map-push : (us : List (List ℕ × Token)) (p : List ℕ × Token)
     → map (λ q. q.1) (us ++ p ∷ []) ≡ map (λ q. q.1) us ++ p.1 ∷ []

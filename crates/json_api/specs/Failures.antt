@@ -1,5 +1,4 @@
--- What stands in place of a reply: a name, a number and a status for each failure, and the bytes
--- that say them.
+-- The failures that a response reports: their names, numbers, statuses and bytes.
 use Rattle.std.specs.Prelude.{ℕ, List, codes}
 use Rattle.model.specs.RefusalNumbers.{number_of}
 use Rattle.model.specs.declared.refusal.Refusal.{Refusal}
@@ -76,7 +75,7 @@ refusal_status Full = 503
 refusal_status Storage = 503
 refusal_status NoMemory = 503
 
--- the faults of a query's URI, whose names are those of `telnp`
+-- The numbers of the faults of a query's URI; `telnp` has their names.
 abbrev pub fault_number : TelFault → ℕ
 fault_number NotTel = 31
 fault_number BadNumber = 32
@@ -103,6 +102,6 @@ failure_status (Message fault) = message_status fault
 abbrev pub failure_body : Failure → List ℕ
 failure_body failure = refusal_body (failure_name failure) (failure_number failure)
 
--- the whole answer
+-- The whole response to a failure.
 unfoldable pub failure_text : Failure → List ℕ
 failure_text failure = response (failure_status failure) (failure_body failure)

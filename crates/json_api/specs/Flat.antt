@@ -1,4 +1,4 @@
--- The members of an object in which no array and no object stands.
+-- The members of an object without arrays and objects in it.
 use Rattle.std.specs.Prelude.{◌≡◌, ℕ, Bool, length, List, [], ◌∷◌, Option, Some}
 use Rattle.std.specs.Borrow.{Bor}
 use Rattle.std.specs.List.{list_any}
@@ -17,7 +17,7 @@ scalar_data (Flag b) = boolean b
 scalar_data (Whole n) = number (unsigned n)
 scalar_data (Text s) = string s.now
 
--- one after another: of a key that stands twice the last counts
+-- The members in order; of equal keys the last counts.
 abbrev pub members_upon : Members → List Member → Members
 members_upon found [] = found
 members_upon found (m ∷ ms) = members_upon (put m.key.now (scalar_data m.value) found) ms
@@ -25,15 +25,15 @@ members_upon found (m ∷ ms) = members_upon (put m.key.now (scalar_data m.value
 abbrev pub flat_data : List Member → Data
 flat_data ms = object (members_upon no_members ms)
 
--- the token alone is the scalar, whatever follows
+-- Holds if the token by itself represents the scalar, whatever follows.
 abbrev pub IsScalar : Token → Scalar → Type 0
 IsScalar token s = (depth : ℕ) (rest : List Token) → converted of_json (value depth (token ∷ rest))
     ≡ Some (scalar_data s, rest)
 
--- behind its brace, an object of a body
+-- The members of a body's object, from the tokens after its brace.
 abbrev pub read_object : List Token → Option (Members × List Token)
 read_object ts = converted (λ ms. of_members ms no_members) (members (value 126) (length ts) ts)
 
--- the key is one of these
+-- Whether the key is one of `keys`.
 abbrev pub is_among : List (Bor (List ℕ)) → List ℕ → Bool
 is_among keys k = list_any (λ (s : Bor (List ℕ)). bytes_eq k s.now) keys

@@ -1,4 +1,4 @@
--- The forms of request bodies: what each asks.
+-- The forms of request bodies, and what each asks.
 use Rattle.std.specs.Prelude.{◌≡◌, ℕ, ◌&&◌, nat_le, List, [], ◌∷◌, codes, Bool, true, false, if◌then◌else◌, Option, Some, None, option_and_then, IsSomeAnd, ⊤}
 use Rattle.std.specs.List.{list_any}
 use Rattle.std.specs.Str.{is_utf8, bytes_eq}
@@ -22,17 +22,17 @@ use Rattle.http_messages.specs.declared.paths.BlockPath.TheVariants.{Assign as A
 use Rattle.json_api.specs.declared.forms.ApiCall.{ApiCall as ApiCallImpl}
 use Rattle.json_api.specs.declared.forms.ApiCall.TheVariants.{Call as CallImpl, Uri as UriImpl}
 
--- what a message asks: a call of the register, or where the number of a URI is routed
+-- What a message asks: a call of the register, or the routing for the number of a URI.
 pub data ApiCall : Type 0 where
   RegisterCall : (called : ModelCall) → ApiCall
   UriQuery : (uri : List ℕ) → ApiCall
 
--- what a body asks, as the code holds it
+-- The model of what a body asks.
 abbrev pub api_call_model : ApiCallImpl → ApiCall
 api_call_model (CallImpl call) = RegisterCall (called_of call)
 api_call_model (UriImpl uri) = UriQuery uri.now
 
--- the value that the bytes are as JSON
+-- The JSON value of the bytes, if they are JSON.
 abbrev pub json_of : List ℕ → Option Data
 json_of body = if is_utf8 body then read body else None
 
@@ -42,7 +42,7 @@ abbrev pub only_members : List (List ℕ) → Members → Bool
 only_members allowed no_members = true
 only_members allowed (member k d ms) = list_any (bytes_eq k) allowed && only_members allowed ms
 
--- an object with no other keys
+-- Whether a value is an object without keys other than `allowed`.
 abbrev pub only_keys : List (List ℕ) → Data → Bool
 only_keys allowed null = false
 only_keys allowed (boolean b) = false
@@ -51,7 +51,7 @@ only_keys allowed (string s) = false
 only_keys allowed (array ds) = false
 only_keys allowed (object ms) = only_members allowed ms
 
--- the keys of a command on a version
+-- The keys of a command on a version.
 abbrev pub version_keys : VersionPath → List (List ℕ)
 version_keys ActivatePath = codes "id" ∷ []
 version_keys PutInConflictPath = codes "id" ∷ []
@@ -62,13 +62,13 @@ version_keys NewAcknowledgePath = codes "id" ∷ []
 version_keys DisconnectPath = codes "id" ∷ codes "release" ∷ []
 version_keys ModifyPath = codes "cic" ∷ codes "id" ∷ codes "lrn" ∷ []
 
--- the keys of a command on a block
+-- The keys of a command on a block.
 abbrev pub block_keys : BlockPath → List (List ℕ)
 block_keys AssignPath = codes "block" ∷ codes "cic" ∷ codes "holder" ∷ codes "lrn" ∷ []
 block_keys DonatePath = codes "block" ∷ codes "cic" ∷ codes "lrn" ∷ codes "used" ∷ []
 block_keys ReleasePath = codes "block" ∷ []
 
--- the keys of a path's body
+-- The keys of a route's body.
 abbrev pub keys : Route → List (List ℕ)
 keys Carriers = codes "spid" ∷ []
 keys RoutingNumbers = codes "lrn" ∷ []
@@ -90,33 +90,33 @@ keys (Version id) = []
 keys (Number tn) = []
 keys (Downloads count) = []
 
--- ---- what stands under a key
+-- ---- values under keys
 
--- a whole number below 2^40
+-- The whole number below 2^40 under a key.
 unfoldable pub whole : List ℕ → Data → Option ℕ
 whole key d =
     option_and_then below_limit (option_and_then as_u64 (option_and_then as_number (get key d)))
 
--- a text
+-- The text under a key.
 unfoldable pub text : List ℕ → Data → Option (List ℕ)
 text key d = option_and_then as_str (get key d)
 
--- true or false
+-- The Boolean under a key.
 unfoldable pub flag : List ℕ → Data → Option Bool
 flag key d = option_and_then as_bool (get key d)
 
--- the items of an array
+-- The items of the array under a key.
 unfoldable pub items : List ℕ → Data → Option Items
 items key d = option_and_then as_array (get key d)
 
--- the minutes of a window: a whole number from 1 to 525,600
+-- A number of minutes in the range of windows, 1 to 525,600.
 abbrev pub in_range : ℕ → Option ℕ
 in_range n = if nat_le 1 n && nat_le n 525600 then Some n else None
 
 unfoldable pub window : List ℕ → Data → Option ℕ
 window key d = option_and_then in_range (whole key d)
 
--- the text of a number of its kind
+-- Holds if the text given is the text of a valid number `n`.
 pub record IsTextOf (IsOne : ℕ → Type 0) (text_of : ℕ → List ℕ) (given : Option (List ℕ))
     (n : ℕ) : Type 0 where
   pub valid : IsOne n
@@ -137,22 +137,22 @@ HasCode d n = IsTextOf IsCode code_text (text (codes "code") d) n
 abbrev pub HasBlock : Data → ℕ → Type 0
 HasBlock d n = IsTextOf IsBlock block_text (text (codes "block") d) n
 
--- the value is the text of a line
+-- Holds if the value is the text of a line.
 abbrev pub IsLineText : Data → ℕ → Type 0
 IsLineText d line = IsTextOf IsLine line_text (as_str d) line
 
--- the values are the texts of these lines, in their order
+-- Holds if the values are the texts of these lines, in order.
 abbrev pub AreLineTexts : Items → List ℕ → Type 0
 AreLineTexts no_items [] = ⊤
 AreLineTexts no_items (line ∷ lines) = ⊥
 AreLineTexts (item d ds) [] = ⊥
 AreLineTexts (item d ds) (line ∷ lines) = IsLineText d line × AreLineTexts ds lines
 
--- an array of the texts of these lines
+-- Holds if the value under `used` is an array of the texts of these lines.
 abbrev pub HasUsed : Data → List ℕ → Type 0
 HasUsed d lines = IsSomeAnd (items (codes "used") d) (λ values. AreLineTexts values lines)
 
--- nothing, or null
+-- Whether a value is missing or null.
 abbrev pub is_left_out : Option Data → Bool
 is_left_out None = true
 is_left_out (Some null) = true
@@ -162,26 +162,26 @@ is_left_out (Some (string s)) = false
 is_left_out (Some (array ds)) = false
 is_left_out (Some (object ms)) = false
 
--- a carrier code, which may be left out or be null
+-- Holds if this is the carrier identification code, which may be missing or null.
 abbrev pub HasCic : Data → Option ℕ → Type 0
 HasCic d None = is_left_out (get (codes "cic") d) ≡ true
 HasCic d (Some n) = IsTextOf IsCic cic_text (text (codes "cic") d) n
 
--- a minute, which may be left out or be null
+-- Holds if this is the minute of the release, which may be missing or null.
 abbrev pub HasRelease : Data → Option ℕ → Type 0
 HasRelease d None = is_left_out (get (codes "release") d) ≡ true
 HasRelease d (Some n) = whole (codes "release") d ≡ Some n
 
 -- ---- the forms
 
--- the parties of a create and its due minute
+-- Holds if these are the number, the providers and the due minute of a create.
 pub record HasPort (d : Data) (tn old_provider new_provider due : ℕ) : Type 0 where
   pub number : HasTn d tn
   pub old : HasSpid (codes "old") d old_provider
   pub new : HasSpid (codes "new") d new_provider
   pub minute : whole (codes "due") d ≡ Some due
 
--- nine windows, each under its name
+-- Holds if these are the nine windows, each under its name.
 pub record HasWindows (d : Data) (w : Windows) : Type 0 where
   pub initial_concurrence : window (codes "initial_concurrence") d ≡ Some w.initial_concurrence
   pub final_concurrence : window (codes "final_concurrence") d ≡ Some w.final_concurrence
@@ -193,7 +193,7 @@ pub record HasWindows (d : Data) (w : Windows) : Type 0 where
   pub pending_retention : window (codes "pending_retention") d ≡ Some w.pending_retention
   pub broadcast : window (codes "broadcast") d ≡ Some w.broadcast
 
--- a path's command on a version
+-- Holds if this is the command on a version of its path.
 abbrev pub HasVersionCommand : VersionPath → Data → VersionCommand → Type 0
 HasVersionCommand ActivatePath d command = command ≡ Activate
 HasVersionCommand PutInConflictPath d command = command ≡ PutInConflict
@@ -206,7 +206,7 @@ HasVersionCommand DisconnectPath d command = (release : Option ℕ) × HasReleas
 HasVersionCommand ModifyPath d command = (lrn : ℕ) × (cic : Option ℕ) × HasLrn d lrn × HasCic d cic
     × (command ≡ ModifyRouting lrn cic)
 
--- a path's command on a block
+-- Holds if this is the command on a block of its path.
 abbrev pub HasBlockCommand : BlockPath → Data → Command → Type 0
 HasBlockCommand AssignPath d c =
     (block : ℕ) × (holder : ℕ) × (lrn : ℕ) × (cic : Option ℕ) × HasBlock d block
@@ -217,7 +217,7 @@ HasBlockCommand DonatePath d c =
     × HasLrn d lrn × HasCic d cic × (c ≡ Donate block used lrn cic)
 HasBlockCommand ReleasePath d c = (block : ℕ) × HasBlock d block × (c ≡ Release block)
 
--- a path's command
+-- Holds if this is the command of a route.
 abbrev pub HasCommand : Route → Data → Command → Type 0
 HasCommand Carriers d c = (spid : ℕ) × HasSpid (codes "spid") d spid × (c ≡ RegisterCarrier spid)
 HasCommand RoutingNumbers d c = (lrn : ℕ) × HasLrn d lrn × (c ≡ RegisterRoutingNumber lrn)
@@ -248,7 +248,8 @@ abbrev pub HasOrder : Route → Data → ApiCall → Type 0
 HasOrder route d asked = (c : Command) × HasCommand route d c
     × (asked ≡ RegisterCall (RequestCall (CommandRequest c)))
 
--- a path's values. A version's, a telephone number's and that of the downloads have no body
+-- Holds if this is what the values ask on a route. The routes of a version, a telephone number and
+-- downloads have no body.
 abbrev pub HasValues : Route → Data → ApiCall → Type 0
 HasValues Acknowledge d asked = (id : ℕ) × (attempt : ℕ) × (whole (codes "id") d ≡ Some id)
     × (whole (codes "attempt") d ≡ Some attempt)
@@ -268,12 +269,12 @@ HasValues (VersionPaths path) d asked = HasOrder (VersionPaths path) d asked
 HasValues (BlockPaths path) d asked = HasOrder (BlockPaths path) d asked
 HasValues WindowsPath d asked = HasOrder WindowsPath d asked
 
--- the value is an object of the path's form, with no other keys, that asks this
+-- Holds if the value is an object of the route's form, without other keys, that asks this.
 pub record HasForm (route : Route) (d : Data) (asked : ApiCall) : Type 0 where
   pub keys : only_keys (keys route) d ≡ true
   pub values : HasValues route d asked
 
--- a body asks one thing at most
+-- Holds if a body asks at most one thing.
 abbrev pub AsksOnce : Type 0
 AsksOnce = (route : Route) (d : Data) (b c : ApiCall) → HasForm route d b → HasForm route d c
     → b ≡ c

@@ -1,11 +1,11 @@
--- The answers of refusals, by their numbers.
+-- The responses to refusals, by their numbers.
 use Rattle.std.specs.Prelude.{ℕ, ◌==◌, List, [], Option, Some, None, if◌then◌else◌}
 use Rattle.model.specs.declared.refusal.Refusal.{Refusal}
 use Rattle.model.specs.declared.refusal.Refusal.TheVariants.{UnknownCarrier, NotAdmin, UnknownCode, CarrierTaken, CodeTaken, LrnTaken, BadLrn, InPool, WrongOld, NotFound, NotYours, Busy, WrongStatus, DuePast, DueMismatch, NotConcurred, BeforeDue, ConflictSpent, TooLate, TooEarly, Protected, Contaminated, OpenPorts, BlockTaken, NotQueued, OutOfOrder, ClockBack, Full, Storage, NoMemory}
 use Rattle.json_api.specs.declared.fault.Failure.TheVariants.{Refused}
 use Rattle.json_api.specs.Failures.{failure_text}
 
--- the refusal of a number
+-- The refusal with a number.
 abbrev pub refusal_of : ℕ → Option Refusal
 refusal_of n =
     if n == 1 then Some UnknownCarrier
@@ -44,6 +44,6 @@ abbrev pub text_of_refusal : Option Refusal → List ℕ
 text_of_refusal None = []
 text_of_refusal (Some refusal) = failure_text (Refused refusal)
 
--- the whole answer of the refusal of a number
+-- The whole response to the refusal with a number.
 unfoldable pub refusal_text : ℕ → List ℕ
 refusal_text number = text_of_refusal (refusal_of number)

@@ -1,4 +1,4 @@
--- A body of plain values as it is written, with spaces and line feeds between its parts alone.
+-- A body of plain values as bytes, with spaces and line feeds between its parts.
 use Rattle.std.specs.Prelude.{◌≡◌, ℕ, ◌&&◌, ◌==◌, nat_le, nat_lt, Bool, true, not, List, ◌++◌}
 use Rattle.std.specs.Str.{IsUtf8}
 use Rattle.json.specs.Token.{Token, key}
@@ -8,27 +8,27 @@ use Rattle.json_api.specs.Flat.{IsScalar}
 use Rattle.json_api.specs.declared.flat.Scalar.{Scalar}
 use Rattle.json_api.specs.declared.flat.Member.{Member}
 
--- a byte that stands for itself in a text: a printable character of ASCII that is no quote and no
--- backslash
+-- Whether a byte represents itself in a text: a printable ASCII character other than a quote and a
+-- backslash.
 abbrev pub is_plain : ℕ → Bool
 is_plain x = nat_le 32 x && (nat_lt x 127 && (not (x == 34) && not (x == 92)))
 
--- a token that stands for a plain value, and can be written
+-- Holds if the token represents a plain value, and can be written.
 pub record IsTokenOf (token : Token) (s : Scalar) : Type 0 where
   pub printable : IsPrintable token
   pub ended : ends token ≡ true
   pub utf8 : IsUtf8 (token_text token)
   pub is : IsScalar token s
 
--- the rest stands behind spaces and line feeds
+-- Holds if `rest` follows leading spaces and line feeds.
 abbrev pub IsBehindGap : List ℕ → List ℕ → Type 0
 IsBehindGap bytes rest = (gap : List ℕ) × IsGap gap × (bytes ≡ gap ++ rest)
 
--- a plain value comes first, and the rest follows
+-- Holds if the bytes are a plain value, then `rest`.
 abbrev pub IsScalarThen : List ℕ → Scalar → List ℕ → Type 0
 IsScalarThen bytes s rest = (token : Token) × IsTokenOf token s × (bytes ≡ token_text token ++ rest)
 
--- a key and its value come first, each behind a gap, and the rest follows
+-- Holds if the bytes are a key and its value, each after a gap, then `rest`.
 pub record IsMemberThen (bytes : List ℕ) (m : Member) (rest : List ℕ) : Type 0 where
   pub before : List ℕ
   pub between : List ℕ

@@ -12,17 +12,17 @@ use Rattle.telnp.specs.Answer.{Uri, answer_text}
 
 -- ---- the values of members
 
--- a carrier code between quotes, or null
+-- A carrier identification code in quotes, or null.
 abbrev pub cic_value : Option ℕ → List ℕ
 cic_value None = codes "null"
 cic_value (Some cic) = codes "\"" ++ cic_text cic ++ codes "\""
 
--- a routing number between quotes, or null
+-- An LRN in quotes, or null.
 abbrev pub lrn_value : Option ℕ → List ℕ
 lrn_value None = codes "null"
 lrn_value (Some lrn) = codes "\"" ++ lrn_text lrn ++ codes "\""
 
--- a minute or an id, or null
+-- A minute or an id, or null.
 abbrev pub number_value : Option ℕ → List ℕ
 number_value None = codes "null"
 number_value (Some number) = decimal number
@@ -45,35 +45,35 @@ status_word (DisconnectPending release) = codes "disconnect-pending"
 status_word Old = codes "old"
 status_word Canceled = codes "canceled"
 
--- the parts of a routing, if there is one
+-- The parts of a routing, if there is one.
 abbrev pub cic_in : Option Routing → Option ℕ
 cic_in routing = option_and_then (λ (r : Routing). r.cic) routing
 
 abbrev pub lrn_in : Option Routing → Option ℕ
 lrn_in routing = option_map (λ (r : Routing). r.lrn) routing
 
--- ---- a version, whose members stand in the order of their names
+-- ---- a version, whose members are in the order of their names
 
--- the members `attempt` to `id`
+-- The members `attempt` to `id`.
 abbrev pub counts_text : View → List ℕ
 counts_text v =
     codes "{\"attempt\":" ++ decimal v.attempt ++ codes ",\"cic\":" ++ cic_value (cic_in v.routing)
     ++ codes ",\"due\":" ++ decimal v.due ++ codes ",\"id\":" ++ decimal v.id
 
--- the members `lrn` to `old`
+-- The members `lrn` to `old`.
 abbrev pub parties_text : View → List ℕ
 parties_text v =
     codes ",\"lrn\":" ++ lrn_value (lrn_in v.routing) ++ codes ",\"new\":\"" ++ spid_text
     v.new_provider
     ++ codes "\",\"old\":\"" ++ spid_text v.old_provider ++ codes "\""
 
--- the members `phase` to `since`
+-- The members `phase` to `since`.
 abbrev pub times_text : View → List ℕ
 times_text v =
     codes ",\"phase\":" ++ phase_value v.phase ++ codes ",\"release\":" ++ number_value v.release
     ++ codes ",\"since\":" ++ decimal v.since
 
--- the members `status` and `subject`
+-- The members `status` and `subject`.
 abbrev pub standing_text : View → List ℕ
 standing_text v = codes ",\"status\":\"" ++ status_word v.status ++ codes "\",\"subject\":\""
     ++ subject_text v.subject ++ codes "\"}"
@@ -83,7 +83,7 @@ view_text v = counts_text v ++ parties_text v ++ times_text v ++ standing_text v
 
 -- ---- lists
 
--- one after another, with a comma between two
+-- The texts of the items, with a comma between two.
 abbrev pub listed : {A : Type 0} → (A → List ℕ) → List A → List ℕ
 listed text [] = []
 listed text (x ∷ xs) = text x ++ flat_map (λ y. codes "," ++ text y) xs
@@ -96,25 +96,25 @@ row_text r =
     (lrn_in r.routing)
     ++ codes ",\"subject\":\"" ++ subject_text r.subject ++ codes "\"}"
 
--- a registered carrier, and its starting rows
+-- A registered carrier and its starting rows.
 unfoldable pub registered_text : ℕ → List InForce → List ℕ
 registered_text spid rows = codes "{\"rows\":[" ++ listed row_text rows ++ codes "],\"spid\":\""
     ++ spid_text spid ++ codes "\"}"
 
--- ---- downloads, whose members stand in the order of their names
+-- ---- downloads, whose members are in the order of their names
 
 abbrev pub action_word : Action → List ℕ
 action_word Create = codes "create"
 action_word Delete = codes "delete"
 action_word Modify = codes "modify"
 
--- the members `action` to `id`
+-- The members `action` to `id`.
 abbrev pub sent_text : Download → List ℕ
 sent_text d =
     codes "{\"action\":\"" ++ action_word d.action ++ codes "\",\"attempt\":" ++ decimal d.attempt
     ++ codes ",\"cic\":" ++ cic_value (cic_in d.routing) ++ codes ",\"id\":" ++ decimal d.id
 
--- the members `lrn` to `subject`
+-- The members `lrn` to `subject`.
 abbrev pub placed_text : Download → List ℕ
 placed_text d =
     codes ",\"lrn\":" ++ lrn_value (lrn_in d.routing) ++ codes ",\"minute\":" ++ decimal d.minute
@@ -123,18 +123,18 @@ placed_text d =
 abbrev pub download_text : Download → List ℕ
 download_text d = sent_text d ++ placed_text d
 
--- a carrier's first downloads
+-- A carrier's first downloads.
 unfoldable pub downloads_text : List Download → List ℕ
 downloads_text downloads = codes "{\"downloads\":[" ++ listed download_text downloads ++ codes "]}"
 
--- ---- what an administrator and a carrier set up
+-- ---- routing numbers and codes
 
--- a routing number, and whose it is
+-- An LRN and the carrier that registered it.
 unfoldable pub routing_number_text : (lrn spid : ℕ) → List ℕ
 routing_number_text lrn spid =
     codes "{\"lrn\":\"" ++ lrn_text lrn ++ codes "\",\"spid\":\"" ++ spid_text spid ++ codes "\"}"
 
--- a code, and its holder
+-- A code and its holder.
 unfoldable pub opened_code_text : (code spid : ℕ) → List ℕ
 opened_code_text code spid =
     codes "{\"code\":\"" ++ code_text code ++ codes "\",\"spid\":\"" ++ spid_text spid ++ codes
@@ -142,7 +142,7 @@ opened_code_text code spid =
 
 -- ---- a donation
 
--- the donated block, and the ids of the versions that were made
+-- The donated block and the ids of its new versions.
 unfoldable pub donated_text : (block : ℕ) → (ids : List ℕ) → List ℕ
 donated_text block ids = codes "{\"block\":\"" ++ block_text block ++ codes "\",\"ids\":[" ++ listed
     decimal ids ++ codes "]}"
@@ -155,24 +155,23 @@ ids_text in_force opened = codes "{\"in_force\":" ++ number_value in_force ++ co
 
 -- ---- the clock
 
--- the minute that it is
+-- The present minute.
 unfoldable pub now_text : ℕ → List ℕ
 now_text now = codes "{\"now\":" ++ decimal now ++ codes "}"
 
--- the minute that it is, and the number of the present set of windows
+-- The present minute and the number of the present windows.
 unfoldable pub windows_set_text : (now number : ℕ) → List ℕ
 windows_set_text now number =
     codes "{\"now\":" ++ decimal now ++ codes ",\"set\":" ++ decimal number ++ codes "}"
 
 -- ---- a query
 
--- the text that answers a query for a URI, by the register's answer of its number: the text itself
--- where the number's code
--- is not opened
+-- The URI in the response to a query, by the register's answer on its number. If the number's code
+-- is not opened, it is the text itself.
 abbrev pub looked_up : Uri → Answer → List ℕ
 looked_up uri Closed = uri.text
 looked_up uri (Opened routing) = answer_text uri routing
 
--- a URI between quotes. No byte of a tel URI has to be escaped
+-- A URI in quotes. No byte of a `tel` URI has to be escaped.
 unfoldable pub uri_text : List ℕ → List ℕ
 uri_text uri = codes "{\"uri\":\"" ++ uri ++ codes "\"}"

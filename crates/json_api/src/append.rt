@@ -1,4 +1,4 @@
-//! Writing into room that was taken before, which cannot fail.
+//! Appends texts and numbers to strings with reserved memory, which cannot fail.
 ghost use Rattle.std.specs.Prelude.{◌≡◌, ◌+◌, ◌<◌, ◌≤◌, ◌++◌, length, decimal, string_bytes, string_len, string_capacity};
 ghost use Rattle.numbers.specs.Texts.{block_text, digits_of, spid_text, subject_text};
 ghost use Rattle.numbers.specs.Abstraction.{subject_of};
@@ -18,7 +18,7 @@ pub fn put(out: &mut String, text: &str)
     }
 }
 
-// Appends a number of one digit.
+// Appends a number below ten as one digit.
 fn put_digit(out: &mut String, digit: u8)
     requires digit { digit < 10 }
     requires room { string_len out.old + 20 ≤ string_capacity out.old }
@@ -32,14 +32,14 @@ fn put_digit(out: &mut String, digit: u8)
     }
 }
 
-/// Appends a whole number in decimal: at most twenty digits.
+/// Appends a number in decimal, of at most 20 digits.
 pub fn put_number(out: &mut String, number: u64)
     requires { string_len out.old + 20 ≤ string_capacity out.old }
     ensures bytes { string_bytes out.new ≡ string_bytes out.old ++ decimal number }
     ensures len { string_len out.new ≤ string_len out.old + 20 }
     ensures capacity { string_capacity out.old ≤ string_capacity out.new }
 {
-    // as most are
+    // Most numbers have one digit; skip the buffer.
     if number < 10 {
         return put_digit(out, number as u8);
     }
@@ -56,7 +56,7 @@ pub fn put_minute(out: &mut String, minute: Minute)
     put_number(out, minute.number)
 }
 
-/// Appends a provider's four characters.
+/// Appends the four characters of a SPID.
 pub fn put_spid(out: &mut String, spid: Spid)
     requires { string_len out.old + 4 ≤ string_capacity out.old }
     ensures bytes { string_bytes out.new ≡ string_bytes out.old ++ spid_text spid.number }
@@ -69,7 +69,7 @@ pub fn put_spid(out: &mut String, spid: Spid)
     }
 }
 
-/// Appends a routing number's ten digits.
+/// Appends the ten digits of an LRN.
 pub fn put_lrn(out: &mut String, lrn: Lrn)
     requires { string_len out.old + 10 ≤ string_capacity out.old }
     ensures bytes { string_bytes out.new ≡ string_bytes out.old ++ digits_of 10 lrn.number }
@@ -82,7 +82,7 @@ pub fn put_lrn(out: &mut String, lrn: Lrn)
     }
 }
 
-/// Appends a carrier code's four digits.
+/// Appends the four digits of a CIC.
 pub fn put_cic(out: &mut String, cic: Cic)
     requires { string_len out.old + 4 ≤ string_capacity out.old }
     ensures bytes { string_bytes out.new ≡ string_bytes out.old ++ digits_of 4 cic.number }
@@ -95,7 +95,7 @@ pub fn put_cic(out: &mut String, cic: Cic)
     }
 }
 
-/// Appends a code's six digits.
+/// Appends the six digits of a code.
 pub fn put_code(out: &mut String, code: CodeId)
     requires { string_len out.old + 6 ≤ string_capacity out.old }
     ensures bytes { string_bytes out.new ≡ string_bytes out.old ++ digits_of 6 code.number }
@@ -108,7 +108,7 @@ pub fn put_code(out: &mut String, code: CodeId)
     }
 }
 
-/// Appends a block's seven digits.
+/// Appends the seven digits of a block.
 pub fn put_block(out: &mut String, block: BlockId)
     requires { string_len out.old + 7 ≤ string_capacity out.old }
     ensures bytes { string_bytes out.new ≡ string_bytes out.old ++ block_text block.number }
@@ -121,7 +121,7 @@ pub fn put_block(out: &mut String, block: BlockId)
     }
 }
 
-/// Appends a subject's ten or seven digits.
+/// Appends the digits of a subject: ten of a number, seven of a block.
 pub fn put_subject(out: &mut String, subject: Subject)
     requires { string_len out.old + 10 ≤ string_capacity out.old }
     ensures bytes { string_bytes out.new

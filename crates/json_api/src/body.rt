@@ -1,4 +1,4 @@
-//! Bodies of any JSON.
+//! Parses bodies of any JSON as trees.
 ghost use Rattle.std.specs.Prelude.{◌≡◌, IfOk, option_map};
 ghost use Rattle.serde_json.specs.Read.{read as read_text};
 ghost use Rattle.serde_json.specs.View.{view};
@@ -7,7 +7,7 @@ ghost use Rattle.json_api.specs.Forms.{json_of};
 use serde_json::{Category, Value};
 use std::alloc::{AllocError, Global};
 
-// The tree that a text is, or `None` where it is no JSON.
+// Parses a text as a JSON tree. Returns `None` if it is not JSON.
 fn tree(alloc: Global, text: &str) -> Result<Option<Value>, AllocError>
     ensures { IfOk result (λ read. option_map view read ≡ read_text text.now) }
 {
@@ -20,9 +20,13 @@ fn tree(alloc: Global, text: &str) -> Result<Option<Value>, AllocError>
     }
 }
 
-/// The JSON value of a body as a tree, or `None` where it is no JSON. `Err` is want of memory.
+/// Parses a body as a JSON tree. Returns `None` if it is not JSON.
 ///
-/// Whatever is JSON is read so, in memory of its own: first try `Flat::read`.
+/// Allocates the tree; try `Flat::read` first.
+///
+/// # Errors
+///
+/// `AllocError` if an allocation fails.
 #[cold]
 #[inline(never)]
 pub fn json(alloc: Global, body: &[u8]) -> Result<Option<Value>, AllocError>

@@ -1,4 +1,4 @@
-//! What an answer says in place of a reply.
+//! The failures that a response reports instead of a reply, with their names, numbers and statuses.
 ghost use Rattle.std.specs.Prelude.{◌≡◌, ◌≤◌, length};
 ghost use Rattle.model.specs.declared.refusal.Refusal.TheVariants.{NoMemory};
 ghost use Rattle.json_api.specs.declared.fault.Failure.TheVariants.{Refused, Uri, Message};
@@ -12,11 +12,14 @@ use model::Refusal;
 use std::alloc::AllocError;
 use telnp::TelFault;
 
-/// Why a message got no reply: by the register, its URI or its form.
+/// Why a message got no reply: the register refused it, or its URI or the message has a fault.
 #[derive(Clone, Copy, Debug, PartialEq, Eq)]
 pub enum Failure {
+    /// A refusal of the register.
     Refused(Refusal),
+    /// A fault of a query's URI.
     Uri(TelFault),
+    /// A fault of the message.
     Message(MessageFault),
 }
 
@@ -136,7 +139,7 @@ fn status_of_message(fault: MessageFault) -> u16
 }
 
 impl Failure {
-    /// The name on the wire.
+    /// Returns the name on the wire.
     pub fn name(self) -> &'static str
         ensures text { result.now ≡ failure_name self }
         ensures short { length result.now ≤ 16 }
@@ -148,7 +151,7 @@ impl Failure {
         }
     }
 
-    /// The number on the wire.
+    /// Returns the number on the wire.
     pub(crate) fn number(self) -> u8
         ensures { result ≡ failure_number self }
     {
@@ -159,7 +162,7 @@ impl Failure {
         }
     }
 
-    /// The status code of the answer.
+    /// Returns the HTTP status of the response.
     pub fn status(self) -> u16
         ensures value { result ≡ failure_status self }
         ensures answered { IsAnswered result }

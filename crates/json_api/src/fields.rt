@@ -1,4 +1,4 @@
-//! The members of an object, by their keys.
+//! Reads the members of a JSON object by their keys.
 ghost use Rattle.std.specs.Prelude.{◌≡◌, option_map, map, string_bytes};
 ghost use Rattle.std.specs.List.{list_any, list_all};
 ghost use Rattle.std.specs.Str.{bytes_eq};
@@ -11,44 +11,44 @@ ghost use Rattle.json_api.specs.Forms.{only_keys, whole, text, flag, items, is_l
 use serde_json::{Map, Value};
 use std::alloc::Global;
 
-/// A JSON value whose members are looked up by their keys, however it is held.
+/// A JSON value whose members are read by key.
 pub trait Fields {
-    // the value that it is
+    // The JSON value that it represents.
     ghost value: { Self → Data };
 
-    /// The whole number below 2^40 under a key.
+    /// Returns the whole number below 2^40 under `key`, if there is one.
     fn whole(&self, key: &str) -> Option<u64>
         ensures { result ≡ whole key.now (value self.now) };
 
-    /// The text under a key.
+    /// Returns the text under `key`, if there is one.
     fn text(&self, key: &str) -> Option<&str>
         ensures { option_map (λ s. s.now) result ≡ text key.now (value self.now) };
 
-    /// The flag under a key.
+    /// Returns the Boolean under `key`, if there is one.
     fn flag(&self, key: &str) -> Option<bool>
         ensures { result ≡ flag key.now (value self.now) };
 
-    /// The items of the array under a key.
+    /// Returns the items of the array under `key`, if there is one.
     fn items(&self, key: &str) -> Option<&[Value]>
         ensures { option_map (λ s. items_view s.now) result ≡ items key.now (value self.now) };
 
-    /// Whether there is nothing under a key, or null.
+    /// Returns whether `key` is missing, or has the value null.
     fn is_left_out(&self, key: &str) -> bool
         ensures { result ≡ is_missing (get key.now (value self.now)) };
 
-    /// Whether it is an object with no other keys.
+    /// Returns whether the value is an object without keys other than `allowed`.
     fn has_only(&self, allowed: &[&str]) -> bool
         ensures { result ≡ only_keys (map (λ s. s.now) allowed.now) (value self.now) };
 }
 
-// Whether a key is one of these.
+// Returns whether `key` is one of `allowed`.
 pub(crate) fn is_one_of(key: &str, allowed: &[&str]) -> bool
     ensures { result ≡ list_any (λ s. bytes_eq key.now s.now) allowed.now }
 {
     allowed.iter().any(|s| key == *s)
 }
 
-// Whether each key of a map is one of these.
+// Returns whether each key of a map is one of `allowed`.
 fn are_known(members: &Map<String, Value>, allowed: &[&str]) -> bool
     ensures { result ≡ list_all (λ k. list_any (λ s. bytes_eq (string_bytes k) s.now) allowed.now)
         (keys_in members.now) }

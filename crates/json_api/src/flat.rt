@@ -1,4 +1,4 @@
-//! Objects in which no array and no object stands, held without a tree.
+//! JSON objects without arrays and objects in them, read without a tree.
 ghost use Rattle.std.specs.Prelude.{◌≡◌, ◌<◌, length, ◌++◌, ◌∷◌, [], true, Some, option_map, map, IfOk, IfSome, OnOk};
 ghost use Rattle.json.specs.Reads.{token_of};
 ghost use Rattle.serde_json.specs.Find.{get as get_in};
@@ -13,7 +13,7 @@ use crate::scan::read_members;
 use arrayvec::ArrayVec;
 use serde_json::Value;
 
-/// What stands under a key.
+/// The value under a key: null, a Boolean, a whole number or a text.
 #[derive(Clone, Copy, Debug)]
 pub enum Scalar<'a> {
     Null,
@@ -22,7 +22,7 @@ pub enum Scalar<'a> {
     Text(&'a str),
 }
 
-/// A key and what stands under it.
+/// A key and its value.
 #[derive(Clone, Copy, Debug)]
 pub struct Member<'a> {
     pub key: &'a str,
@@ -40,17 +40,17 @@ impl Default for Member<'_> {
     }
 }
 
-// No body but that of the windows has more keys.
+// Only the body that sets windows has more keys.
 pub(crate) const MOST_MEMBERS: usize = 6;
 
-/// The members of an object, in the order in which they stand.
+/// The members of an object, in the order of the body.
 #[derive(Drop)]
 pub struct Flat<'a> {
     pub(crate) members: ArrayVec<Member<'a>, MOST_MEMBERS>,
 }
 
 impl<'a> Flat<'a> {
-    /// No members.
+    /// Creates a value without members.
     pub fn new() -> Flat<'a>
         ensures { result.members.items ≡ [] }
     {
@@ -59,14 +59,16 @@ impl<'a> Flat<'a> {
         }
     }
 
-    /// Reads the object that a body is, in place of what was held, and tells whether it did. Its
-    /// texts are the body's: it takes no memory.
+    /// Reads the object in `body`, instead of the members held so far. Returns whether it could.
+    /// Allocates nothing; texts are borrowed from the body.
     ///
-    /// `false` says nothing of the body: it may be no JSON, no object or one of other than plain
-    /// values, have more members than any body of a form, a text with an escape or with more than
-    /// ASCII, a number with a sign, a point, an exponent or more than 19 digits, or other blanks
-    /// than spaces and line feeds behind its marks. Every body of a form but a donation's and that
-    /// of the windows is read so where it is written plainly.
+    /// `false` does not imply that the body is invalid. If plainly written, every form of a body is
+    /// read, except donations and windows. Not read are:
+    /// - objects with arrays or objects in them, without members, or with more than six;
+    /// - escapes and non-ASCII characters in texts;
+    /// - numbers with a sign, a fraction, an exponent or more than 19 digits;
+    /// - white space other than spaces and line feeds, before a colon or a comma, or around the
+    ///   object.
     pub fn read(&mut self, body: &'a [u8]) -> bool
         ensures { result ≡ true → json_of body.now ≡ Some (flat_data self.new.members.items) }
     {
@@ -74,7 +76,7 @@ impl<'a> Flat<'a> {
         read_members(body, &mut self.members).is_some()
     }
 
-    // What stands under a key: the last, where it stands twice.
+    // Returns the value under `key`, the last one if there are several.
     fn get(&self, key: &str) -> Option<Scalar<'a>>
         ensures { option_map scalar_data result
             ≡ get_in key.now (flat_data self.now.members.items) }
@@ -91,7 +93,7 @@ impl<'a> Flat<'a> {
     }
 }
 
-// The place of a key among these, from a place on.
+// Returns the index of `key` in `keys` at or after `first`.
 fn place_from(first: usize, key: &str, keys: &[&str]) -> Option<usize>
     ensures { IfSome result (λ place. (place < length keys.now)
         × (is_among keys.now key.now ≡ true)) }
@@ -106,8 +108,8 @@ fn place_from(first: usize, key: &str, keys: &[&str]) -> Option<usize>
     None
 }
 
-// Whether each of the members has one of these keys. As a rule they stand in the order of the keys,
-// so that each is found from the last one's place on.
+// Returns whether each member has one of the keys `allowed`. Members usually come in the order of
+// the keys, so the search for each starts after the one before.
 fn are_known(members: &[Member<'_>], allowed: &[&str]) -> bool
     ensures { result ≡ list_all (λ m. is_among allowed.now m.key.now) members.now }
 {

@@ -1,4 +1,4 @@
-//! The forms of request bodies: JSON objects with exactly their keys.
+//! The forms of request bodies: JSON objects with the keys of their route and no others.
 ghost use Rattle.std.specs.Prelude.{◌≡◌, ℕ, List, IfOk, IfSome, IfNone, Option, option_map, codes, map, Some, true};
 ghost use Rattle.serde_json.specs.View.{view};
 ghost use Rattle.numbers.specs.declared.cic.Cic.{Cic as CicImpl};
@@ -23,10 +23,12 @@ use std::alloc::{AllocError, Global};
 use version::{Create, Creator, VersionCommand};
 use windows::{Window, Windows};
 
-/// What a message asks: a call of the register, or where the number of a URI is routed.
+/// What a message asks: a call of the register, or the routing for the number of a URI.
 #[derive(Debug, Drop)]
 pub enum ApiCall<'a> {
+    /// A call of the register.
     Call(Call),
+    /// A query by this URI.
     Uri(&'a str),
 }
 
@@ -86,7 +88,7 @@ fn given_cic_at<F: Fields>(fields: &F) -> Option<Cic>
     Cic::read(fields.text("cic")?)
 }
 
-// A carrier code, which may be left out or be null.
+// Reads a carrier identification code, which may be missing or null.
 fn cic_at<F: Fields>(fields: &F) -> Option<Option<Cic>>
     ensures some { IfSome result (λ cic. HasCic (F.value fields.now)
         (option_map (λ (c : CicImpl). c.number) cic)) }
@@ -110,7 +112,7 @@ fn routing_at<F: Fields>(fields: &F) -> Option<Routing>
     })
 }
 
-// The keys of a command on a version.
+// Returns the keys of a command on a version.
 fn version_keys_of(path: VersionPath) -> &'static [&'static str]
     ensures { map (λ s. s.now) result.now ≡ version_keys path }
 {
@@ -121,7 +123,7 @@ fn version_keys_of(path: VersionPath) -> &'static [&'static str]
     }
 }
 
-// The keys of a command on a block.
+// Returns the keys of a command on a block.
 fn block_keys_of(path: BlockPath) -> &'static [&'static str]
     ensures { map (λ s. s.now) result.now ≡ block_keys path }
 {
@@ -132,7 +134,7 @@ fn block_keys_of(path: BlockPath) -> &'static [&'static str]
     }
 }
 
-// The keys of a path's body.
+// Returns the keys of a route's body.
 fn keys_of(route: Route) -> &'static [&'static str]
     ensures { map (λ s. s.now) result.now ≡ keys route }
 {
@@ -162,7 +164,7 @@ fn keys_of(route: Route) -> &'static [&'static str]
     }
 }
 
-// The parties of a create and its due minute.
+// Reads the providers and the due minute of a create.
 fn create_by<F: Fields>(fields: &F, creator: Creator) -> Option<Create>
     ensures some { IfSome result (λ c. HasPort (F.value fields.now)
         c.tn.number c.old_provider.number c.new_provider.number c.due.number
@@ -235,7 +237,7 @@ fn register_routing_number<F: Fields>(fields: &F) -> Option<Command>
     })
 }
 
-// A minute of release, which may be left out or be null.
+// Reads the minute of the release, which may be missing or null.
 fn release_at<F: Fields>(fields: &F) -> Option<Option<Minute>>
     ensures some { IfSome result (λ release. HasRelease (F.value fields.now)
         (option_map (λ (m : MinuteImpl). m.number) release)) }
@@ -288,7 +290,7 @@ fn on_version<F: Fields>(path: VersionPath, fields: &F) -> Option<Command>
     })
 }
 
-// The lines that a donation says are used.
+// Reads the lines in use of a donated block.
 fn used_at<F: Fields>(alloc: Global, fields: &F) -> Result<Option<Vec<Line>>, AllocError>
     ensures some { IfOk result (λ read. IfSome read (λ used.
         HasUsed (F.value fields.now) (lines_model used.items))) }
@@ -364,7 +366,7 @@ fn on_block<F: Fields>(
     }
 }
 
-// A window: a whole number of minutes from 1 to 525,600.
+// Reads a window: a whole number of minutes from 1 to 525,600.
 #[tactic(auto, unfolding(crate::specs::Forms::window))]
 fn window_at<F: Fields>(fields: &F, key: &str) -> Option<Window>
     ensures { option_map (λ (w : WindowImpl). w.minutes) result
@@ -464,7 +466,7 @@ fn clock_of<F: Fields>(fields: &F) -> Option<ApiCall<'_>>
     }))
 }
 
-// What the values of an object ask on a path.
+// Returns what the values of an object ask on a route.
 fn values_of<F: Fields>(
     alloc: Global,
     route: Route,
@@ -486,13 +488,17 @@ fn values_of<F: Fields>(
     }
 }
 
-/// A body asks one thing at most.
+/// States that a body asks at most one thing.
 pub fn body_asks_once()
     ensures { AsksOnce }
 {}
 
-/// What a body asks on a path, or `None` where it does not have the path's form. `Err` is want of
-/// memory for the lines of a donation, the one part of a form that takes memory of its own.
+/// Returns what a body asks on a route, or `None` if it does not have the route's form.
+///
+/// # Errors
+///
+/// `AllocError` if there is no memory for the lines of a donation, the only part of a form that is
+/// allocated.
 pub fn api_call_of<F: Fields>(
     alloc: Global,
     route: Route,

@@ -1,4 +1,4 @@
-//! What the bodies of requests ask and what the bodies of answers say, in JSON.
+//! JSON bodies: what a request asks, and what a response says.
 #![tactic(auto)]
 
 mod append;

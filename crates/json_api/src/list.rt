@@ -1,18 +1,18 @@
-//! Lists in bodies.
+//! Appends lists with commas between their items.
 ghost use Rattle.std.specs.Prelude.{◌≡◌, ℕ, List, ◌+◌, ◌*◌, ◌≤◌, ◌++◌, length, codes, string_bytes, string_len, string_capacity};
 ghost use Rattle.std.specs.List.{flat_map};
 ghost use Rattle.json_api.specs.Texts.{listed};
 
 use crate::append::put;
 
-/// What stands in a list.
+/// An item of a list.
 pub(crate) trait Item {
-    // its text
+    // Its text.
     ghost text: { Self → List ℕ };
-    // the most bytes that it takes
+    // The most bytes of its text.
     ghost room: { ℕ };
 
-    /// Appends it.
+    /// Appends the text.
     fn put(&self, out: &mut String)
         requires { string_len out.old + room ≤ string_capacity out.old }
         ensures bytes { string_bytes out.new ≡ string_bytes out.old ++ text self.now }
@@ -20,7 +20,7 @@ pub(crate) trait Item {
         ensures capacity { string_capacity out.old ≤ string_capacity out.new };
 }
 
-// One behind another.
+// Appends a comma and an item.
 fn put_next<T: Item>(out: &mut String, item: &T)
     requires { string_len out.old + (T.room + 1) ≤ string_capacity out.old }
     ensures bytes { string_bytes out.new
@@ -32,7 +32,7 @@ fn put_next<T: Item>(out: &mut String, item: &T)
     item.put(out);
 }
 
-// Those behind the first.
+// Appends the items after the first, each with a comma before it.
 fn put_rest<T: Item>(out: &mut String, items: &[T])
     requires { string_len out.old + length items.now * (T.room + 1) ≤ string_capacity out.old }
     ensures bytes { string_bytes out.new
@@ -45,7 +45,8 @@ fn put_rest<T: Item>(out: &mut String, items: &[T])
     }
 }
 
-/// Appends these, with a comma between two: for each the bytes that it takes, and one.
+/// Appends the items, with a comma between two. Needs memory for the longest text of each, and one
+/// byte more.
 pub(crate) fn put_list<T: Item>(out: &mut String, items: &[T])
     requires { string_len out.old + length items.now * (T.room + 1) ≤ string_capacity out.old }
     ensures bytes { string_bytes out.new ≡ string_bytes out.old ++ listed T.text items.now }

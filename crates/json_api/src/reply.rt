@@ -1,4 +1,4 @@
-//! The bodies of answers.
+//! Appends the bodies of responses.
 ghost use Rattle.std.specs.Prelude.{◌≡◌, ℕ, ◌+◌, ◌*◌, ◌≤◌, ◌++◌, OnOk, length, map, decimal, option_map, string_bytes, string_len, string_capacity};
 ghost use Rattle.numbers.specs.declared.cic.Cic.{Cic as CicImpl};
 ghost use Rattle.numbers.specs.declared.lrn.Lrn.{Lrn as LrnImpl};
@@ -28,19 +28,19 @@ use std::alloc::{AllocError, Global};
 use telnp::TelUri;
 use version::Phase;
 
-/// The most bytes that a version's body takes.
+/// The most bytes of a version's body.
 pub const VERSION_CAPACITY: usize = 400;
 
-/// The most bytes that a row in force takes, with a comma.
+/// The most bytes of a row in force, with a comma.
 pub const ROW_CAPACITY: usize = 64;
 
-/// The most bytes that an id takes, with a comma.
+/// The most bytes of an id, with a comma.
 pub const ID_CAPACITY: usize = 21;
 
-/// The most bytes that a download takes, with a comma.
+/// The most bytes of a download, with a comma.
 pub const DOWNLOAD_CAPACITY: usize = 192;
 
-/// Appends the body of a refusal, of at most 64 bytes.
+/// Appends the body for a failure, of at most 64 bytes.
 pub fn put_failure(out: &mut String, failure: Failure)
     requires { string_len out.old + 64 ≤ string_capacity out.old }
     ensures bytes { string_bytes out.new ≡ string_bytes out.old ++ failure_body failure }
@@ -118,7 +118,7 @@ fn status_text(status: Status) -> &'static str
     }
 }
 
-// The minute of the release that a disconnect-pending version waits for, or null.
+// Appends the release minute of a disconnect-pending version, or null.
 fn put_release(out: &mut String, status: Status)
     requires { string_len out.old + 20 ≤ string_capacity out.old }
     ensures bytes { string_bytes out.new
@@ -132,7 +132,7 @@ fn put_release(out: &mut String, status: Status)
     }
 }
 
-// The members `attempt` to `id`.
+// Appends the members `attempt` to `id`.
 fn put_counts(out: &mut String, view: &VersionView)
     requires { string_len out.old + 120 ≤ string_capacity out.old }
     ensures bytes { string_bytes out.new ≡ string_bytes out.old ++ counts_text (view_of view.now) }
@@ -161,7 +161,7 @@ fn lrn_of(routing: Option<Routing>) -> Option<Lrn>
     Some(routing?.lrn)
 }
 
-// The members `lrn` to `old`.
+// Appends the members `lrn` to `old`.
 fn put_parties(out: &mut String, view: &VersionView)
     requires { string_len out.old + 60 ≤ string_capacity out.old }
     ensures bytes { string_bytes out.new ≡ string_bytes out.old ++ parties_text (view_of view.now) }
@@ -177,7 +177,7 @@ fn put_parties(out: &mut String, view: &VersionView)
     put(out, "\"");
 }
 
-// The members `phase` to `since`.
+// Appends the members `phase` to `since`.
 fn put_times(out: &mut String, view: &VersionView)
     requires { string_len out.old + 80 ≤ string_capacity out.old }
     ensures bytes { string_bytes out.new ≡ string_bytes out.old ++ times_text (view_of view.now) }
@@ -192,7 +192,7 @@ fn put_times(out: &mut String, view: &VersionView)
     put_minute(out, view.version.since);
 }
 
-// The members `status` and `subject`.
+// Appends the members `status` and `subject`.
 fn put_standing(out: &mut String, view: &VersionView)
     requires { string_len out.old + 80 ≤ string_capacity out.old }
     ensures bytes { string_bytes out.new
@@ -207,7 +207,7 @@ fn put_standing(out: &mut String, view: &VersionView)
     put(out, "\"}");
 }
 
-/// Appends the body that shows a version, of at most 400 bytes.
+/// Appends the body with a version, of at most 400 bytes.
 #[tactic(auto, unfolding(crate::specs::Texts::view_text))]
 pub fn put_version(out: &mut String, view: &VersionView)
     requires { string_len out.old + 400 ≤ string_capacity out.old }
@@ -221,7 +221,7 @@ pub fn put_version(out: &mut String, view: &VersionView)
     put_standing(out, view);
 }
 
-/// Appends the body that shows a routing number and whose it is, of at most 64 bytes.
+/// Appends the body with an LRN and its carrier, of at most 64 bytes.
 #[tactic(auto, unfolding(crate::specs::Texts::routing_number_text))]
 pub fn put_routing_number(out: &mut String, lrn: Lrn, spid: Spid)
     requires { string_len out.old + 64 ≤ string_capacity out.old }
@@ -237,7 +237,7 @@ pub fn put_routing_number(out: &mut String, lrn: Lrn, spid: Spid)
     put(out, "\"}");
 }
 
-/// Appends the body that shows a code and its holder, of at most 64 bytes.
+/// Appends the body with a code and its holder, of at most 64 bytes.
 #[tactic(auto, unfolding(crate::specs::Texts::opened_code_text))]
 pub fn put_opened_code(out: &mut String, code: CodeId, spid: Spid)
     requires { string_len out.old + 64 ≤ string_capacity out.old }
@@ -265,7 +265,7 @@ fn put_id_or_null(out: &mut String, id: Option<u64>)
     }
 }
 
-/// Appends the body that tells the ids of a number's versions, of at most 64 bytes.
+/// Appends the body with the ids of a number's versions, of at most 64 bytes.
 #[tactic(auto, unfolding(crate::specs::Texts::ids_text))]
 pub fn put_ids(out: &mut String, ids: Ids)
     requires { string_len out.old + 64 ≤ string_capacity out.old }
@@ -281,7 +281,7 @@ pub fn put_ids(out: &mut String, ids: Ids)
     put(out, "}");
 }
 
-/// Appends the body that shows the minute that it is, of at most 64 bytes.
+/// Appends the body with the present minute, of at most 64 bytes.
 #[tactic(auto, unfolding(crate::specs::Texts::now_text))]
 pub fn put_now(out: &mut String, now: Minute)
     requires { string_len out.old + 64 ≤ string_capacity out.old }
@@ -294,8 +294,8 @@ pub fn put_now(out: &mut String, now: Minute)
     put(out, "}");
 }
 
-/// Appends the body that shows the minute that it is and the number of the present set of windows,
-/// of at most 64 bytes.
+/// Appends the body with the present minute and the number of the present windows, of at most 64
+/// bytes.
 #[tactic(auto, unfolding(crate::specs::Texts::windows_set_text))]
 pub fn put_windows_set(out: &mut String, now: Minute, number: u16)
     requires { string_len out.old + 64 ≤ string_capacity out.old }
@@ -311,7 +311,7 @@ pub fn put_windows_set(out: &mut String, now: Minute, number: u16)
     put(out, "}");
 }
 
-// A row in force.
+// A row in force, as an item of a list.
 impl Item for RoutedRow {
     ghost text = { λ r. row_text (in_force_of r) };
 
@@ -328,7 +328,7 @@ impl Item for RoutedRow {
     }
 }
 
-// Rows in force, one after another.
+// Appends rows in force, with a comma between two.
 #[tactic(auto, using(crate::proofs::ListLemmas::listed_of))]
 fn put_rows(out: &mut String, rows: &[RoutedRow])
     requires { string_len out.old + length rows.now * 64 ≤ string_capacity out.old }
@@ -340,8 +340,7 @@ fn put_rows(out: &mut String, rows: &[RoutedRow])
     put_list(out, rows);
 }
 
-/// Appends the body that shows a carrier and its starting rows, of at most 64 bytes and 64 for each
-/// row.
+/// Appends the body with a carrier and its starting rows, of at most 64 bytes and 64 for each row.
 #[tactic(auto, unfolding(crate::specs::Texts::registered_text))]
 pub fn put_registered(out: &mut String, spid: Spid, rows: &[RoutedRow])
     requires { string_len out.old + 64 + length rows.now * 64 ≤ string_capacity out.old }
@@ -357,7 +356,7 @@ pub fn put_registered(out: &mut String, spid: Spid, rows: &[RoutedRow])
     put(out, "\"}");
 }
 
-// An id.
+// An id, as an item of a list.
 impl Item for u64 {
     ghost text = { λ id. decimal id };
 
@@ -368,7 +367,7 @@ impl Item for u64 {
     }
 }
 
-// Ids, one after another.
+// Appends ids, with a comma between two.
 fn put_id_list(out: &mut String, ids: &[u64])
     requires { string_len out.old + length ids.now * 21 ≤ string_capacity out.old }
     ensures bytes { string_bytes out.new ≡ string_bytes out.old ++ listed decimal ids.now }
@@ -378,8 +377,8 @@ fn put_id_list(out: &mut String, ids: &[u64])
     put_list(out, ids);
 }
 
-/// Appends the body that shows a donated block and the ids of the versions that were made, of at
-/// most 64 bytes and 21 for each id.
+/// Appends the body with a donated block and the ids of its new versions, of at most 64 bytes and
+/// 21 for each id.
 #[tactic(auto, unfolding(crate::specs::Texts::donated_text))]
 pub fn put_donated(out: &mut String, block: BlockId, ids: &[u64])
     requires { string_len out.old + 64 + length ids.now * 21 ≤ string_capacity out.old }
@@ -406,7 +405,7 @@ fn action_text(action: Action) -> &'static str
     }
 }
 
-// The members `action` to `id`.
+// Appends the members `action` to `id`.
 fn put_sent(out: &mut String, download: &Download)
     requires { string_len out.old + 100 ≤ string_capacity out.old }
     ensures bytes { string_bytes out.new
@@ -424,7 +423,7 @@ fn put_sent(out: &mut String, download: &Download)
     put_number(out, download.id);
 }
 
-// The members `lrn` to `subject`.
+// Appends the members `lrn` to `subject`.
 fn put_placed(out: &mut String, download: &Download)
     requires { string_len out.old + 80 ≤ string_capacity out.old }
     ensures bytes { string_bytes out.new
@@ -441,7 +440,7 @@ fn put_placed(out: &mut String, download: &Download)
     put(out, "\"}");
 }
 
-// A download.
+// A download, as an item of a list.
 impl Item for Download {
     ghost text = { λ d. download_text (download_of d) };
 
@@ -453,7 +452,7 @@ impl Item for Download {
     }
 }
 
-// Downloads, one after another.
+// Appends downloads, with a comma between two.
 #[tactic(auto, using(crate::proofs::ListLemmas::listed_of))]
 fn put_download_list(out: &mut String, downloads: &[Download])
     requires { string_len out.old + length downloads.now * 192 ≤ string_capacity out.old }
@@ -465,7 +464,7 @@ fn put_download_list(out: &mut String, downloads: &[Download])
     put_list(out, downloads);
 }
 
-/// Appends the body that shows a carrier's first downloads, of at most 64 bytes and 192 for each
+/// Appends the body with a carrier's first downloads, of at most 64 bytes and 192 for each
 /// download.
 pub fn put_downloads(out: &mut String, downloads: &[Download])
     requires { string_len out.old + 64 + length downloads.now * 192 ≤ string_capacity out.old }
@@ -479,12 +478,12 @@ pub fn put_downloads(out: &mut String, downloads: &[Download])
     put(out, "]}");
 }
 
-/// The most bytes that the body of a query's answer takes beside its URI.
+/// The most bytes of a query's body besides its URI.
 pub const URI_CAPACITY: usize = 10;
 
-/// Appends the body that answers a query with a tel URI, of at most 10 bytes more than the URI. The
-/// bytes of a tel URI are letters, digits and marks of the grammar, none of them a quote, a
-/// backslash or a control byte, so none has to be escaped (`uris_need_no_escape` of `api`).
+/// Appends the body with a `tel` URI, of at most 10 bytes more than the URI. No byte of a `tel` URI
+/// is a quote, a backslash or a control byte, so none has to be escaped (`uris_need_no_escape` of
+/// `api`).
 #[tactic(auto, unfolding(crate::specs::Texts::uri_text))]
 pub fn put_uri(out: &mut String, uri: &str)
     requires { string_len out.old + length uri.now + 10 ≤ string_capacity out.old }
@@ -497,9 +496,12 @@ pub fn put_uri(out: &mut String, uri: &str)
     put(out, "\"}");
 }
 
-/// Writes the body that answers a query by a tel URI whose number was looked up, and takes the room
-/// for the whole answer. Where the URI has no parameters, it takes no memory that was not taken for
-/// an answer before.
+/// Writes the body with a `tel` URI whose number was looked up, and reserves memory for the whole
+/// response. For a URI without parameters, the memory already reserved for responses suffices.
+///
+/// # Errors
+///
+/// `AllocError` if an allocation fails.
 #[tactic(auto, unfolding(crate::specs::Texts::uri_text))]
 pub fn put_looked_up(
     alloc: Global,

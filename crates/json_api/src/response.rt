@@ -1,4 +1,4 @@
-//! Answers, written into room that was taken before.
+//! Writes HTTP responses into reserved memory.
 ghost use Rattle.std.specs.Prelude.{◌≡◌, ℕ, ◌+◌, ◌≤◌, ◌<◌, ◌^◌, ◌++◌, length, string_bytes, IfOk, OnOk, string_len, string_capacity};
 ghost use Rattle.json_api.specs.Response.{response, head, head_start, IsAnswered, phrase};
 
@@ -6,20 +6,20 @@ use crate::append::{put, put_number};
 use http::StatusCode;
 use std::alloc::{AllocError, Global};
 
-/// The room for every answer but those of everything in force and of queries.
+/// The bytes reserved for each body; a registration, a donation, a fetch or a query may need more.
 pub const SMALL_CAPACITY: usize = 512;
 
-/// The most that the head of an answer takes.
+/// The most bytes of a response's head.
 pub const HEAD_CAPACITY: usize = 160;
 
-/// An answer under way: its body, and then its whole text.
+/// The buffer of a response: its body, then its whole text.
 #[derive(Drop)]
 pub struct ResponseBuffer {
     pub body: String,
     pub text: String,
 }
 
-// The phrase of a status.
+// Returns the reason phrase of a status.
 #[tactic(auto, using(crate::proofs::Phrases::short_phrase), unfolding(crate::specs::Response::phrase))]
 fn phrase_of(status: StatusCode) -> &'static str
     ensures text { result.now ≡ phrase status }
@@ -28,7 +28,7 @@ fn phrase_of(status: StatusCode) -> &'static str
     status.canonical_reason().unwrap_or("")
 }
 
-// Appends the head of an answer with this status, up to the length of the body.
+// Appends the head of a response with this status, up to the length of the body.
 fn put_status(out: &mut String, status: StatusCode)
     requires room { string_len out.old + 136 ≤ string_capacity out.old }
     requires answered { IsAnswered status }
@@ -59,8 +59,8 @@ fn put_success_head(out: &mut String)
     );
 }
 
-// The head up to the length of the body, in one piece where the answer is one of success, as almost
-// each is.
+// Appends the head up to the length of the body. Almost every status is 200, which has one constant
+// head.
 fn put_start(out: &mut String, status: u16)
     requires room { string_len out.old + 136 ≤ string_capacity out.old }
     requires answered { IsAnswered status }
@@ -77,7 +77,7 @@ fn put_start(out: &mut String, status: u16)
     }
 }
 
-// Appends the head of an answer with this status before a body of this length.
+// Appends the head of a response with this status and a body of `length` bytes.
 fn put_head(out: &mut String, status: u16, length: u64)
     requires room { string_len out.old + 160 ≤ string_capacity out.old }
     requires answered { IsAnswered status }
@@ -93,8 +93,11 @@ fn put_head(out: &mut String, status: u16, length: u64)
 impl ResponseBuffer {
     ghost use Rattle.json_api.specs.ResponseBuffers.{HasCapacity, IsEmpty, IsWritten};
 
-    /// Takes the room for a small answer, whose body has at most 512 bytes, or answers want of
-    /// memory.
+    /// Reserves memory for a response with a body of at most 512 bytes.
+    ///
+    /// # Errors
+    ///
+    /// `AllocError` if an allocation fails.
     pub fn new(alloc: Global) -> Result<ResponseBuffer, AllocError>
         ensures room { IfOk result (HasCapacity 512) }
         ensures empty { IfOk result IsEmpty }
@@ -105,7 +108,7 @@ impl ResponseBuffer {
         })
     }
 
-    /// Empties it for the next answer.
+    /// Empties the buffer for the next response.
     pub fn clear(&mut self)
         ensures empty { IsEmpty self.new }
         ensures room { (n : ℕ) → HasCapacity n self.old → HasCapacity n self.new }
@@ -114,8 +117,12 @@ impl ResponseBuffer {
         self.text.clear();
     }
 
-    /// Takes the room for a body of so many bytes. After want of memory what room there was is
-    /// there still.
+    /// Reserves memory for a body of `length` bytes. If that fails, the memory reserved before
+    /// remains.
+    ///
+    /// # Errors
+    ///
+    /// `AllocError` if an allocation fails.
     pub fn take(&mut self, length: usize) -> Result<(), AllocError>
         requires empty { IsEmpty self.old }
         requires fits { length + 160 < 2 ^ 64 }
@@ -128,7 +135,11 @@ impl ResponseBuffer {
         Ok(())
     }
 
-    /// Takes the room for the whole answer with the body that is written.
+    /// Reserves memory for the whole response with the body already written.
+    ///
+    /// # Errors
+    ///
+    /// `AllocError` if an allocation fails.
     pub fn fit(&mut self) -> Result<(), AllocError>
         requires empty { string_len self.old.text ≡ 0 }
         ensures ok { OnOk result (IsWritten self.new) }
@@ -138,7 +149,7 @@ impl ResponseBuffer {
         self.text.reserve(self.body.len() + HEAD_CAPACITY)
     }
 
-    /// Writes the whole text of an answer with this status and the body.
+    /// Writes the whole response with this status and the body.
     pub fn finish(&mut self, status: u16)
         requires answered { IsAnswered status }
         requires written { IsWritten self.old }

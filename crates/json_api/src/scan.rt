@@ -1,5 +1,6 @@
-//! The bytes of a body, gone over once: an object of plain values, with spaces and line feeds
-//! between its parts alone and no escapes in its texts.
+//! Scans a body's bytes once, for an object of plain values.
+//!
+//! Accepts spaces and line feeds between the parts, and no escapes in texts.
 ghost use Rattle.std.specs.Prelude.{◌≡◌, ◌≤◌, ◌∷◌, ◌++◌, [], true, length, take, Some, IfSome};
 ghost use Rattle.std.specs.List.{list_all};
 ghost use Rattle.std.specs.Char.{is_ascii_digit};
@@ -16,9 +17,8 @@ use crate::flat::{MOST_MEMBERS, Member, Scalar};
 use arrayvec::ArrayVec;
 use http_messages::read_number;
 
-// Of each byte whether it stands for itself in a text, a row for 32 of them: a printable character
-// of ASCII that is no quote and no backslash does. They are looked up, which takes half of what
-// four comparisons take.
+// Whether each byte is a printable ASCII character other than a quote and a backslash, in rows of
+// 32. A lookup takes half the time of four comparisons.
 static PLAIN: [u8; 256] = *b"\
     00000000000000000000000000000000\
     11011111111111111111111111111111\
@@ -29,14 +29,14 @@ static PLAIN: [u8; 256] = *b"\
     00000000000000000000000000000000\
     00000000000000000000000000000000";
 
-// Whether a byte stands for itself in a text.
+// Returns whether a byte represents itself in a text.
 fn is_plain(byte: u8) -> bool
     ensures { result ≡ is_plain_byte byte }
 {
     PLAIN[usize::from(byte)] == b'1'
 }
 
-// What follows spaces and line feeds.
+// Returns the bytes after the leading spaces and line feeds.
 fn behind_gap(bytes: &[u8]) -> &[u8]
     ensures { IsBehindGap bytes.now result.now }
 {
@@ -49,7 +49,7 @@ fn behind_gap(bytes: &[u8]) -> &[u8]
     }
 }
 
-// What follows this byte, if it comes first.
+// Returns the bytes after `first`, if they begin with it.
 fn behind(bytes: &[u8], first: u8) -> Option<&[u8]>
     ensures { IfSome result (λ rest. bytes.now ≡ first ∷ rest.now) }
 {
@@ -59,7 +59,7 @@ fn behind(bytes: &[u8], first: u8) -> Option<&[u8]>
     }
 }
 
-// How many plain bytes come first.
+// Returns the number of leading plain bytes.
 fn plain_len(bytes: &[u8]) -> usize
     ensures within { result ≤ length bytes.now }
     ensures plain { list_all is_plain_byte (take result bytes.now) ≡ true }
@@ -71,7 +71,7 @@ fn plain_len(bytes: &[u8]) -> usize
     len
 }
 
-// How many digits come first.
+// Returns the number of leading digits.
 fn digits_len(bytes: &[u8]) -> usize
     ensures within { result ≤ length bytes.now }
     ensures digits { list_all is_ascii_digit (take result bytes.now) ≡ true }
@@ -83,16 +83,16 @@ fn digits_len(bytes: &[u8]) -> usize
     len
 }
 
-// Plain bytes as a text.
+// Converts plain bytes to a text.
 fn plain_text(bytes: &[u8]) -> &str
     requires { list_all is_plain_byte bytes.now ≡ true }
     ensures { result.now ≡ bytes.now }
 {
-    // Plain bytes are characters of ASCII.
+    // Plain bytes are ASCII.
     unsafe { str::from_utf8_unchecked(bytes) }
 }
 
-// The text in quotes that comes first, and what follows it.
+// Reads a text in quotes. Returns it and the bytes after it.
 fn text_at(bytes: &[u8]) -> Option<(&str, &[u8])>
     ensures utf8 { IfSome result (λ found. IsUtf8 found.0.now) }
     ensures text { IfSome result (λ found. bytes.now ≡ quoted found.0.now ++ found.1.now) }
@@ -103,7 +103,7 @@ fn text_at(bytes: &[u8]) -> Option<(&str, &[u8])>
     Some((plain_text(text), rest))
 }
 
-// The whole number that comes first, with no zero in front, and what follows it.
+// Reads a whole number without leading zeros. Returns it and the bytes after it.
 fn number_at(bytes: &[u8]) -> Option<(Scalar<'_>, &[u8])>
     ensures { IfSome result (λ found. IsScalarThen bytes.now found.0 found.1.now) }
 {
@@ -114,7 +114,7 @@ fn number_at(bytes: &[u8]) -> Option<(Scalar<'_>, &[u8])>
     Some((Scalar::Whole(read_number(digits)?), rest))
 }
 
-// The plain value that comes first, and what follows it.
+// Reads a plain value. Returns it and the bytes after it.
 fn scalar_at(bytes: &[u8]) -> Option<(Scalar<'_>, &[u8])>
     ensures { IfSome result (λ found. IsScalarThen bytes.now found.0 found.1.now) }
 {
@@ -130,7 +130,7 @@ fn scalar_at(bytes: &[u8]) -> Option<(Scalar<'_>, &[u8])>
     }
 }
 
-// The key with its value that comes first, and what follows them.
+// Reads a key and its value. Returns them and the bytes after them.
 fn member_at(bytes: &[u8]) -> Option<(Member<'_>, &[u8])>
     ensures { IfSome result (λ found. IsMemberThen bytes.now found.0 found.1.now) }
 {
@@ -139,7 +139,7 @@ fn member_at(bytes: &[u8]) -> Option<(Member<'_>, &[u8])>
     Some((Member { key, value }, rest))
 }
 
-/// Reads the members of the object that a body is. `None` says nothing of the body.
+/// Reads the members of the object in `body`. `None` does not imply that the body is invalid.
 pub(crate) fn read_members<'a>(
     body: &'a [u8],
     members: &mut ArrayVec<Member<'a>, MOST_MEMBERS>,

@@ -1,4 +1,4 @@
-//! Lists of lines.
+//! Reads lists of lines.
 ghost use Rattle.std.specs.Prelude.{◌≡◌, ℕ, List, IfOk, IfSome, IfNone};
 ghost use Rattle.serde_json.specs.View.{view, items_view};
 ghost use Rattle.pool.specs.Donations.{lines_of as lines_model};
@@ -8,7 +8,7 @@ use numbers::Line;
 use serde_json::Value;
 use std::alloc::{AllocError, Global};
 
-// The line whose text a value is.
+// Returns the line whose text a value is, if it is one.
 #[tactic(auto, using(crate::proofs::FormLemmas::no_text, crate::proofs::FormLemmas::other_text))]
 fn line_of(value: &Value) -> Option<Line>
     ensures some { IfSome result (λ line. IsLineText (view value.now) line.number) }
@@ -17,7 +17,8 @@ fn line_of(value: &Value) -> Option<Line>
     Line::read(value.as_str()?)
 }
 
-/// The lines whose texts the values are, in their order, or `None` where one is no such text.
+/// Returns the lines whose texts the values are, in order, or `None` if a value is not the text of
+/// a line.
 pub(crate) fn lines_of(alloc: Global, values: &[Value]) -> Result<Option<Vec<Line>>, AllocError>
     ensures some { IfOk result (λ read. IfSome read (λ lines.
         AreLineTexts (items_view values.now) (lines_model lines.items))) }

@@ -1,4 +1,4 @@
-//! Which numbers of a block are in use.
+//! Tests which numbers of a block are in use.
 use model::Status;
 use numbers::{BlockId, Minute, Spid, Subject, Tn};
 use settle::{Changes, Few, Store, VersionRow};
@@ -49,7 +49,7 @@ fn versions_of(alloc: Global, rows: &[Row<'_>]) -> Option<Vec<(u64, VersionRow)>
     Some(versions)
 }
 
-// The store takes these rows.
+// Commits these rows to the store.
 fn takes(alloc: Global, store: &mut MemoryStore, rows: &[Row<'_>]) -> Option<()> {
     let versions = versions_of(alloc, rows)?;
     let changes = Changes {
@@ -71,8 +71,8 @@ fn in_block(store: &mut MemoryStore, block: &str) -> Option<Vec<NumberInUse>> {
     store.in_block(BlockId::read(block)?).ok()
 }
 
-// The first and the last number of the block, one with a version in force and an open one, one
-// whose version is over, and beside them the block itself and a number of each block next to it.
+// The first and the last number of the block, one with a version in force and an open one, and one
+// with an ended version. Beside them the block itself, and a number of each neighboring block.
 static ROWS: [Row<'static>; 9] = [
     (1, "2025331999", false, true),
     (2, "2025332000", true, true),
@@ -85,7 +85,7 @@ static ROWS: [Row<'static>; 9] = [
     (9, "2025331000", true, false),
 ];
 
-// Whether the block has these numbers.
+// Returns whether these numbers of the block are in use, and no others.
 fn are_in(store: &mut MemoryStore, block: &str, wanted: &[NumberInUse]) -> Option<bool> {
     Some(in_block(store, block)?.as_slice() == wanted)
 }

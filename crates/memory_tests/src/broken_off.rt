@@ -1,4 +1,4 @@
-//! Windows that end together, of which each firing is broken off: its commit fails.
+//! Tests windows that end together while the commit of each firing fails in turn.
 use crate::port::{
     FIRST_PORT, Said, answer, asked, is_answered, is_served, new_register, opened, served,
     stream_of,
@@ -9,13 +9,13 @@ use std::alloc::{AllocError, Global};
 use std::cell::Cell;
 use store::{CommitCounter, Failing, Flaky, MemoryStore};
 
-// How many versions there are.
+// The number of versions.
 const COUNT: u64 = 10;
 
-// How the versions are created, and what follows the fetch that is broken off.
+// How the versions are created, and what follows the fetch that fails.
 #[derive(Clone, Copy)]
 struct Course {
-    // Each is created so many minutes after the one before it.
+    // The minutes between two creates.
     apart: u64,
     // Whether the versions are shown before the next fetch, or after it.
     is_shown_first: bool,
@@ -40,7 +40,7 @@ static COURSES: [Course; 4] = [
     },
 ];
 
-// The clock at a minute, and the old provider's create of a number.
+// Appends a clock message and the old provider's create of a number.
 fn offer(alloc: Global, minute: u64, line: u64, out: &mut String) -> Result<(), AllocError> {
     let body = format!(in alloc; "{{\"minute\":{minute}}}")?;
     let clock = asked(alloc, &("NPAC", "/clock", body.as_str(), ""))?;
@@ -53,7 +53,7 @@ fn offer(alloc: Global, minute: u64, line: u64, out: &mut String) -> Result<(), 
     out.push_str(create.as_str())
 }
 
-// The creates, whose windows end 120 minutes after each, and the clock when all have ended.
+// Returns the creates, whose windows end 120 minutes after each, and the clock after the last end.
 fn offers(alloc: Global, apart: u64) -> Result<String, AllocError> {
     let mut out = String::new(alloc);
     for number in 0..COUNT {
@@ -74,7 +74,7 @@ fn is_told<S: Store>(alloc: Global, register: &mut Register<S>, apart: u64) -> O
     )
 }
 
-// Whether a message is answered so.
+// Returns whether this is the response to a message.
 fn says<S: Store>(
     alloc: Global,
     register: &mut Register<S>,
@@ -92,7 +92,7 @@ fn fetches<S: Store>(alloc: Global, register: &mut Register<S>) -> Option<bool> 
     says(alloc, register, &FETCHED, "200 OK")
 }
 
-// Whether a version is shown as canceled at its own minute.
+// Returns whether a version is shown as canceled at its own minute.
 fn shows<S: Store>(
     alloc: Global,
     register: &mut Register<S>,
@@ -119,7 +119,8 @@ fn shows_all<S: Store>(alloc: Global, register: &mut Register<S>, apart: u64) ->
     Some(true)
 }
 
-// What follows the fetch that is broken off: each version is canceled, and nothing waits.
+// Returns whether all is right after the fetch that fails: each version is canceled, and no
+// download is pending.
 fn goes_on<S: Store>(alloc: Global, register: &mut Register<S>, course: Course) -> Option<bool> {
     if course.is_shown_first {
         Some(shows_all(alloc, register, course.apart)? && fetches(alloc, register)?)
@@ -128,24 +129,24 @@ fn goes_on<S: Store>(alloc: Global, register: &mut Register<S>, course: Course) 
     }
 }
 
-// What came of a fetch of which a call failed, if it did.
+// The outcome of a fetch with a store call that may fail.
 #[derive(Clone, Copy, Debug, PartialEq, Eq)]
 enum Came {
     Whole,
     // The commit of this firing failed.
     Firing(u64),
-    // A call failed that is no commit.
+    // A call other than a commit failed.
     Reading,
 }
 
-// How many commits a store was asked for, and how many of them were made.
+// The commits that the register asked for, and those that the store made.
 #[derive(Clone, Copy)]
 struct Commits<'a> {
     asked: &'a Cell<u64>,
     made: &'a Cell<u64>,
 }
 
-// Whether a fetch is whole. If it is not, it says that the store failed.
+// Returns whether a fetch succeeds. If it does not, its response must be `storage`.
 fn is_whole<S: Store>(alloc: Global, register: &mut Register<S>) -> Option<bool> {
     let message = asked(alloc, &FETCHED).ok()?;
     let whole = answer(alloc, "200 OK", FETCHED.3).ok()?;
@@ -161,7 +162,7 @@ fn is_whole<S: Store>(alloc: Global, register: &mut Register<S>) -> Option<bool>
     }
 }
 
-// Fetches, and goes on where that is broken off.
+// Fetches, and continues after a fetch that failed.
 fn come<S: Store>(
     alloc: Global,
     register: &mut Register<S>,
@@ -186,7 +187,7 @@ fn come<S: Store>(
     }
 }
 
-// A store after the creates.
+// Returns a store after the creates.
 fn offered(alloc: Global, apart: u64) -> Option<MemoryStore> {
     let mut register = new_register(alloc)?;
     if is_told(alloc, &mut register, apart)? {
@@ -196,7 +197,7 @@ fn offered(alloc: Global, apart: u64) -> Option<MemoryStore> {
     }
 }
 
-// A fetch where the call of the store after so many fails, the first of which opens the register.
+// Fetches over a store whose call number `before` + 1 fails. The first call opens the register.
 fn broken_off(alloc: Global, course: Course, commits: Commits<'_>, before: u64) -> Option<Came> {
     commits.asked.set(0);
     commits.made.set(0);
@@ -212,7 +213,7 @@ fn broken_off(alloc: Global, course: Course, commits: Commits<'_>, before: u64) 
     come(alloc, &mut register, course, commits)
 }
 
-// How many firings are broken off, one in each run, from the first to the last.
+// Returns how many firings failed, one in each run, from the first to the last.
 fn firings(alloc: Global, course: Course, commits: Commits<'_>) -> Option<u64> {
     let mut firings = 0u64;
     for before in 1..u64::MAX {
@@ -226,8 +227,7 @@ fn firings(alloc: Global, course: Course, commits: Commits<'_>) -> Option<u64> {
     None
 }
 
-// The first of the courses in which not each firing is broken off, or something is answered
-// otherwise.
+// Returns the first course with a firing that never fails, or with a wrong response.
 fn first_wrong(alloc: Global, commits: Commits<'_>) -> Option<usize> {
     for (place, course) in COURSES.iter().enumerate() {
         if firings(alloc, *course, commits) != Some(COUNT) {

@@ -1,11 +1,11 @@
-//! Commands that the tests share, and routings.
+//! Commands and routings that the tests share.
 use numbers::{Lrn, Minute, Routing, Spid, Tn};
 use register::Register;
 use requests::Command;
 use store::MemoryStore;
 use version::{Create, Creator};
 
-/// A routing number with no carrier code.
+/// Returns a routing without a carrier's identification code.
 pub fn routed_to(lrn: &str) -> Option<Routing> {
     Some(Routing {
         lrn: Lrn::read(lrn)?,
@@ -13,12 +13,12 @@ pub fn routed_to(lrn: &str) -> Option<Routing> {
     })
 }
 
-/// The routing of AAAA.
+/// Returns the routing of AAAA.
 pub fn routing() -> Option<Routing> {
     routed_to("2025440000")
 }
 
-/// A provider's create of the port of a number from BBBB to AAAA.
+/// Returns a provider's create of the port of a number from BBBB to AAAA.
 pub fn create_of(number: &str, due: Minute, creator: Creator) -> Option<Create> {
     let tn = Tn::read(number)?;
     let old_provider = Spid::read("BBBB")?;
@@ -32,7 +32,7 @@ pub fn create_of(number: &str, due: Minute, creator: Creator) -> Option<Create> 
     })
 }
 
-/// The register does what a caller commands.
+/// Executes a command of a caller, which must be accepted.
 pub fn does(register: &mut Register<MemoryStore>, caller: Spid, command: Command) -> Option<()> {
     match register.do_it(caller, &command) {
         Ok(_) => Some(()),

@@ -1,12 +1,12 @@
-//! The first port, cut in two by the reader at every place. That stories are answered byte by byte
-//! as they are whole, their player shows.
+//! Tests the first port, cut in two by the reader at every place. The player of stories tests that
+//! whole ones are answered byte by byte.
 use crate::port::{FIRST_PORT, Texts, hears, new_register, stream_of, whole};
 use register::Register;
 use std::io::Read;
 use std::process::Abort;
 use store::MemoryStore;
 
-// The register answers the two pieces as the whole.
+// Tests that the register answers the two pieces as it answers the whole.
 fn is_answered_in<T: Abort + AllocGlobal>(
     rt: &T,
     register: &mut Register<MemoryStore>,

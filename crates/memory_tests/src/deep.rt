@@ -1,7 +1,7 @@
-//! A newcomer among very many open broadcasts.
+//! Tests a newcomer among very many open broadcasts.
 //!
-//! What is done once for each open broadcast, or for each row of a commit, is done in loops: calls
-//! within calls would end this test by the depth of the stack.
+//! Work for each open broadcast or for each row of a commit must be done in loops: nested calls
+//! would overflow the stack here.
 use crate::commands::{create_of, does, routing};
 use crate::port::{FIRST_PORT, Texts, asked, is_served, new_register};
 use model::Status;
@@ -12,12 +12,12 @@ use std::alloc::{AllocError, Global};
 use store::MemoryStore;
 use version::{Create, Creator, VersionCommand};
 
-/// How many versions are sent and not acknowledged.
+/// The number of versions that are sent and not acknowledged.
 const COUNT: u64 = 200_000;
 
 type Desk = Register<MemoryStore>;
 
-// What opens the register, and the codes of the ports: twenty, from 202540 on.
+// Adds the messages that open the register and the codes of the ports: twenty, from 202540 on.
 fn ask_for_codes(alloc: Global, texts: &mut Texts) -> Result<(), AllocError> {
     texts.add_rows(alloc, &FIRST_PORT[..5])?;
     for number in 40..60 {
@@ -33,7 +33,7 @@ fn opens_codes(alloc: Global, register: &mut Desk) -> bool {
     ask_for_codes(alloc, &mut texts).is_ok() && is_served(alloc, register, texts.asked.as_str(), 25)
 }
 
-// The port of a number is created from both sides.
+// Creates the port of a number from both sides.
 fn creates(register: &mut Desk, number: &str) -> Option<()> {
     let routing = routing()?;
     let create = create_of(number, Minute::ZERO, Creator::NewProvider { routing })?;
@@ -45,7 +45,7 @@ fn creates(register: &mut Desk, number: &str) -> Option<()> {
     does(register, create.old_provider, Command::Create(concur))
 }
 
-// A version is created and activated.
+// Creates and activates a version.
 fn sends(alloc: Global, register: &mut Desk, caller: Spid, id: u64) -> Option<()> {
     let line = id.saturating_add(399_999);
     let number = format!(in alloc; "2025{line}").ok()?;
@@ -54,7 +54,7 @@ fn sends(alloc: Global, register: &mut Desk, caller: Spid, id: u64) -> Option<()
     does(register, caller, Command::OnVersion { id, command })
 }
 
-// Version after version.
+// Sends all versions, one after the other.
 fn sends_all(alloc: Global, register: &mut Desk) -> Option<()> {
     let caller = Spid::read("AAAA")?;
     for id in 1..=COUNT {
@@ -63,7 +63,7 @@ fn sends_all(alloc: Global, register: &mut Desk) -> Option<()> {
     Some(())
 }
 
-// How many versions a carrier acknowledges that are sending still.
+// Acknowledges every version for a carrier, and returns how many of them are still sending.
 fn acknowledges_all(register: &mut Desk, caller: Spid) -> Option<u64> {
     let mut sending = 0u64;
     for id in 1..=COUNT {
@@ -77,7 +77,7 @@ fn acknowledges_all(register: &mut Desk, caller: Spid) -> Option<u64> {
     Some(sending)
 }
 
-// How many versions a newcomer acknowledges that is registered after all of them were sent.
+// Registers a newcomer after all versions were sent, and returns how many it acknowledges.
 fn acknowledged_in(alloc: Global, register: &mut Desk) -> Option<u64> {
     let newcomer = Spid::read("CCCC")?;
     if !opens_codes(alloc, register) {

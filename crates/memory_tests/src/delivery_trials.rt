@@ -1,4 +1,4 @@
-//! Broadcasts, and which downloads may be acknowledged.
+//! Tests broadcasts, and which downloads may be acknowledged.
 use delivery::{Broadcast, DownloadKey, may_acknowledge};
 use model::{Action, Outcome, Refusal};
 use numbers::{Minute, Subject, Tn};
@@ -9,8 +9,9 @@ fn sent() -> Option<Broadcast> {
     Some(Broadcast::send(minute, subject, Action::Delete, None))
 }
 
-// What comes of it while others are missing, once none is, and after it was closed; and whether an
-// acknowledgement that is not the last leaves it open, and whether the last one does.
+// The outcomes of a broadcast while recipients are missing, with none missing, and after it was
+// closed. Then whether it is open and acknowledged after an acknowledgement that is not the last,
+// whether it is open after the last one, and its minute.
 type Seen = ([Outcome; 3], [bool; 3], u64);
 
 fn seen(sent: &Broadcast) -> Seen {
@@ -50,13 +51,13 @@ fn key(minute: Minute, id: u64, attempt: u64) -> DownloadKey {
     }
 }
 
-// Three downloads that wait, the first two of one version.
+// Three pending downloads, the first two of one version.
 fn waiting() -> Option<[DownloadKey; 3]> {
     let (first, later) = (Minute::new(600)?, Minute::new(601)?);
     Some([key(first, 7, 1), key(first, 7, 2), key(later, 3, 1)])
 }
 
-// Why the first may not be acknowledged, the last, the second, and one that is not there.
+// Returns why the first, the last, the second and a missing one may not be acknowledged.
 fn judged(waiting: &[DownloadKey]) -> [Option<Refusal>; 4] {
     [
         may_acknowledge(waiting, 7, 1).err(),

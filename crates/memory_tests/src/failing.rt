@@ -1,4 +1,4 @@
-//! Readers and writers that fail in mid-stream: what was answered, and what is left then.
+//! Tests readers and writers that fail in mid-stream: the responses before, and the state after.
 use crate::faulty::{Filling, MUCH, Piecewise};
 use crate::port::{FIRST_PORT, Texts, hears, is_so, new_register, texts_of, whole};
 use api::{Fault, NoTicks, Options, Served, serve};
@@ -7,7 +7,7 @@ use std::alloc::{AllocError, Global};
 use std::process::Abort;
 use store::MemoryStore;
 
-/// What is asked and answered in the first port, and where its messages and its answers end.
+/// The requests and responses of the first port, and the end of each.
 #[derive(Drop)]
 pub struct Story {
     pub texts: Texts,
@@ -15,12 +15,12 @@ pub struct Story {
     answered: Vec<usize>,
 }
 
-// How many of the ends lie at or before a place.
+// Returns how many of the ends are at or before a place.
 fn reached(ends: &[usize], place: usize) -> usize {
     ends.iter().filter(|end| **end <= place).count()
 }
 
-// Where the first so many end.
+// Returns the end of message number `count`, or 0 if that is 0.
 fn end_of(ends: &[usize], count: usize) -> usize {
     match count.checked_sub(1) {
         Some(last) => ends.get(last).copied().unwrap_or(0),
@@ -43,12 +43,12 @@ impl Story {
         Ok(())
     }
 
-    /// How many bytes answer the messages that end at or before a place.
+    /// Returns how many bytes the responses have to all messages that end at or before a place.
     pub fn answered_at(&self, place: usize) -> usize {
         end_of(&self.answered, reached(&self.asked, place))
     }
 
-    // After so many messages the rest is answered as if nothing had happened.
+    // Tests that the rest is answered normally after the first `made` messages.
     fn goes_on<T: Abort + AllocGlobal>(
         &self,
         rt: &T,
@@ -62,7 +62,8 @@ impl Story {
         Some(())
     }
 
-    // The reader fails at a place: whole messages were answered, and the others can be sent still.
+    // Tests a reader that fails at a place: whole messages are answered, and the others can still
+    // be sent.
     fn reads_until<T: Abort + AllocGlobal>(
         &self,
         rt: &T,
@@ -81,7 +82,7 @@ impl Story {
         self.goes_on(rt, register, made)
     }
 
-    // The writer fails at a place: the message whose answer it cuts was made.
+    // Tests a writer that fails at a place: the message with the cut response was executed.
     fn writes_until<T: Abort + AllocGlobal>(
         &self,
         rt: &T,
@@ -96,7 +97,7 @@ impl Story {
     }
 }
 
-// What a writer took that has so much room, and how serving it came to its end.
+// Serves to a writer that takes `room` bytes; returns what it took, and how serving ended.
 fn written(
     alloc: Global,
     register: &mut Register<MemoryStore>,
@@ -119,7 +120,7 @@ fn written(
     (writer.bytes, served)
 }
 
-/// The first port.
+/// Returns the first port.
 pub fn story_of_first_port(alloc: Global) -> Option<Story> {
     let mut story = Story {
         texts: Texts::new(alloc),
@@ -130,7 +131,7 @@ pub fn story_of_first_port(alloc: Global) -> Option<Story> {
     Some(story)
 }
 
-// A reader that fails at a place of the first port, and a new register.
+// Tests a reader that fails at a place of the first port, with a new register.
 fn fails_to_read<T: Abort + AllocGlobal>(rt: &T, story: &Story, place: usize) -> Option<()> {
     let mut register = new_register(rt.alloc())?;
     story.reads_until(rt, &mut register, place)

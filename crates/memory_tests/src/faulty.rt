@@ -1,11 +1,11 @@
-//! Readers and writers that fail.
+//! Readers and writers that fail, for the tests.
 use std::io;
 use std::io::{ErrorKind, Read, Write};
 
-/// How many bytes a reader gives at once that gives all it can.
+/// The most bytes at once of a reader without a smaller limit.
 pub const MUCH: usize = 8192;
 
-/// Hands out its bytes, at most so many at once, and then ends or fails.
+/// A reader that returns its bytes, at most `most` at once, and then ends or fails.
 #[derive(Drop)]
 pub struct Piecewise<'a> {
     pub rest: &'a [u8],
@@ -23,7 +23,7 @@ impl Read for Piecewise<'_> {
     }
 }
 
-/// Takes so many bytes, and then fails.
+/// A writer that takes `room` bytes, and then fails.
 #[derive(Drop)]
 pub struct Filling {
     pub bytes: Vec<u8>,

@@ -1,4 +1,4 @@
-//! What a carrier fetches.
+//! Tests what carriers fetch.
 use crate::commands::routing;
 use crate::port::{FIRST_PORT, Said, Texts, is_served, new_register};
 use delivery::{Download, Mirror};
@@ -11,13 +11,13 @@ use store::MemoryStore;
 
 type Desk = Register<MemoryStore>;
 
-// The register is told these, so many.
+// Returns whether the register serves these rows, `count` messages.
 fn is_told(alloc: Global, register: &mut Desk, rows: &[Said<'_>], count: u64) -> bool {
     let mut texts = Texts::new(alloc);
     texts.add_rows(alloc, rows).is_ok() && is_served(alloc, register, texts.asked.as_str(), count)
 }
 
-// The first port, as far as its activation: eight messages.
+// Serves the first port up to its activation: eight messages.
 fn is_sent(alloc: Global, register: &mut Desk) -> bool {
     is_told(alloc, register, &FIRST_PORT[..8], 8)
 }
@@ -33,19 +33,19 @@ fn download() -> Option<Download> {
     })
 }
 
-// Whether a carrier that asks for so many downloads fetches these.
+// Returns whether a carrier that asks for `many` downloads fetches these.
 fn fetches(register: &mut Desk, caller: Spid, many: usize, wanted: &[Download]) -> Option<bool> {
     Some(register.fetch(caller, many).ok()?.as_slice() == wanted)
 }
 
-// Whether a copy has what it is told.
+// Returns whether a copy has the routing of a download after it is applied.
 fn is_copied(alloc: Global, download: &Download) -> bool {
     let mut copy = Mirror::new(alloc);
     copy.apply(download).is_ok() && copy.get(download.subject) == download.routing
 }
 
-// What the old provider fetches before it acknowledges, none of it, and afterwards; and whether its
-// copy follows.
+// Returns whether the old provider's fetches are right, before it acknowledges, with a count of
+// zero, and afterwards; and whether its copy follows.
 fn fetched(alloc: Global, register: &mut Desk) -> Option<[bool; 4]> {
     let caller = Spid::read("BBBB")?;
     let wanted = download()?;
@@ -56,7 +56,7 @@ fn fetched(alloc: Global, register: &mut Desk) -> Option<[bool; 4]> {
     Some([first, none, after, is_copied(alloc, &wanted)])
 }
 
-// And who has no queue.
+// Returns whether a caller without a queue is refused.
 fn refused(register: &mut Desk) -> bool {
     match register.fetch(Spid::NPAC, 10) {
         Err(refusal) => refusal == Refusal::UnknownCarrier,
@@ -81,7 +81,7 @@ fn a_carrier_fetches_what_waits(rt: HostRuntime) {
     assert_eq!(rt; seen(rt.alloc()), Some(([true; 4], true)));
 }
 
-// The number is given back at 10, which one carrier alone acknowledges in time, and is ported again
+// The number is given back at 10, which only one carrier acknowledges in time, and is ported again
 // at 30.
 static GIVEN_BACK: [Said<'static>; 7] = [
     ("NPAC", "/clock", r#"{"minute":10}"#, ""),
@@ -108,8 +108,8 @@ static GIVEN_BACK: [Said<'static>; 7] = [
     ("AAAA", "/subscriptionVersionActivate", r#"{"id":2}"#, ""),
 ];
 
-// What a carrier's copy has of the number once the carrier has taken its next download, and
-// acknowledged it.
+// Applies the carrier's next download to its copy, acknowledges it, and returns the copy's routing
+// of the number.
 fn followed(register: &mut Desk, caller: Spid, copy: &mut Mirror) -> Option<Option<Routing>> {
     let downloads = register.fetch(caller, 1).ok()?;
     let next = downloads.first()?;
@@ -118,7 +118,7 @@ fn followed(register: &mut Desk, caller: Spid, copy: &mut Mirror) -> Option<Opti
     Some(copy.get(next.subject))
 }
 
-// The same of its next two downloads, one after the other.
+// Follows the carrier's next two downloads, one after the other.
 fn followed_twice(
     register: &mut Desk,
     caller: Spid,
@@ -130,7 +130,7 @@ fn followed_twice(
     ])
 }
 
-// A newcomer's copy is started with what is in force.
+// Starts a newcomer's copy with everything in force.
 fn starts(register: &mut Desk, spid: Spid, copy: &mut Mirror) -> Option<()> {
     let command = Command::RegisterCarrier { spid };
     match register.do_it(Spid::NPAC, &command).ok()? {
@@ -139,8 +139,8 @@ fn starts(register: &mut Desk, spid: Spid, copy: &mut Mirror) -> Option<()> {
     }
 }
 
-// What the copies of the old provider and of a newcomer have of the number: as it is ported, given
-// back, and ported again.
+// The routings of the number in the copies of the old provider and of a newcomer: after the port,
+// after its return, and after the second port.
 type Followed = [[Option<Routing>; 3]; 2];
 
 fn copies(
@@ -186,13 +186,14 @@ fn copies_follow_a_number(rt: HostRuntime) {
     assert_eq!(rt; walked(rt.alloc()), Some([each, each]));
 }
 
-// Whether a download waits for the old provider of this number alone, and of no other one.
+// Returns whether downloads of this number, and of no other, are pending for the carrier.
 fn waits_for(register: &mut Desk, caller: Spid, subject: Subject) -> Option<bool> {
     let subjects = register.waiting(caller).ok()?;
     Some(subjects.as_slice() == [subject].as_slice())
 }
 
-// As the first port is sent, once that is acknowledged, and when two downloads of the number wait.
+// Returns whether the pending downloads are right: as the first port is sent, after it is
+// acknowledged, and with two downloads of the number.
 fn awaited_in(alloc: Global, register: &mut Desk) -> Option<[bool; 4]> {
     if !is_sent(alloc, register) {
         return None;

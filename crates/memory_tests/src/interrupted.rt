@@ -1,5 +1,4 @@
-//! A reader and a writer that are interrupted before each of their bytes: the answers are those of
-//! ones that are not.
+//! Tests a reader and a writer that are interrupted before each byte: the responses stay the same.
 use crate::failing::{Story, story_of_first_port};
 use crate::port::{is_so, new_register, whole};
 use api::{NoTicks, Options, serve};
@@ -9,7 +8,7 @@ use std::io::{ErrorKind, Read, Write};
 use std::process::Abort;
 use store::MemoryStore;
 
-// Hands out one byte at every other call.
+// A reader that returns one byte at every other call.
 #[derive(Drop)]
 struct HaltingReader<'a> {
     rest: &'a [u8],
@@ -27,7 +26,7 @@ impl Read for HaltingReader<'_> {
     }
 }
 
-// Takes one byte at every other call, and is flushed at every other one.
+// A writer that takes one byte at every other call, and flushes at every other one.
 #[derive(Drop)]
 struct HaltingWriter {
     bytes: Vec<u8>,
@@ -54,7 +53,7 @@ impl Write for HaltingWriter {
     }
 }
 
-// The register answers the story so.
+// Tests that these are the responses of the story.
 fn is_answered_in<T: Abort + AllocGlobal>(
     rt: &T,
     register: &mut Register<MemoryStore>,

@@ -1,4 +1,4 @@
-//! Messages that are too large for a story's file.
+//! Tests messages that are too large for a story's file.
 use crate::port::{answer, asked, hears, new_register, served, whole};
 use api::{End, Fault, Served};
 use register::Register;
@@ -6,7 +6,7 @@ use std::alloc::{AllocError, Global};
 use std::process::Abort;
 use store::MemoryStore;
 
-// A text of so many times one character, with others around it.
+// Returns a text of `count` copies of one character, with others around them.
 fn filled(
     alloc: Global,
     front: &str,
@@ -22,7 +22,7 @@ fn filled(
     Ok(text)
 }
 
-// A query by the administrator is answered so.
+// Tests that this is the response to the administrator's query.
 fn is_answered_by<T: Abort + AllocGlobal>(
     rt: &T,
     register: &mut Register<MemoryStore>,
@@ -49,7 +49,8 @@ fn is_answered<T: Abort + AllocGlobal>(
 
 const QUERY: &str = r#"{"uri":"tel:+12025331234"}"#;
 
-// A number whose code is not opened is answered by its own text.
+// Tests that a query in the largest body is read: the number of a code that is not open is answered
+// by its own text.
 fn is_largest_read<T: Abort + AllocGlobal>(rt: &T) -> Option<()> {
     let body = filled(rt.alloc(), "", ' ', 1_048_576 - QUERY.len(), QUERY).ok()?;
     is_answered(rt, body.as_str(), "200 OK", QUERY)
@@ -72,14 +73,14 @@ fn a_million_semicolons_are_too_long(rt: HostRuntime) {
     assert!(rt; is_too_long(&rt).is_some());
 }
 
-// A large message is cut after each of its first so many bytes.
+// A large message is cut after each of its first `CUTS` bytes.
 const CUTS: usize = 10_000;
 
 const BAD_HEAD: &str = r#"{"error":"bad_head","number":45}"#;
 
 const CUT_BODY: &str = r#"{"error":"cut_body","number":46}"#;
 
-// Why a message was refused that could not be read, if it was.
+// Returns why an unreadable message was refused, or "" if it was not.
 fn refused_as(ended: Result<Served, Fault>) -> &'static str {
     match ended {
         Ok(
@@ -92,7 +93,7 @@ fn refused_as(ended: Result<Served, Fault>) -> &'static str {
     }
 }
 
-// The front of a message is answered so.
+// Returns whether a prefix of a message is refused in this way.
 fn is_cut_so(
     alloc: Global,
     register: &mut Register<MemoryStore>,
@@ -108,7 +109,7 @@ fn is_cut_so(
     Some(heard.as_slice() == wanted.as_bytes() && refused_as(ended) == name)
 }
 
-// The first cut of a message that is answered otherwise: in its head, or behind it.
+// Returns the first wrong cut of a message, in its head or after it.
 fn first_wrong_cut_in(
     alloc: Global,
     register: &mut Register<MemoryStore>,
@@ -131,7 +132,7 @@ fn first_wrong_cut_in(
     None
 }
 
-// A query of so many characters of this kind behind its front is cut.
+// Returns the first wrong cut of a query that begins with `front` and a million fillers.
 fn first_wrong_cut(alloc: Global, front: &str, filler: char, back: &str) -> Option<usize> {
     let Ok(body) = filled(alloc, front, filler, 1_000_000, back) else {
         return Some(0);

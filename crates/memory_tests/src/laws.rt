@@ -1,4 +1,4 @@
-//! The functions that state a law return.
+//! Tests that the functions which state a law return.
 use api::{
     body_asks_once, message_step_is_deterministic, parse_is_unique, storage_reports_failure,
     uris_need_no_escape,

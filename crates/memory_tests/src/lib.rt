@@ -1,4 +1,4 @@
-//! The proved tests: what stories cannot show, and each function of the lower crates once.
+//! The proved tests: what stories cannot test, and each function of the lower crates once.
 #![tactic(auto)]
 
 #[cfg(test)]

@@ -1,4 +1,4 @@
-//! The numbers of the refusals.
+//! Tests the numbers of the refusals.
 use model::Refusal;
 use std::alloc::Global;
 
@@ -35,7 +35,7 @@ static ALL: [Refusal; 30] = [
     Refusal::NoMemory,
 ];
 
-// The first refusal that has not the number of its place.
+// Returns the first refusal whose number is not that of its place.
 fn misnumbered() -> Option<Refusal> {
     let mut number = 0u8;
     for refusal in &ALL {
@@ -47,7 +47,8 @@ fn misnumbered() -> Option<Refusal> {
     None
 }
 
-// A push and a clone refuse memory in two ways, and each becomes a refusal.
+// Pushes a number and clones the list. The two report an allocation failure differently, and each
+// report becomes a refusal.
 fn copied(alloc: Global) -> Result<usize, Refusal> {
     let mut numbers = Vec::new(alloc);
     numbers.push(12u8)?;

@@ -1,4 +1,4 @@
-//! A carrier's own copy.
+//! Tests a carrier's copy.
 use crate::commands::{routed_to, routing};
 use delivery::{Download, Mirror, RoutedRow};
 use model::Action;
@@ -38,8 +38,8 @@ fn held(mirror: &Mirror) -> [Option<Routing>; 2] {
     ]
 }
 
-// What a copy has of the number and of another, as it is started with both, as the number is
-// disconnected, and as it is ported again; and once it is started anew with nothing.
+// The routings in a copy of the number and of another: after a start with both, after the number's
+// disconnect, after its next port, and after a start with nothing.
 type Held = [[Option<Routing>; 2]; 4];
 
 fn walk(

@@ -1,4 +1,4 @@
-//! Values and their texts.
+//! Tests values and their texts.
 use numbers::{BlockId, Cic, CodeId, Line, Lrn, Minute, Spid, Subject, Tn};
 use std::alloc::Global;
 
@@ -14,7 +14,7 @@ enum Kind {
     Tn,
 }
 
-// Reads a text, and writes what was read.
+// Reads a text, and writes the value read.
 fn copy(kind: Kind, text: &str, out: &mut String) -> Option<()> {
     let written = match kind {
         Kind::Block => Subject::Block(BlockId::read(text)?).write(out),
@@ -29,7 +29,7 @@ fn copy(kind: Kind, text: &str, out: &mut String) -> Option<()> {
     written.ok()
 }
 
-// Whether a text is read and written as it was.
+// Returns whether a text is written as it was read.
 fn is_copied(alloc: Global, kind: Kind, text: &str) -> bool {
     let mut out = String::new(alloc);
     copy(kind, text, &mut out).is_some() && out.as_str() == text
@@ -38,7 +38,7 @@ fn is_copied(alloc: Global, kind: Kind, text: &str) -> bool {
 // A text, and whether it is one of its kind.
 type Row<'a> = (Kind, &'a str, bool);
 
-// The first of the texts that is read and should not be, or the other way round.
+// Returns the first text that is read and should not be, or is not read and should be.
 fn misread(alloc: Global, rows: &[Row<'static>]) -> Option<&'static str> {
     for (kind, text, is_one) in rows {
         if is_copied(alloc, *kind, text) != *is_one {
@@ -100,7 +100,7 @@ fn texts_are_read_and_written(rt: HostRuntime) {
     assert_eq!(rt; misread(rt.alloc(), &TEXTS), None);
 }
 
-// Whether a number's parts are these, and the number is made of them.
+// Returns whether these are a number's parts, and the number is made of them.
 fn is_made_of(tn: Tn, block: BlockId, line: Line) -> [bool; 3] {
     [
         tn.block() == block && tn.line() == line,
@@ -114,7 +114,8 @@ fn are_parts() -> Option<[bool; 3]> {
     Some(is_made_of(tn, BlockId::read("2025331")?, Line::read("234")?))
 }
 
-// The number before a block, the block, and the first of its numbers: in the order of their texts.
+// Returns whether the number before a block, the block, and its first number are in the order of
+// their texts.
 fn are_in_order() -> Option<bool> {
     let before = Subject::Number(Tn::read("2025330999")?);
     let block = Subject::Block(BlockId::read("2025331")?);

@@ -1,4 +1,4 @@
-//! Opening a store, and opening it again.
+//! Tests opening a store, and opening it again.
 use crate::port::{Said, WINDOWS, after_the_first_port, hears, opened, stream_of, whole};
 use model::Refusal;
 use numbers::Spid;
@@ -9,7 +9,7 @@ use std::process::Abort;
 use store::MemoryStore;
 use windows::Windows;
 
-// A store that the first port was served over.
+// Returns a store that has served the first port.
 fn served_store(alloc: Global) -> Option<MemoryStore> {
     Some(after_the_first_port(alloc)?.close())
 }
@@ -51,7 +51,7 @@ fn a_store_is_opened_again(rt: HostRuntime) {
     assert!(rt; is_opened_again(&rt).is_some());
 }
 
-// The windows of the tests, but for the broadcast's.
+// Returns the windows of the tests, except for the broadcast's.
 fn other_windows(alloc: Global) -> Option<Windows> {
     let text = WINDOWS
         .replace(alloc, "broadcast = 15", "broadcast = 16")
@@ -59,13 +59,13 @@ fn other_windows(alloc: Global) -> Option<Windows> {
     Windows::from_toml(alloc, text.as_str()).ok()
 }
 
-// The store, which is handed back when it is opened with other windows, and why.
+// Opens a store with other windows, and returns the store and the fault.
 fn handed_back(alloc: Global) -> Option<(MemoryStore, OpenFault)> {
     let windows = other_windows(alloc)?;
     Register::open(alloc, served_store(alloc)?, &windows).err()
 }
 
-// It is refused for its windows, and goes on with its own.
+// Tests that other windows are refused, and the store works on with its own.
 fn is_handed_back<T: Abort + AllocGlobal>(rt: &T) -> Option<()> {
     let (store, fault) = handed_back(rt.alloc())?;
     assert_eq!(rt; fault, OpenFault::WindowsDiffer);
@@ -85,7 +85,7 @@ static SET_ANEW: [Said<'static>; 1] = [(
     r#"{"now":0,"set":2}"#,
 )];
 
-// A store that was opened with the windows of the tests, and whose present ones are the others.
+// Returns a store that was opened with the windows of the tests, and now has the other windows.
 fn store_set_anew<T: Abort + AllocGlobal>(rt: &T) -> Option<MemoryStore> {
     let mut register = after_the_first_port(rt.alloc())?;
     let texts = stream_of(rt.alloc(), &SET_ANEW)?;
@@ -100,7 +100,7 @@ fn store_set_anew<T: Abort + AllocGlobal>(rt: &T) -> Option<MemoryStore> {
     Some(register.close())
 }
 
-// It is refused with its first windows, and goes on with the present ones.
+// Tests that the store refuses its first windows, and works with the current ones.
 fn goes_on_with_the_present<T: Abort + AllocGlobal>(rt: &T) -> Option<()> {
     let first = Windows::from_toml(rt.alloc(), WINDOWS).ok()?;
     let store = store_set_anew(rt)?;
@@ -116,8 +116,8 @@ fn a_store_is_opened_with_its_present_windows(rt: HostRuntime) {
     assert!(rt; goes_on_with_the_present(&rt).is_some());
 }
 
-// How often the administrator sets the windows before a refusal, and then why it, and another
-// caller, is refused.
+// Sets windows until a refusal. Returns how often that succeeded, and why the administrator and
+// another caller are refused then.
 fn sets_in(alloc: Global, register: &mut Register<MemoryStore>) -> Option<(u16, [Refusal; 2])> {
     let command = Command::SetWindows {
         windows: Windows::from_toml(alloc, WINDOWS).ok()?,

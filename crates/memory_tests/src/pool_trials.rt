@@ -1,4 +1,4 @@
-//! A block is donated, assigned and released, and who serves its numbers meanwhile.
+//! Tests the donation, assignment and release of a block, and which carrier serves its numbers.
 use crate::commands::routing;
 use model::{Refusal, Send, Status};
 use numbers::{BlockId, Line, Minute, Routing, Spid, Subject, Tn};
@@ -9,7 +9,7 @@ use windows::{Window, WindowSet, Windows};
 
 const DAY: Window = Window { minutes: 1440 };
 
-// The present windows.
+// The current windows.
 const PRESENT: WindowSet = WindowSet {
     number: 2,
     windows: Windows {
@@ -49,7 +49,7 @@ fn numbers(alloc: Global, rows: &[InUse]) -> Option<Vec<NumberInUse>> {
     Some(numbers)
 }
 
-// The lines from 000 on, so many, and these.
+// Returns the first `many` lines from 000 on, and these others.
 fn lines(alloc: Global, many: u64, others: &[u64]) -> Option<Vec<Line>> {
     let mut lines = Vec::new(alloc);
     for line in 0..many {
@@ -61,8 +61,8 @@ fn lines(alloc: Global, many: u64, others: &[u64]) -> Option<Vec<Line>> {
     Some(lines)
 }
 
-// What is known of a block: for whom its code is opened, whether the routing number is good, who
-// donated it ("" is nobody), and the id that the next version takes.
+// Facts about a block: its code's holder, whether the routing number is good, its donor ("" is
+// none), and the id of the next version.
 #[derive(Clone, Copy)]
 struct Known {
     code_holder: &'static str,
@@ -82,7 +82,7 @@ fn facts<'a>(known: &Known, last: Option<Version>, numbers: &'a [NumberInUse]) -
     }
 }
 
-// The block's code is BBBB's, and nobody has donated it.
+// The block's code is BBBB's, and the block is not donated.
 const OWN: Known = Known {
     code_holder: "BBBB",
     is_lrn_good: true,
@@ -90,7 +90,7 @@ const OWN: Known = Known {
     next_id: 41,
 };
 
-// BBBB has donated it.
+// BBBB has donated the block.
 const DONATED: Known = Known {
     donor: "BBBB",
     ..OWN
@@ -118,7 +118,7 @@ fn planned(
     ))
 }
 
-// The protective version of a number of BBBB's at 700, by hand.
+// Returns the protective version of a number of BBBB at 700, built by hand.
 fn protective(tn: Tn, routing: Routing) -> Option<Version> {
     let donor = Spid::read("BBBB")?;
     let minute = Minute::new(700)?;
@@ -139,12 +139,12 @@ fn protective(tn: Tn, routing: Routing) -> Option<Version> {
     })
 }
 
-// Whether the version is that of a line.
+// Returns whether the version is that of a line.
 fn is_protective(version: &Version, line: u64) -> Option<bool> {
     Some(*version == protective(tn_of(line)?, routing()?)?)
 }
 
-// Whether the versions are those of these lines, in their order, each behind its id.
+// Returns whether the versions are those of these lines, in their order, each after its id.
 fn are_protective(versions: &[(u64, Version)], lines: &[(u64, u64)]) -> bool {
     for ((id, version), (wanted, line)) in versions.iter().zip(lines) {
         if id != wanted || is_protective(version, *line) != Some(true) {
@@ -154,7 +154,7 @@ fn are_protective(versions: &[(u64, Version)], lines: &[(u64, u64)]) -> bool {
     versions.len() == lines.len()
 }
 
-// How many versions a plan has, and the line of the first.
+// The number of versions in a plan, and the line of the first.
 type Size = (usize, Option<u64>);
 
 fn size(plan: &Plan) -> Size {
@@ -171,21 +171,21 @@ fn line_of(subject: Subject) -> Option<u64> {
     }
 }
 
-// How many lines are named from 000 on, and which beside; the numbers with a version; and the plan.
+// How many lines are named from 000 on, and which others; the numbers with a version; and the plan.
 type Named = (u64, &'static [u64], &'static [InUse], Result<Size, Refusal>);
 
 static NAMED: [Named; 11] = [
     (0, &[], &[], Ok((0, None))),
     (100, &[], &[], Ok((100, Some(0)))),
     (101, &[], &[], Err(Refusal::Contaminated)),
-    // one that stands twice counts once
+    // Duplicates count once.
     (100, &[0], &[], Ok((100, Some(0)))),
     (0, &[7, 3, 5, 3], &[], Ok((3, Some(3)))),
-    // those in force count too, each once, and need no version
+    // Numbers in force count too, without duplicates, and need no version.
     (99, &[], &[(999, true, false)], Ok((99, Some(0)))),
     (100, &[], &[(999, true, false)], Err(Refusal::Contaminated)),
     (100, &[], &[(0, true, false)], Ok((99, Some(1)))),
-    // one that is open alone counts not, and may not be there
+    // A number that is only open does not count, and is not allowed.
     (101, &[], &[(500, false, true)], Err(Refusal::Contaminated)),
     (100, &[], &[(500, false, true)], Err(Refusal::OpenPorts)),
     (100, &[], &[(0, true, true)], Ok((99, Some(1)))),
@@ -200,7 +200,7 @@ fn size_of(alloc: Global, row: &Named) -> Option<Result<Size, Refusal>> {
     }
 }
 
-// The first row that is planned otherwise.
+// Returns the first row with another plan.
 fn planned_otherwise(alloc: Global) -> Option<usize> {
     for (at, row) in NAMED.iter().enumerate() {
         if size_of(alloc, row) != Some(row.3) {
@@ -215,14 +215,14 @@ fn a_donation_counts_each_number_once(rt: HostRuntime) {
     assert_eq!(rt; planned_otherwise(rt.alloc()), None);
 }
 
-// Whether the versions of lines that are named in any order are whole.
+// Returns whether the versions are right if lines are named in any order.
 fn are_whole(alloc: Global) -> Option<bool> {
     let lines = lines(alloc, 0, &[7, 3, 5, 3])?;
     let plan = planned(alloc, "BBBB", &lines, &facts(&OWN, None, &[]))?.ok()?;
     Some(are_protective(&plan.versions, &[(41, 3), (42, 5), (43, 7)]))
 }
 
-// The ids and the lines of the first and of the last version.
+// Returns the ids and the lines of the first and the last version.
 fn ends_of(versions: &[(u64, Version)]) -> Option<[(u64, Option<u64>); 2]> {
     let (first, last) = (versions.first()?, versions.last()?);
     Some([
@@ -231,7 +231,7 @@ fn ends_of(versions: &[(u64, Version)]) -> Option<[(u64, Option<u64>); 2]> {
     ])
 }
 
-// The first and the last of a hundred.
+// Returns the ends of a plan for a hundred lines.
 fn ends_of_a_hundred(alloc: Global) -> Option<[(u64, Option<u64>); 2]> {
     let lines = lines(alloc, 100, &[])?;
     let plan = planned(alloc, "BBBB", &lines, &facts(&OWN, None, &[]))?.ok()?;
@@ -259,8 +259,8 @@ fn a_line_may_be_named_very_often(rt: HostRuntime) {
     assert_eq!(rt; repeated(rt.alloc()), Some((1, Some(0))));
 }
 
-// Who donates, what is known of the block, how many lines are named, whether a number is being
-// ported, and the refusal.
+// The donor, the facts about the block, how many lines are named, whether a number is being ported,
+// and the refusal.
 type Donor = (&'static str, Known, u64, bool, Option<Refusal>);
 
 static DONORS: [Donor; 13] = [
@@ -302,7 +302,7 @@ static DONORS: [Donor; 13] = [
         false,
         Some(Refusal::UnknownCode),
     ),
-    // ids are below 2^40
+    // Ids are below 2^40.
     (
         "BBBB",
         Known {
@@ -335,7 +335,7 @@ static DONORS: [Donor; 13] = [
     ),
 ];
 
-// Line 500 where it is being ported.
+// Returns line 500 in use if it is being ported.
 fn ported(alloc: Global, is_ported: bool) -> Option<Vec<NumberInUse>> {
     if is_ported {
         numbers(alloc, &[(500, false, true)])
@@ -366,7 +366,7 @@ fn a_donation_is_refused(rt: HostRuntime) {
 
 // ---- assignments
 
-// The version of the block on its way from BBBB to CCCC at 700, by hand.
+// Returns the version of the block being assigned from BBBB to CCCC at 700, built by hand.
 fn assigned() -> Option<Version> {
     let minute = Minute::new(700)?;
     Some(Version {
@@ -395,7 +395,7 @@ fn made(caller: &str, facts: &BlockFacts<'_>) -> Option<Result<Version, Refusal>
     Some(assignment.made(Spid::read(caller)?, facts, Minute::new(700)?, &PRESENT))
 }
 
-// The status of the block's last version, and whether the block is taken by it.
+// Returns statuses of the block's last version, and whether the block is taken in each.
 fn lasts() -> [(Status, bool); 6] {
     [
         (Status::Failed, false),
@@ -407,7 +407,7 @@ fn lasts() -> [(Status, bool); 6] {
     ]
 }
 
-// An earlier version of the block, AAAA's.
+// Returns an earlier version of the block, which is AAAA's.
 fn earlier(status: Status) -> Option<Version> {
     Some(Version {
         new_provider: Spid::read("AAAA")?,
@@ -442,8 +442,8 @@ fn a_block_is_assigned_unless_it_is_taken(rt: HostRuntime) {
     assert_eq!(rt; are_made(), Some(true));
 }
 
-// Who assigns, what is known of the block, whether it is active and whether a number of it is being
-// ported, and the refusal.
+// The assigner, the facts about the block, whether it is active, whether one of its numbers is
+// being ported, and the refusal.
 type Assigner = (&'static str, Known, bool, bool, Option<Refusal>);
 
 static ASSIGNERS: [Assigner; 9] = [
@@ -534,7 +534,7 @@ fn released(caller: &str, facts: &BlockFacts<'_>) -> Option<Result<Transition, R
     Some(release(Spid::read(caller)?, facts, Minute::new(800)?, &PRESENT))
 }
 
-// Whether the caller's release of AAAA's block at 800 sends the delete of this attempt.
+// Returns whether the caller's release of AAAA's block at 800 sends the delete of this attempt.
 fn is_released(caller: &str, attempt: u64) -> Option<bool> {
     let last = Version {
         attempt: attempt.checked_sub(1)?,
@@ -551,7 +551,8 @@ fn is_released(caller: &str, attempt: u64) -> Option<bool> {
     Some(released(caller, &facts(&DONATED, Some(last), &[]))? == Ok(Transition { version, sends }))
 }
 
-// By its holder, by the administrator, and with the greatest attempt that is sent.
+// Returns whether its holder, the administrator, and its holder at the greatest attempt may release
+// it.
 fn are_released() -> Option<[bool; 3]> {
     Some([
         is_released("AAAA", 2)?,
@@ -565,8 +566,9 @@ fn a_block_is_released(rt: HostRuntime) {
     assert_eq!(rt; are_released(), Some([true; 3]));
 }
 
-// Who releases AAAA's block, what is known of it, its last version's attempt (0 is never assigned)
-// and whether that is a partial failure, whether a number is being ported, and the refusal.
+// The releaser of AAAA's block, the facts about it, its last version's attempt (0 is never
+// assigned) and whether that is a partial failure, whether a number is being ported, and the
+// refusal.
 type Releaser = (&'static str, Known, (u64, bool), bool, Refusal);
 
 static RELEASERS: [Releaser; 11] = [
@@ -636,14 +638,13 @@ fn a_release_is_refused(rt: HostRuntime) {
     assert_eq!(rt; released_otherwise(rt.alloc()), None);
 }
 
-// ---- who serves
+// ---- servers
 
-// A number's version in force is DDDD's, its open one EEEE's; its block is CCCC's, its code BBBB's.
-// Whether there is one in force, an open one, whether that is protective, whether the block is
-// donated and has a version in force, and whether the code is opened.
+// The versions of a number and its block: in force (DDDD's), open (EEEE's) and protective; the
+// block donated, and in force (CCCC's); and the code open (BBBB's).
 type Stands = (bool, (bool, bool), (bool, bool), bool);
 
-// By what a number is served.
+// The ground of a number's server.
 #[derive(Clone, Copy, Debug, PartialEq, Eq)]
 enum By {
     Version,
@@ -652,7 +653,7 @@ enum By {
     Code,
 }
 
-// What stands, by what it is served, and by whom ("" is nobody).
+// The versions, the ground, and the server ("" for nobody).
 type Served = (Stands, By, &'static str);
 
 static SERVED: [Served; 10] = [
@@ -696,7 +697,7 @@ static SERVED: [Served; 10] = [
     ((false, (false, false), (false, false), false), By::Code, ""),
 ];
 
-// A version to this provider, where there is one.
+// Returns a version of this provider, if there is one.
 fn version_to(is_there: bool, provider: &str, is_protective: bool) -> Option<Version> {
     let version = active()?;
     if !is_there {

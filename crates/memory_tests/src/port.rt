@@ -1,4 +1,4 @@
-//! What the tests share: a register over memory, and the first port.
+//! A register over memory, and the first port, for the tests.
 use api::{End, Fault, NoTicks, Options, Served, serve};
 use register::Register;
 use settle::Store;
@@ -12,7 +12,7 @@ use windows::Windows;
 pub const WINDOWS: &str =
     "initial_concurrence = 60\nfinal_concurrence = 60\nconflict_restriction = 30\nconflict_resolution = 120\nconflict_expiration = 1000\ncancellation_initial = 60\ncancellation_final = 60\npending_retention = 500\nbroadcast = 15\n";
 
-/// A caller, a path, a body (an empty one: a GET), and the body that is answered.
+/// A caller, a path, a body (empty for GET), and the body of the response.
 pub type Said<'a> = (&'a str, &'a str, &'a str, &'a str);
 
 pub static FIRST_PORT: [Said<'static>; 11] = [
@@ -84,14 +84,14 @@ pub static FIRST_PORT: [Said<'static>; 11] = [
     ),
 ];
 
-/// What is asked, and what is answered.
+/// Requests and their responses.
 #[derive(Drop)]
 pub struct Texts {
     pub asked: String,
     pub answered: String,
 }
 
-/// The message of a row.
+/// Returns the request of a row.
 pub fn asked(alloc: Global, said: &Said<'_>) -> Result<String, AllocError> {
     let (caller, path, body, _) = *said;
     if body.is_empty() {
@@ -103,7 +103,7 @@ pub fn asked(alloc: Global, said: &Said<'_>) -> Result<String, AllocError> {
     )
 }
 
-/// The answer of a status and a body.
+/// Returns the response with a status and a body.
 pub fn answer(alloc: Global, status: &str, body: &str) -> Result<String, AllocError> {
     let length = body.len();
     format!(in alloc;
@@ -111,7 +111,7 @@ pub fn answer(alloc: Global, status: &str, body: &str) -> Result<String, AllocEr
     )
 }
 
-/// A row's message, and its answer.
+/// Returns the request and the response of a row.
 pub fn texts_of(alloc: Global, said: &Said<'_>) -> Result<Texts, AllocError> {
     Ok(Texts {
         asked: asked(alloc, said)?,
@@ -120,7 +120,7 @@ pub fn texts_of(alloc: Global, said: &Said<'_>) -> Result<Texts, AllocError> {
 }
 
 impl Texts {
-    /// No messages, and no answers.
+    /// Creates texts without requests or responses.
     pub fn new(alloc: Global) -> Texts {
         Texts {
             asked: String::new(alloc),
@@ -128,13 +128,13 @@ impl Texts {
         }
     }
 
-    /// Puts more messages and answers behind those that there are.
+    /// Appends more requests and responses.
     pub fn add(&mut self, more: &Texts) -> Result<(), AllocError> {
         self.asked.push_str(more.asked.as_str())?;
         self.answered.push_str(more.answered.as_str())
     }
 
-    /// Puts the messages and the answers of rows behind those that there are.
+    /// Appends the requests and responses of rows.
     pub fn add_rows(&mut self, alloc: Global, rows: &[Said<'_>]) -> Result<(), AllocError> {
         for said in rows {
             self.add(&texts_of(alloc, said)?)?;
@@ -143,25 +143,26 @@ impl Texts {
     }
 }
 
-/// The messages of rows, one behind the other, and their answers.
+/// Returns the requests of rows, one after the other, and their responses.
 pub fn stream_of(alloc: Global, rows: &[Said<'_>]) -> Option<Texts> {
     let mut texts = Texts::new(alloc);
     texts.add_rows(alloc, rows).ok()?;
     Some(texts)
 }
 
-/// A store, opened with the windows of the tests.
+/// Opens a store with the windows of the tests.
 pub fn opened<S: Store + Drop>(alloc: Global, store: S) -> Option<Register<S>> {
     let windows = Windows::from_toml(alloc, WINDOWS).ok()?;
     Register::open(alloc, store, &windows).ok()
 }
 
-/// A new register over memory.
+/// Creates a register over memory.
 pub fn new_register(alloc: Global) -> Option<Register<MemoryStore>> {
     opened(alloc, MemoryStore::new(alloc))
 }
 
-/// What is answered to what a reader gives, the clock's path offered, and how serving ends.
+/// Serves the messages of a reader, with the path of the clock; returns the responses, and how
+/// serving ended.
 pub fn served<S: Store, R: Read>(
     alloc: Global,
     register: &mut Register<S>,
@@ -173,7 +174,7 @@ pub fn served<S: Store, R: Read>(
     (bytes, ended)
 }
 
-/// Whether these messages, so many, are served to their end.
+/// Returns whether these `count` messages are served to the end.
 pub fn is_served<S: Store>(
     alloc: Global,
     register: &mut Register<S>,
@@ -184,7 +185,7 @@ pub fn is_served<S: Store>(
     ended == whole(count)
 }
 
-/// Whether a message is answered so.
+/// Returns whether this is the response to a message.
 pub fn is_answered<S: Store>(
     alloc: Global,
     register: &mut Register<S>,
@@ -195,12 +196,12 @@ pub fn is_answered<S: Store>(
     answers.as_slice() == answered.as_bytes() && ended == whole(1)
 }
 
-/// The answers as a text.
+// Returns the responses as text.
 fn text_of(bytes: &[u8]) -> &str {
     str::from_utf8(bytes).unwrap_or("no UTF-8")
 }
 
-/// The answers are these, and serving ended so.
+/// Asserts that the responses are these, and that serving ended like this.
 pub fn is_so<T: Abort>(
     rt: &T,
     answers: &[u8],
@@ -212,7 +213,7 @@ pub fn is_so<T: Abort>(
     assert_eq!(rt; ended, end);
 }
 
-/// What a reader gives is answered so, and serving ends so.
+/// Asserts the responses to the messages of a reader, and how serving ends.
 pub fn hears<T: Abort + AllocGlobal, S: Store, R: Read>(
     rt: &T,
     register: &mut Register<S>,
@@ -224,7 +225,7 @@ pub fn hears<T: Abort + AllocGlobal, S: Store, R: Read>(
     is_so(rt, &bytes, answered, ended, wanted);
 }
 
-/// Serving so many messages to the end of the input.
+/// Returns the result of serving `count` messages to the end of the input.
 pub fn whole(count: u64) -> Result<Served, Fault> {
     Ok(Served {
         count,
@@ -237,7 +238,7 @@ fn says_first_port(alloc: Global, register: &mut Register<MemoryStore>) -> Optio
     Some(is_served(alloc, register, texts.asked.as_str(), 11))
 }
 
-/// A register after the first port.
+/// Returns a register after the first port.
 pub fn after_the_first_port(alloc: Global) -> Option<Register<MemoryStore>> {
     let mut register = new_register(alloc)?;
     match says_first_port(alloc, &mut register) {

@@ -1,7 +1,7 @@
-//! The first port where memory may be refused once: a message that met it is sent again.
+//! Tests the first port with one allocation failure: a message that met it is sent again.
 //!
-//! `rt try --test --fail-alloc N` runs it with its N-th allocation refused;
-//! `bench/run refused-memory` does the same to the built program, for every N.
+//! `rt try --test --fail-alloc N` runs it with its N-th allocation refused; `bench/run
+//! refused-memory` does the same to the built program, for every N.
 use crate::port::{FIRST_PORT, Said, Texts, new_register, texts_of, whole};
 use api::{Fault, NoTicks, Options, serve};
 use register::Register;
@@ -11,7 +11,7 @@ use store::MemoryStore;
 const NO_MEMORY: &str =
     "HTTP/1.1 503 Service Unavailable\r\ncontent-type: application/json\r\ncontent-length: 33\r\n\r\n{\"error\":\"no_memory\",\"number\":30}";
 
-// A message was answered as it should be, or memory was refused and nothing was done.
+// The response to a message: right, or an allocation failure without any effect.
 #[derive(Clone, Copy)]
 enum Heard {
     Right,
@@ -60,7 +60,7 @@ fn room_at_last(alloc: Global) -> Option<Vec<u8>> {
     }
 }
 
-// A row is said, and said again where it was refused.
+// Sends a row, and sends it again if an allocation failed.
 fn said_again(
     alloc: Global,
     register: &mut Register<MemoryStore>,
@@ -74,7 +74,7 @@ fn said_again(
     }
 }
 
-// Whether each row of the first port is answered, at first or when it is said again.
+// Returns whether each row of the first port is answered, at the first or the second attempt.
 fn is_answered(alloc: Global, register: &mut Register<MemoryStore>, bytes: &mut Vec<u8>) -> bool {
     for said in &FIRST_PORT {
         match said_again(alloc, register, said, bytes) {

@@ -1,4 +1,4 @@
-//! Versions that begin to send at once.
+//! Tests versions that begin to send at once.
 use crate::commands::routing;
 use delivery::Broadcast;
 use model::{Action, Send, Status};
@@ -20,7 +20,7 @@ const WINDOWS: Windows = Windows {
     broadcast: Window { minutes: 15 },
 };
 
-// A version of the number as it begins to send its create at 700.
+// Returns a version of the number sending its create from 700 on.
 fn sent(number: &str, attempt: u64) -> Option<Version> {
     let minute = Minute::new(700)?;
     Some(Version {
@@ -40,7 +40,7 @@ fn sent(number: &str, attempt: u64) -> Option<Version> {
     })
 }
 
-// The version 7 at its first attempt, and the version 9 at its second.
+// Returns version 7 at its first attempt, and version 9 at its second.
 fn versions() -> Option<[(u64, Version); 2]> {
     Some([(7, sent("2025337003", 1)?), (9, sent("2025337005", 2)?)])
 }
@@ -63,7 +63,7 @@ fn begun(alloc: Global, versions: &[(u64, Version)]) -> Option<Changes> {
     Some(changes)
 }
 
-// Whether each has its row: open, not in force, and over at 715.
+// Returns whether each version has its row: open, not in force, and with the deadline 715.
 fn has_rows(changes: &Changes, versions: &[(u64, Version)]) -> bool {
     let rows = changes.versions.as_slice();
     for ((id, row), (wanted, version)) in rows.iter().zip(versions) {
@@ -116,7 +116,8 @@ fn has_waits(changes: &Changes) -> Option<bool> {
     Some(changes.waits.as_slice() == wanted.as_slice())
 }
 
-// What the changes of these versions have: their rows, their broadcasts, and who waits for these.
+// Returns whether the changes have these versions' rows, their broadcasts, and the pending
+// downloads of these.
 fn has_all(changes: &Changes, versions: &[(u64, Version)]) -> Option<[bool; 3]> {
     Some([
         has_rows(changes, versions),

@@ -1,4 +1,4 @@
-//! What a call settles: the subjects that it reads, and no other.
+//! Tests what a call settles: the subjects that it reads, and no other.
 use crate::port::{FIRST_PORT, Said, Texts, answer, asked, is_answered, is_served, opened};
 use register::Register;
 use settle::Store;
@@ -6,7 +6,7 @@ use std::alloc::{AllocError, Global};
 use std::cell::Cell;
 use store::{CommitCounter, MemoryStore};
 
-// The old provider's create of a number, due at 300.
+// Appends the old provider's create of a number, due at 300.
 fn offer(alloc: Global, line: u64, out: &mut String) -> Result<(), AllocError> {
     let body = format!(in alloc;
         "{{\"authorized\":true,\"due\":300,\"new\":\"AAAA\",\"old\":\"BBBB\",\"tn\":\"202533{line}\"}}"
@@ -18,8 +18,8 @@ fn offer(alloc: Global, line: u64, out: &mut String) -> Result<(), AllocError> {
 
 static AT_120: Said<'static> = ("NPAC", "/clock", r#"{"minute":120}"#, r#"{"now":120}"#);
 
-// What opens a register, a thousand creates, whose windows end at 120, and the clock at that
-// minute.
+// Adds the messages that open a register, a thousand creates whose windows end at 120, and the
+// clock at that minute.
 fn ask_until_120(alloc: Global, texts: &mut Texts) -> Result<(), AllocError> {
     texts.add_rows(alloc, &FIRST_PORT[..5])?;
     for line in 1000..2000 {
@@ -35,11 +35,11 @@ fn is_told_until_120<S: Store>(alloc: Global, register: &mut Register<S>) -> boo
         && is_served(alloc, register, texts.asked.as_str(), 1006)
 }
 
-// What is said, the answer's status, and how often the store is asked for a commit.
+// A request, the status of its response, and how many commits it makes.
 type Step = (Said<'static>, &'static str, u64);
 
 static STEPS: [Step; 6] = [
-    // a number that no version is of is asked for
+    // A query for a number that has no version.
     (
         (
             "AAAA",
@@ -50,7 +50,7 @@ static STEPS: [Step; 6] = [
         "200 OK",
         0,
     ),
-    // the first version is shown: canceled at 120
+    // The first version is shown: canceled at 120.
     (
         (
             "AAAA",
@@ -61,7 +61,7 @@ static STEPS: [Step; 6] = [
         "200 OK",
         1,
     ),
-    // the clock is refused to go back
+    // The clock is refused to go back.
     (
         (
             "NPAC",
@@ -72,19 +72,19 @@ static STEPS: [Step; 6] = [
         "409 Conflict",
         0,
     ),
-    // the clock is moved to the minute at which it stands
+    // The clock is moved to the current minute.
     (
         ("NPAC", "/clock", r#"{"minute":120}"#, r#"{"now":120}"#),
         "200 OK",
         0,
     ),
-    // the new provider fetches: the other 999 end, and nothing waits
+    // The new provider fetches: the other 999 end, and no download is pending.
     (
         ("AAAA", "/downloads/10", "", r#"{"downloads":[]}"#),
         "200 OK",
         999,
     ),
-    // a carrier is registered
+    // A carrier is registered.
     (
         (
             "NPAC",
@@ -103,7 +103,7 @@ fn takes<S: Store>(alloc: Global, register: &mut Register<S>, step: &Step) -> Op
     Some(is_answered(alloc, register, text.as_str(), wanted.as_str()))
 }
 
-// The first step that is answered otherwise, or with other commits.
+// Returns the first step with another response, or another number of commits.
 fn taken_otherwise<S: Store>(
     alloc: Global,
     register: &mut Register<S>,

@@ -1,5 +1,5 @@
-//! A commit and each read. The same tests run with each allocation refused in turn: a commit that
-//! is refused leaves every read as it was.
+//! Tests a commit and each read. They also run with each allocation refused in turn: a commit that
+//! is refused leaves every read unchanged.
 use delivery::{Broadcast, DownloadKey};
 use model::{Action, Status};
 use numbers::{BlockId, CodeId, Lrn, Minute, Routing, Spid, Subject, Tn};
@@ -69,7 +69,7 @@ fn row(sample: &Sample) -> VersionRow {
 
 const KEY: BroadcastKey = BroadcastKey { id: 1, attempt: 1 };
 
-// A version in force and what was sent of it, which one carrier has to acknowledge.
+// Adds a version in force and its broadcast, pending for one carrier.
 fn add_version(changes: &mut Changes, sample: &Sample) -> Option<()> {
     changes.versions = Few::One([(1, row(sample))]);
     let sent = Broadcast::send(Minute::ZERO, sample.subject, Action::Create, None);
@@ -103,7 +103,7 @@ fn changes(alloc: Global, sample: &Sample) -> Option<Changes> {
     Some(changes)
 }
 
-// The download that would be the last of another carrier.
+// Returns the key of a download for another carrier.
 fn another_wait() -> Option<WaitKey> {
     Some(WaitKey {
         carrier: Spid::read("B001")?,
@@ -113,8 +113,8 @@ fn another_wait() -> Option<WaitKey> {
     })
 }
 
-// Whether a clock, a carrier, a routing number, a code and a block stand under the sample's keys,
-// and the first set of windows.
+// Returns whether there is a clock, and a carrier, a routing number, a code and a block with the
+// sample's keys, and the first set of windows.
 fn registered(store: &mut MemoryStore, sample: &Sample) -> Option<[bool; 6]> {
     Some([
         store.clock().ok()?.is_some(),
@@ -126,8 +126,8 @@ fn registered(store: &mut MemoryStore, sample: &Sample) -> Option<[bool; 6]> {
     ])
 }
 
-// Whether a version does, in force, open, and a broadcast, and whether another's download is the
-// last.
+// Returns whether there is a version by id, in force and open, and a broadcast, and whether another
+// carrier's download would be the last.
 fn ported(store: &mut MemoryStore, sample: &Sample) -> Option<[bool; 5]> {
     Some([
         store.version(1).ok()?.is_some(),
@@ -138,13 +138,13 @@ fn ported(store: &mut MemoryStore, sample: &Sample) -> Option<[bool; 5]> {
     ])
 }
 
-// How many downloads of the sample wait for its carrier.
+// Returns how many downloads of the sample are pending for its carrier.
 fn about(store: &mut MemoryStore, sample: &Sample) -> Option<usize> {
     let about = store.waits_about(sample.carrier, sample.subject).ok()?;
     Some(about.as_slice().len())
 }
 
-// How many rows each list has that is one carrier's or one broadcast's.
+// Returns how many rows each list of one carrier or one broadcast has.
 fn waiting(store: &mut MemoryStore, sample: &Sample) -> Option<[usize; 4]> {
     let waits = store.waits(sample.carrier).ok()?.len();
     let front = store.front(sample.carrier, 10).ok()?.len();
@@ -152,7 +152,7 @@ fn waiting(store: &mut MemoryStore, sample: &Sample) -> Option<[usize; 4]> {
     Some([about(store, sample)?, waits, front, waiters])
 }
 
-// And each other one.
+// Returns how many rows each other list has.
 fn listed(store: &mut MemoryStore) -> Option<[usize; 4]> {
     let block = BlockId::read("2025331")?;
     let carriers = store.carriers().ok()?.len();
@@ -166,7 +166,7 @@ fn is_committed(store: &mut MemoryStore, changes: &Changes) -> bool {
     store.commit(changes).is_ok()
 }
 
-// Whether that is found after a commit that was done, or was refused.
+// Returns whether the reads are right after a commit that was made, or was refused.
 fn is_read(store: &mut MemoryStore, sample: &Sample, done: bool) -> Option<bool> {
     let registered = registered(store, sample)?;
     let ported = ported(store, sample)?;
@@ -212,7 +212,7 @@ fn are_committed(alloc: Global, store: &mut MemoryStore, versions: &[Deadline]) 
     Some(is_committed(store, &changes))
 }
 
-// The id of the version whose deadline is least, where that minute is not after this one.
+// Returns the id of the version with the least deadline, if that is not after `now`.
 fn least_due(store: &mut MemoryStore, now: u64) -> Option<Option<u64>> {
     let least = store.least_due(Minute::new(now)?).ok()?;
     Some(least.map(|version| version.id))
@@ -220,10 +220,11 @@ fn least_due(store: &mut MemoryStore, now: u64) -> Option<Option<u64>> {
 
 static FIRST: [Deadline; 4] = [(1, Some(30)), (2, Some(10)), (3, Some(20)), (4, None)];
 
-// The second version is over, and a fifth comes.
+// The second version loses its deadline, and a fifth is added.
 static NEXT: [Deadline; 2] = [(2, None), (5, Some(40))];
 
-// After the first commit, which was done or refused, none is due at 9, and the second from 10 on.
+// Returns whether the least deadline is right after the first commit, made or refused: none is due
+// at 9, and the second is from 10 on.
 fn is_second_due(store: &mut MemoryStore, done: bool) -> Option<bool> {
     let second = if done { Some(2) } else { None };
     let early = least_due(store, 9)?;
@@ -253,7 +254,7 @@ fn the_least_deadline_is_found(rt: HostRuntime) {
     assert_eq!(rt; is_least_found(rt.alloc()), Some(true));
 }
 
-// Downloads of one subject, attempts of one version, in the order in which they are put.
+// Adds downloads of one subject, attempts of one version, in this order.
 fn add_waits(changes: &mut Changes, sample: &Sample, attempts: &[u64]) -> Option<()> {
     for attempt in attempts {
         let wait = WaitKey {
@@ -273,7 +274,7 @@ fn waits_of(alloc: Global, sample: &Sample, attempts: &[u64]) -> Option<Changes>
     Some(changes)
 }
 
-// Whether the attempts are those from the first on.
+// Returns whether the attempts are consecutive from the first on.
 fn rise(downloads: &[DownloadKey]) -> bool {
     let mut next: u64 = 1;
     for download in downloads {
@@ -285,13 +286,13 @@ fn rise(downloads: &[DownloadKey]) -> bool {
     true
 }
 
-// Whether so many are told, from the first attempt on.
+// Returns whether `many` downloads are pending, consecutive from the first attempt on.
 fn are_told(store: &mut MemoryStore, sample: &Sample, many: usize) -> Option<bool> {
     let told = store.waits_about(sample.carrier, sample.subject).ok()?;
     Some(told.as_slice().len() == many && rise(told.as_slice()))
 }
 
-// Whether as many are told as were put.
+// Returns whether all downloads of a commit are read, or none if it was refused.
 fn are_put_and_told(store: &mut MemoryStore, sample: &Sample, changes: &Changes) -> Option<bool> {
     let done = is_committed(store, changes);
     are_told(store, sample, if done { changes.waits.len() } else { 0 })
@@ -306,7 +307,7 @@ fn are_told_in_order(alloc: Global, attempts: &[u64]) -> Option<bool> {
 
 static ATTEMPTS: [&[u64]; 4] = [&[], &[2, 1], &[3, 1, 2], &[5, 3, 1, 4, 2]];
 
-// The first row whose downloads are told otherwise.
+// Returns the first row whose downloads are read otherwise.
 fn told_otherwise(alloc: Global) -> Option<usize> {
     for (at, attempts) in ATTEMPTS.iter().enumerate() {
         if are_told_in_order(alloc, attempts) != Some(true) {

@@ -1,4 +1,4 @@
-//! Each function over URIs once. The stories have the rows: each fault, each answer.
+//! Tests each function over URIs once. The stories test each fault and each answer.
 use numbers::{Cic, Lrn, Routing, Tn};
 use std::alloc::Global;
 use telnp::{TelFault, TelUri};
@@ -17,7 +17,7 @@ fn routing() -> Option<Routing> {
     })
 }
 
-// What is ported, and a number of no carrier, which the register answers by its own text.
+// A ported number, and a number without a carrier, which the register answers by its own text.
 const PORTED: (&str, &str) = (
     "tel:+12025331234;EXT=5",
     "tel:+12025331234;EXT=5;cic=+10288;npdi;rn=+12025440000",
@@ -35,7 +35,7 @@ fn uris_are_answered(rt: HostRuntime) {
     assert_eq!(rt; (ported, free), (Some(true), Some(true)));
 }
 
-// The first parameter's name and value, and whether `npdi` is one.
+// The first parameter's name and value, and whether `npdi` is a parameter.
 type Parts = (&'static str, Option<&'static str>, bool);
 
 fn parts_of(text: &'static str) -> Option<Parts> {

@@ -1,4 +1,4 @@
-//! Minutes that are handed in beside the messages.
+//! Tests minutes that are supplied beside the messages.
 ghost use Rattle.std.specs.Prelude.{Some, option_map, map};
 ghost use Rattle.numbers.specs.declared.minute.Minute.{Minute as MinuteImpl};
 
@@ -10,7 +10,7 @@ use std::alloc::{AllocError, Global};
 use std::process::Abort;
 use store::MemoryStore;
 
-/// Minutes that are handed in one after the other, and then none.
+/// A source that supplies these minutes one after the other, and then none.
 #[derive(Drop)]
 struct Told<'a> {
     ticks: &'a [Option<Minute>],
@@ -26,7 +26,7 @@ impl<'a> Ticks for Told<'a> {
     }
 }
 
-// A create that is due at 100, behind what opens the first port.
+// A create that is due at 100, after the messages that open the first port.
 static CREATED: [Said<'static>; 4] = [
     (
         "AAAA",
@@ -53,7 +53,7 @@ static ENDED: [Said<'static>; 1] = [(
     r#"{"attempt":0,"cic":null,"due":100,"id":1,"lrn":"2025440000","new":"AAAA","old":"BBBB","phase":"ended","release":null,"since":0,"status":"pending","subject":"2025331234"}"#,
 )];
 
-// The clock's own path is not offered.
+// Adds a request to the clock's path, which is not served.
 fn add_clock(alloc: Global, texts: &mut Texts) -> Result<(), AllocError> {
     texts.add(&Texts {
         asked: asked(alloc, &CLOCK)?,
@@ -61,7 +61,8 @@ fn add_clock(alloc: Global, texts: &mut Texts) -> Result<(), AllocError> {
     })
 }
 
-// The messages and their answers: what opens the register, and what comes beside the minutes.
+// Adds the messages and their responses: those that open the register, and those with minutes
+// beside them.
 fn add_all(alloc: Global, texts: &mut Texts) -> Result<(), AllocError> {
     texts.add_rows(alloc, &FIRST_PORT[..5])?;
     texts.add_rows(alloc, &CREATED)?;
@@ -69,7 +70,7 @@ fn add_all(alloc: Global, texts: &mut Texts) -> Result<(), AllocError> {
     texts.add_rows(alloc, &ENDED)
 }
 
-// None while the register is opened and the version made, and then these.
+// Returns no minutes while the register is opened and the version made, and then these.
 fn ticks() -> Option<[Option<Minute>; 10]> {
     let mut ticks = [None; 10];
     ticks[6] = Some(Minute::new(60)?);
@@ -78,7 +79,7 @@ fn ticks() -> Option<[Option<Minute>; 10]> {
     Some(ticks)
 }
 
-// The texts are answered so while these minutes are handed in.
+// Asserts the responses to the texts while these minutes are supplied.
 fn hears_beside<T: Abort + AllocGlobal>(
     rt: &T,
     register: &mut Register<MemoryStore>,
@@ -117,7 +118,7 @@ fn is_moved<T: Abort + AllocGlobal>(rt: &T) -> Option<()> {
     are_answered(rt, &ticks, &texts)
 }
 
-// A minute ends the first window, one that has passed is dropped, none changes nothing, and one
+// A minute ends the first window, one that has passed is discarded, none changes nothing, and one
 // beside a refused message counts.
 #[test]
 fn minutes_beside_messages_move_the_clock(rt: HostRuntime) {

@@ -1,4 +1,4 @@
-//! One port of a number: created from both sides, activated, completed, and ended by minutes.
+//! Tests one port of a number: created from both sides, activated, completed, and ended by minutes.
 use crate::commands::{create_of, routed_to, routing};
 use model::{Refusal, Send, Side, Status};
 use numbers::{Minute, Spid};
@@ -19,7 +19,7 @@ const WINDOWS: Windows = Windows {
     broadcast: Window { minutes: 15 },
 };
 
-// The present windows are another set of the same.
+// The current windows: another set with the same lengths.
 const PRESENT: WindowSet = WindowSet {
     number: 2,
     windows: WINDOWS,
@@ -29,7 +29,7 @@ fn create(creator: Creator) -> Option<Create> {
     create_of("2025331234", Minute::new(5000)?, creator)
 }
 
-// What is known of the number: BBBB serves it, and this version of it is open under the id 6.
+// Returns the facts about the number: BBBB serves it, and this version of it is open with the id 6.
 fn facts(opened: Option<Version>) -> Option<CreateFacts> {
     Some(CreateFacts {
         is_code_open: true,
@@ -61,7 +61,7 @@ fn second() -> Option<Version> {
     }
 }
 
-// A minute, and the version's phase in it.
+// A minute, and the version's phase at it.
 static PHASES: [(u64, Phase); 3] = [
     (1139, Phase::Initial),
     (1140, Phase::Final),
@@ -82,7 +82,7 @@ fn deadline_of(version: &Version) -> Option<u64> {
     Some(version.deadline(&WINDOWS)?.number)
 }
 
-// Whether a version with one create is open, pending, and over at 1680.
+// Returns whether a version with one create is open, pending, and has the deadline 1680.
 fn is_offered(version: &Version) -> bool {
     let stands = version.is_open() && !version.is_in_force() && !version.is_sent_too_often();
     stands && version.status == Status::Pending && deadline_of(version) == Some(1680)
@@ -98,14 +98,14 @@ fn a_first_create_waits(rt: HostRuntime) {
     assert!(rt; is_first() == Some(true));
 }
 
-// Whether a version with both creates is routed, has no phase, and is over at 48200.
+// Returns whether a version with both creates has a routing, no phase, and the deadline 48200.
 fn is_agreed(version: &Version) -> Option<bool> {
     let phase = version.phase(Minute::new(1140)?, &WINDOWS);
     let is_routed = version.routing == Some(routing()?);
     Some(is_routed && phase.is_none() && deadline_of(version) == Some(48_200))
 }
 
-// The version as it is activated in a minute, or why it is not.
+// Returns the version activated at a minute, or the refusal.
 fn activated(both: &Version, number: u64) -> Option<Result<Version, Refusal>> {
     let minute = Minute::new(number)?;
     let step = both.commanded(
@@ -119,14 +119,14 @@ fn activated(both: &Version, number: u64) -> Option<Result<Version, Refusal>> {
     Some(step.map(|step| step.version))
 }
 
-// Whether it is refused before its due minute, and sent in it.
+// Returns whether it is refused before its due minute, and sent at it.
 fn is_sent_when_due(both: &Version) -> Option<bool> {
     let sent = both.sending(Send::Create, Minute::new(5000)?, &PRESENT);
     let is_early = activated(both, 4999)? == Err(Refusal::BeforeDue);
     Some(is_early && activated(both, 5000)? == Ok(sent) && sent.attempt == 1)
 }
 
-// Whether it is active once it is completed, and waits for nothing.
+// Returns whether it is active after its completion, and has no deadline.
 fn is_completed(both: &Version) -> Option<bool> {
     let sent = activated(both, 5000)?.ok()?;
     let minute = Minute::new(5003)?;
@@ -161,7 +161,8 @@ fn ended() -> [Ended; 8] {
     ]
 }
 
-// Whether the minute makes of the version in the one status what it is in the other.
+// Returns whether the minute turns the version in the one status into the same version in the
+// other.
 fn is_ended(both: &Version, end: Minute, row: Ended) -> bool {
     let (status, is_acknowledged, after) = row;
     let fired = both
@@ -181,7 +182,8 @@ fn are_ended(both: &Version) -> Option<bool> {
     Some(planned.fired(end, &PRESENT, false) == both.sending(Send::Delete, end, &PRESENT))
 }
 
-// What a second create, an activation and the end of a window make of it.
+// Returns whether the version is right after a second create, an activation, a completion and the
+// end of a window.
 fn goes_on() -> Option<[bool; 4]> {
     let both = second()?;
     Some([
@@ -214,7 +216,7 @@ fn is_wrong(way: usize, bit: usize) -> bool {
     way & bit != 0
 }
 
-// The least refusal of a way.
+// Returns the least refusal of a way.
 fn least(way: usize) -> Option<Refusal> {
     for (refusal, bit) in REFUSALS.iter().zip(BITS.iter()) {
         if is_wrong(way, *bit) {
@@ -224,7 +226,7 @@ fn least(way: usize) -> Option<Refusal> {
     None
 }
 
-// A version that is modified, wrong by its status and its attempts where the way says so.
+// Returns a version to modify, with a wrong status and too many attempts if the way says so.
 fn standing(way: usize) -> Option<Version> {
     let minute = Minute::new(5003)?;
     let active = second()?.with_status(Status::Active, minute, &PRESENT);
@@ -243,7 +245,7 @@ fn standing(way: usize) -> Option<Version> {
     })
 }
 
-// Why the modify is refused, if it is.
+// Returns the refusal of the modify, if it is refused.
 fn modify_refusal(way: usize) -> Option<Option<Refusal>> {
     let version = standing(way)?;
     let told = CommandFacts {
@@ -267,7 +269,7 @@ fn modify_refusal(way: usize) -> Option<Option<Refusal>> {
     Some(step.err())
 }
 
-// The first way of which another refusal is told.
+// Returns the first way with another refusal.
 fn first_other_refusal() -> Option<usize> {
     for way in 0..32 {
         if modify_refusal(way) != Some(least(way)) {

@@ -1,5 +1,5 @@
-//! A client that waits: the answers to what it sent so far are flushed before it is asked for more,
-//! and those to messages that it sent at once are flushed once.
+//! Tests a waiting client: responses are flushed before more input is read, and those to messages
+//! sent at once are flushed once.
 use crate::failing::{Story, story_of_first_port};
 use crate::port::{is_so, new_register, whole};
 use api::{NoTicks, Options, serve};
@@ -10,8 +10,8 @@ use std::io::{ErrorKind, Read, Write};
 use std::process::Abort;
 use store::MemoryStore;
 
-// Sends a text in two pieces. Whoever reads on before so many bytes of answers are flushed would
-// wait for ever, and is refused.
+// A client that sends a text in two pieces. A server that reads on before enough responses are
+// flushed would wait forever, and is refused.
 #[derive(Drop)]
 struct Client<'a> {
     first: &'a [u8],
@@ -38,7 +38,7 @@ impl Read for Client<'_> {
     }
 }
 
-// Keeps what it takes, and notes how much of it was flushed, and how often it was asked to.
+// A writer that keeps its bytes, and notes how many were flushed, and how often.
 #[derive(Drop)]
 struct Noting<'a> {
     bytes: Vec<u8>,
@@ -58,7 +58,7 @@ impl Write for Noting<'_> {
     }
 }
 
-// The client is answered so; how often the answers were flushed.
+// Asserts the responses to the client, and returns how often they were flushed.
 fn flushes_to<T: Abort + AllocGlobal>(
     rt: &T,
     register: &mut Register<MemoryStore>,
@@ -78,7 +78,7 @@ fn flushes_to<T: Abort + AllocGlobal>(
     flushes.get()
 }
 
-// How often a register flushes its answers to a client that sends the first port cut there.
+// Returns how often the responses are flushed to a client that sends the first port cut at `place`.
 fn flushes_in<T: Abort + AllocGlobal>(
     rt: &T,
     register: &mut Register<MemoryStore>,

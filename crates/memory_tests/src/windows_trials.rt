@@ -1,11 +1,11 @@
-//! Files of windows that are read, and files that are refused.
+//! Tests files of windows that are read, and files that are refused.
 use std::alloc::Global;
 use windows::{WindowFault, Windows};
 
 const EIGHT: &str =
     "initial_concurrence = 1\nfinal_concurrence = 2\nconflict_restriction = 3\nconflict_resolution = 4\nconflict_expiration = 5\ncancellation_initial = 6\ncancellation_final = 7\npending_retention = 8\n";
 
-// The eight keys, and this end.
+// Reads a file of the eight keys and this end.
 fn read_with(alloc: Global, end: &str) -> Result<Windows, WindowFault> {
     match format!(in alloc; "{EIGHT}{end}") {
         Ok(text) => Windows::from_toml(alloc, text.as_str()),
@@ -63,7 +63,7 @@ fn reading(alloc: Global, end: &str) -> &'static str {
     }
 }
 
-// The first of the ends that is read otherwise.
+// Returns the first end that is read otherwise.
 fn misread(alloc: Global) -> Option<&'static str> {
     for (end, wanted) in &ENDS {
         if reading(alloc, end) != *wanted {

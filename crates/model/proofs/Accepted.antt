@@ -1,4 +1,4 @@
--- What an accepted input meets: none of its tests holds.
+-- An accepted input meets none of its tests.
 use Rattle.std.proofs.Common.{◌≡◌, ℕ, Bool, true, false, List, [], ◌∷◌, Some, None, refl}
 use Rattle.std.specs.Prelude.{⊤, ◌==◌, if◌then◌else◌}
 use Rattle.model.specs.Commands.{Command}
@@ -28,7 +28,7 @@ none_at (t ∷ ts) none number = by_cases (none_at ts none.1 number) (t.0 == num
     by_cases later true = none.0
     by_cases later false = later
 
--- a command is accepted: each of its tests fails
+-- Holds if a command is accepted: each of its tests fails.
 abbrev pub AcceptedCommand : (st : State) (caller : ℕ) (c : Command) → Type 0
 AcceptedCommand st caller c = (number : ℕ) → holds_at number (own_tests st caller c) ≡ false
 

@@ -1,4 +1,4 @@
--- An accepted request on a version is answered by that version.
+-- An accepted request on a version is answered with that version.
 use Rattle.std.proofs.Common.{◌≡◌, ℕ, Bool, true, false, cond, not, ◌||◌, List, [], ◌∷◌, Option, Some, None, refl, ap, sym, ◌∙◌, subst, arith}
 use Rattle.std.specs.Prelude.{◌==◌, find, is_none, option_map, option_and_then, if◌then◌else◌}
 use Rattle.std.specs.List.{list_any}
@@ -25,7 +25,7 @@ use Rattle.model.proofs.Shown.{id_found}
 
 -- ---- found by an id
 
--- where a version has the id, one is found
+-- If a version has the id, one is found.
 found_with : (id : ℕ) (vs : List Version) → has_id id vs ≡ true → (v : Version)
     × (find (λ u. u.id == id) vs ≡ Some v)
 found_with id [] has = cc
@@ -38,7 +38,7 @@ found_with id (u ∷ us) has = by_cases (λ later. found_with id us later) (u.id
     by_cases later true e = (u, refl)
     by_cases later false e = later e
 
--- what is found by any test has its id among those of the list
+-- The id of a version that a test finds is one of the list's.
 found_has_id : (test : Version → Bool) (vs : List Version) (v : Version) → find test vs ≡ Some v
     → has_id v.id vs ≡ true
 found_has_id test [] v found = cc
@@ -50,7 +50,7 @@ found_has_id test (u ∷ us) v found = by_cases (λ e. found_has_id test us v e)
         ∙ ap (λ b. b || has_id v.id us) (same_number v.id)
     by_cases later false e = ap (λ b. (u.id == v.id) || b) (later e) ∙ or_true (u.id == v.id)
 
--- the version of an id stands in its subject's record
+-- The version of an id is in its subject's record.
 stands_in : (st : State) (id : ℕ) (e : SubjectVersion) → version_of_id st id ≡ Some e
     → has_id id (record_now st e.subject).versions ≡ true
 stands_in st id e found = by_cases (subject_of_id id 1 (made_now st)) found
@@ -118,7 +118,7 @@ module _ (st : State) (is : IsReachable st) (caller : ℕ) (request : Request)
         request = request;
       }) (record_now st s))
 
-  -- a version that was there is there
+  -- A version that existed before the request still exists.
   stays : (s : Subject) (id : ℕ) → has_id id (record_now st s).versions ≡ true
       → has_id id (record_now (accepted st (RequestFrom caller request)) s).versions ≡ true
   unfolding effect
@@ -136,7 +136,7 @@ module _ (st : State) (is : IsReachable st) (caller : ℕ) (request : Request)
       (record_now st s).versions)
       ∙ has)
 
-  -- and so is one that was made
+  -- A version that the request made exists.
   is_made : (s : Subject) (id : ℕ)
       → id_among s (next_of st) (subjects_made_by request (record_now st)) ≡ Some id
       → has_id id (record_now (accepted st (RequestFrom caller request)) s).versions ≡ true
@@ -185,7 +185,7 @@ module _ (st : State) (is : IsReachable st) (caller : ℕ) (request : Request)
             stands;
       }
 
-  -- a version that is named
+  -- The request names an existing version.
   of_version : (id : ℕ) → is_none (version_of_id st id) ≡ false →
       answer_of st (accepted st (RequestFrom caller request)) (RequestFrom caller request)
       ≡ shown (accepted st (RequestFrom caller request)) id → IsShownWith st caller request id
@@ -209,7 +209,7 @@ module _ (st : State) (is : IsReachable st) (caller : ℕ) (request : Request)
       by_cases None e = cc
       by_cases (Some x) e = refl
 
-  -- a create
+  -- The request is a create.
   of_create : (tn : ℕ) (lacks : Version → Bool)
       → (list_any lacks (record_now st (Number tn)).versions ≡ false
       → subjects_made_by request (record_now st) ≡ Number tn ∷ []) →
@@ -257,7 +257,7 @@ makes_one : (b : Bool) (s : Subject) → b ≡ false → (if b then [] else s �
 makes_one true s e = cc
 makes_one false s e = refl
 
--- an accepted release names a block of which a version was made
+-- The request is a release of a block that has a version.
 module _ (st : State) (is : IsReachable st) (caller block : ℕ)
     (ok : refusal st (RequestFrom caller (CommandRequest (Release block))) ≡ None) where
   of_block : (id : ℕ) → id_shown st (CommandRequest (Release block)) ≡ Some id
@@ -325,7 +325,7 @@ with_id st is caller (CommandRequest (Release block)) lines ok id e =
     of_block st is caller block ok id e
 with_id st is caller _ lines ok id e = cc
 
--- ---- and an accepted one has such an id
+-- ---- an accepted request has such an id
 
 released_id : (o : Option Version) → is_none o ≡ false
     → (id : ℕ) × (option_map (λ (v : Version). v.id) o ≡ Some id)

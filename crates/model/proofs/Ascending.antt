@@ -1,4 +1,4 @@
--- Lists that rise by a number of each member, which no other member has.
+-- Lists that ascend by a number of each member, which no other member has.
 use Rattle.std.proofs.Common.{◌≡◌, ℕ, ◌<◌, inl, inr, List, [], ◌∷◌, map, refl, ap, sym, ◌∙◌, subst, arith}
 use Rattle.std.specs.Prelude.{⊤, ◌⊎◌}
 use Rattle.std.specs.declared.cmp.Ordering.TheVariants.{Less}
@@ -26,7 +26,7 @@ module _ {A : Type 0} (key : A → ℕ) where
   all_above k [] each = tt
   all_above k (r ∷ rs) each = (each r (inl refl), all_above k rs (λ q is. each q (inr is)))
 
-  -- two rising lists of the same members are the same
+  -- Two ascending lists with the same members are equal.
   pub same_rising : (xs ys : List A) → Rise xs → Rise ys → ((r : A) → Among r xs → Among r ys)
       → ((r : A) → Among r ys → Among r xs) → xs ≡ ys
   same_rising [] [] rise sises there back = refl
@@ -64,7 +64,7 @@ module _ {A : Type 0} (key : A → ℕ) where
   less-of : (a b : ℕ) → nat_cmp a b ≡ Less → a < b
   less-of a b e = grind (arith, nat_tests)
 
-  -- sorted by the number is rising by it
+  -- A list sorted by the number ascends by it.
   pub sorted-rise : (xs : List A) → IsStrictlySortedBy (on key nat_cmp) xs → Rise xs
   unfolding IsStrictlySortedBy
   sorted-rise [] sorted = tt
@@ -75,7 +75,7 @@ module _ {A : Type 0} (key : A → ℕ) where
       above [] all = tt
       above (y ∷ ys) all = (less-of (key x) (key y) all.0, above ys all.1)
 
--- what rises by the number of what each member is seen as does so once it is seen
+-- A list ascends by a number of what its members are mapped to once they are mapped.
 pub mapped-rise : {A B : Type 0} (key : B → ℕ) (f : A → B) (xs : List A) → Rise (λ a. key (f a)) xs
     → Rise key (map f xs)
 mapped-rise key f [] rise = tt

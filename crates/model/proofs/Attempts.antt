@@ -43,7 +43,7 @@ none_past n (b ∷ bs) up =
 
 -- ---- what becomes of a version
 
--- an acknowledgement, and a carrier that joins, leave a broadcast's attempt
+-- An acknowledgement, and a carrier that registers, leave a broadcast's attempt.
 pub answered_same : (c attempt : ℕ) (b : Broadcast) → (acknowledged_broadcast c attempt b).attempt
     ≡ b.attempt
 answered_same c attempt b = by_cases (b.attempt == attempt)
@@ -61,7 +61,7 @@ joined_same c b = by_cases (is_open_broadcast b)
     by_cases true = refl
     by_cases false = refl
 
--- every move keeps it
+-- Every move keeps it.
 pub counted_kept : (w : WindowSet) → MovesKeep w (λ m cs v. IsCounted v)
 counted_kept w = sends_kept (record {
   later = λ m n cs attempt bs up is. is;

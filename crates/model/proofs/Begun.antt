@@ -12,7 +12,7 @@ use Rattle.model.proofs.Moves.{MovesKeep}
 use Rattle.model.specs.Windows.{WindowSet}
 use Rattle.model.proofs.Sends.{end_closes}
 
--- over the fields of a version that the moves touch
+-- The property, over the fields of a version that the moves touch.
 abbrev pub HasBegunAs : Status → List Broadcast → Type 0
 HasBegunAs (Sending action) bs = (b : Broadcast) × (rest : List Broadcast) × (bs ≡ b ∷ rest)
     × (b.outcome ≡ Open)
@@ -21,7 +21,7 @@ HasBegunAs _ bs = ⊤
 abbrev pub HasBegun : Version → Type 0
 HasBegun v = HasBegunAs v.status v.broadcasts
 
--- a change of each broadcast that leaves its outcome
+-- A change of each broadcast that leaves its outcome keeps it.
 each_begun : (f : Broadcast → Broadcast) → ((b : Broadcast) → (f b).outcome ≡ b.outcome)
     → (status : Status) (bs : List Broadcast) → HasBegunAs status bs → HasBegunAs status (map f bs)
 each_begun f same (Sending action) bs has =
@@ -55,7 +55,7 @@ sent_begun : (w : WindowSet) (action : Send) (cs : List ℕ) (m : ℕ) (v : Vers
     → HasBegun (next_attempt w action cs m v)
 sent_begun w action cs m v = (_, v.broadcasts, refl, refl)
 
--- what has closed sends no more
+-- A version whose broadcast closed does not send.
 closed_begun : (action : Send) (outcome : Outcome) (bs : List Broadcast) → (outcome ≡ Open → ⊥)
     → HasBegunAs (status_after action outcome) bs
 closed_begun action Open bs closed = absurd (closed refl)
@@ -63,7 +63,7 @@ closed_begun Create _ bs closed = tt
 closed_begun Delete _ bs closed = tt
 closed_begun (Modify routing) _ bs closed = tt
 
--- every move keeps it
+-- Every move keeps it.
 pub begun_kept : (w : WindowSet) → MovesKeep w (λ m cs v. HasBegun v)
 begun_kept w = record {
   later = λ m n cs v up is. is;

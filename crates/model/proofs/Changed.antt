@@ -1,4 +1,4 @@
--- What a command makes of the version that it names: it sends it, enters a status or leaves it.
+-- What a command makes of the version that it names: it sends, enters a status, or stays.
 use Rattle.std.proofs.Common.{◌≡◌, ℕ, Bool, true, false, List, Option, Some, None, refl, sym}
 use Rattle.std.specs.Prelude.{if◌then◌else◌, nat_lt}
 use Rattle.model.specs.Commands.{VersionCommand, Activate, PutInConflict, RemoveFromConflict, Cancel, OldProviderCancellationAcknowledge, NewProviderCancellationAcknowledge, Disconnect, ModifyRouting}
@@ -10,7 +10,7 @@ use Rattle.model.specs.Changes.{with_status, next_attempt}
 use Rattle.model.specs.History.{version_after_command, cancelled_by, side_of, has_both_creates, disconnected}
 use Rattle.model.specs.Windows.{WindowSet}
 
--- the statuses that a command enters at once, and that plan nothing
+-- Whether a command enters this status at once, without planning anything.
 abbrev pub is_rest : Status → Bool
 is_rest Pending = true
 is_rest Conflict = true
@@ -19,15 +19,15 @@ is_rest Active = true
 is_rest Canceled = true
 is_rest _ = false
 
--- whether a command sends, or plans to
+-- Whether a command sends, or plans to send.
 abbrev pub needs_attempt : VersionCommand → Bool
 needs_attempt Activate = true
 needs_attempt (Disconnect release) = true
 needs_attempt (ModifyRouting lrn cic) = true
 needs_attempt _ = false
 
--- what holds of the version as it is, in each status that is entered, and sent and planned by a
--- command that does so, holds of what the command makes
+-- A property of the version after a command, from four cases: the version stays, enters a status,
+-- plans a disconnect, or sends. The last two are only for commands that send or plan to.
 module _ (w : WindowSet) (P : Version → Type 0) (caller minute : ℕ) (all_carriers : List ℕ)
     (v : Version) (c : VersionCommand)
     (stays : P v) (rests : (status : Status) (spent : Bool) → is_rest status ≡ true

@@ -29,8 +29,9 @@ use Rattle.model.specs.State.{Download, is_before}
 
 -- ---- how broadcasts are looked at
 
--- those that were sent to a carrier, and marked what it acknowledged; or all, and marked none of
--- them, or what was not sent to a carrier, or what is closed
+-- A way to look at broadcasts: it selects some, and marks some of those. `Carrier` selects those
+-- sent to a carrier and marks what it acknowledged. The others select all: `Nobody` marks none,
+-- `Unsent` what was not sent to a carrier, `Closed` what is closed.
 pub data Look : Type 0 where
   Carrier : (c : ℕ) → Look
   Nobody : Look
@@ -47,13 +48,14 @@ is_marked Nobody b = false
 is_marked (Unsent c) b = not (is_among c b.recipients)
 is_marked Closed b = not (is_open_broadcast b)
 
--- it is wanted, and not withdrawn
+-- Whether the look selects the broadcast: it wants its recipients, and the broadcast is not
+-- withdrawn.
 abbrev pub stands_for : Look → Broadcast → Bool
 stands_for o b = wants o b.recipients && not (is_withdrawn b)
 
--- ---- the broadcasts that stand
+-- ---- the selected broadcasts
 
--- what of a broadcast matters: its download, and whether it is marked
+-- What matters of a selected broadcast: its download, and whether it is marked.
 pub record Placed : Type 0 where
   pub id : ℕ
   pub attempt : ℕ
@@ -72,14 +74,14 @@ place o id b = record {
   marked = is_marked o b;
 }
 
--- those of one version, newest first
+-- The selected broadcasts of one version, newest first.
 abbrev pub own_of : Look → ℕ → List Broadcast → List Placed
 own_of o id bs = map (place o id) (filter (stands_for o) bs)
 
 abbrev pub own : Look → Version → List Placed
 own o v = own_of o v.id v.broadcasts
 
--- the newest version's first
+-- The selected broadcasts of all versions, those of the newest version first.
 abbrev pub placed : Look → List Version → List Placed
 placed o vs = flat_map (own o) vs
 
@@ -93,9 +95,9 @@ download_of s p = record {
   routing = p.routing;
 }
 
--- ---- what is said of them
+-- ---- properties of these lists
 
--- the order of the list is that of the downloads, the last of them first
+-- Holds if the list is in the order of the downloads, the latest first.
 abbrev pub AreInOrder : Subject → List Placed → Type 0
 AreInOrder s [] = ⊤
 AreInOrder s (p ∷ ps) =
@@ -108,24 +110,24 @@ AllMarked ps = AllByRecursion (λ (p : Placed). p.marked ≡ true) ps
 abbrev pub NoneMarked : List Placed → Type 0
 NoneMarked ps = AllByRecursion (λ (p : Placed). p.marked ≡ false) ps
 
--- every one before one that is marked is marked
+-- Holds if every one older than a marked one is marked.
 abbrev pub AreMarkedInOrder : List Placed → Type 0
 AreMarkedInOrder [] = ⊤
 AreMarkedInOrder (p ∷ ps) = (p.marked ≡ true → AllMarked ps) × AreMarkedInOrder ps
 
--- the routing of the last that is marked, else the starting row
+-- The routing of the latest marked one, or else the starting row.
 abbrev pub held : Option Routing → List Placed → Option Routing
 held row [] = row
 held row (p ∷ ps) = if p.marked then p.routing else held row ps
 
--- ---- of each that stands
+-- ---- properties of each selected broadcast
 
 pub all_append : {A : Type 0} (P : A → Type 0) (xs ys : List A) → AllByRecursion P xs
     → AllByRecursion P ys → AllByRecursion P (xs ++ ys)
 all_append P [] ys all more = more
 all_append P (x ∷ xs) ys all more = (all.0, all_append P xs ys all.1 more)
 
--- what holds of each broadcast that stands holds along the list
+-- A property of each selected broadcast of a version holds along its list.
 pub each_own : (o : Look) (P : Placed → Type 0) (id : ℕ) (bs : List Broadcast)
     → AllByRecursion (λ b. stands_for o b ≡ true → P (place o id b)) bs
     → AllByRecursion P (own_of o id bs)

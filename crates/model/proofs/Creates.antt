@@ -1,4 +1,4 @@
--- A second create answers to the open version: so the open version alone is to be looked at.
+-- A second create is for the open version, so only the open version needs to be read.
 use Rattle.std.proofs.Common.{◌≡◌, ℕ, Bool, true, false, cond, ◌&&◌, ◌||◌, List, [], ◌∷◌, Option, Some, None, refl, ap, sym, ◌∙◌}
 use Rattle.std.specs.Prelude.{find, if◌then◌else◌, ◌==◌, is_none, is_some}
 use Rattle.std.specs.List.{list_any}
@@ -10,12 +10,12 @@ use Rattle.model.specs.History.{awaits_creates, lacks_old_create, lacks_new_crea
 use Rattle.model.specs.Conditions.{holds_of}
 use Rattle.numbers.proofs.Small.{true-false, and_first}
 
--- the value, if it passes the test
+-- The value, if it passes the test.
 abbrev pub if_holds : {A : Type 0} → (A → Bool) → Option A → Option A
 if_holds test None = None
 if_holds test (Some x) = if test x then Some x else None
 
--- ---- what a create may answer to is open
+-- ---- a version that may get a second create is open
 
 awaits-open : (status : Status) → awaits_creates status ≡ true → open_status status ≡ true
 awaits-open Pending awaits = refl
@@ -38,7 +38,7 @@ lacks_new-open n old_provider new_provider v lacks =
     (and_first (awaits_creates v.status && ((v.old_provider == old_provider)
     && (v.new_provider == new_provider))) (is_none v.new_at) lacks))
 
--- ---- and only one is open
+-- ---- only one version is open
 
 any_found : (test : Version → Bool) (vs : List Version) → list_any test vs ≡ is_some (find test vs)
 any_found test [] = refl
@@ -68,7 +68,7 @@ module _ (s : Subject) (test : Version → Bool) (opens : (v : Version) → test
   none_opened (v ∷ vs) none = ap (λ b. cond b (Some v) (find (is_open s) vs)) none.0
       ∙ none_opened vs none.1
 
-  -- what is found by the test is the open version, if it passes it
+  -- The version that the test finds is the open one, if that passes it.
   pub found_is_open : (vs : List Version) → AreSound s vs
       → find test vs ≡ if_holds test (find (is_open s) vs)
   found_is_open [] sound = refl
@@ -82,7 +82,7 @@ module _ (s : Subject) (test : Version → Bool) (opens : (v : Version) → test
       by_cases false e false f =
           none_found vs sound.0 ∙ ap (if_holds test) (sym (none_opened vs sound.0))
 
-  -- and some version passes it where the open one does
+  -- Some version passes the test if the open one does.
   pub any_is_open : (vs : List Version) → AreSound s vs
       → list_any test vs ≡ holds_of test (find (is_open s) vs)
   any_is_open vs sound = any_found test vs ∙ ap is_some (found_is_open vs sound)

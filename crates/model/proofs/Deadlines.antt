@@ -1,4 +1,4 @@
--- The deadline of a version is the least minute at which its status is over.
+-- The deadline of a version is the earliest minute when its timer has expired.
 use Rattle.std.proofs.Common.{◌≡◌, ℕ, zero, suc, ◌+◌, ◌<◌, Bool, true, false, Option, Some, None, refl, ap, sym, ◌∙◌, arith, ◌⊎◌, inl, inr}
 use Rattle.std.specs.Prelude.{nat_lt, nat_le, if◌then◌else◌}
 use Rattle.std.proofs.lemmas.Bool.Decides.{nat_tests}
@@ -8,7 +8,7 @@ use Rattle.model.specs.Judge.{retained_from}
 use Rattle.model.specs.Conditions.{limit}
 use Rattle.model.specs.Content.{least_below, deadline_of}
 
--- d is the least number below n that passes, or none passes
+-- Holds if d is the least number below n that passes the test, or none passes.
 abbrev pub IsLeastBelow : (ℕ → Bool) → ℕ → Option ℕ → Type 0
 IsLeastBelow test n None = (j : ℕ) → j < n → test j ≡ false
 IsLeastBelow test n (Some d) = (d < n) × (test d ≡ true) × ((j : ℕ) → j < d → test j ≡ false)
@@ -54,14 +54,14 @@ same_least test n (Some d) (Some f) is js = by_cases (compared d f)
     by_cases (inr (inr lt)) = let no : test f ≡ false = is.2 f lt in
         absurd (let e : true ≡ false = sym js.1 ∙ no in cc)
 
--- what is least is what least_below gives
+-- The least number is what `least_below` returns.
 pub least_below_only : (test : ℕ → Bool) (n : ℕ) (o : Option ℕ) → IsLeastBelow test n o
     → least_below test n ≡ o
 least_below_only test n o is = same_least test n (least_below test n) o (least_below_is test n) is
 
 -- ---- windows
 
--- a window that began at `since` ends at since + window, if that is below the limit
+-- A window that began at `since` ends at since + window, if that is below the limit.
 pub least-has_age : (window since n : ℕ) → least_below (λ j. has_age window since j) n
     ≡ (if nat_lt (since + window) n then Some (since + window) else None)
 least-has_age window since n = by_cases (nat_lt (since + window) n) refl
@@ -76,7 +76,7 @@ least-has_age window since n = by_cases (nat_lt (since + window) n) refl
 
 pub ruleset ages = least-has_age
 
--- where nothing ever passes, nothing is least
+-- If no number passes the test, there is no least one.
 pub least-never : (n : ℕ) → least_below (λ j. false) n ≡ None
 least-never n = least_below_only (λ j. false) n None (λ j before. refl)
 
@@ -96,12 +96,12 @@ least-from start n = by_cases (nat_lt start n) refl
 
 -- ---- the deadline of each status, without a search
 
--- the number, if it is a minute
+-- The number, if it is a minute.
 abbrev pub if_minute : ℕ → Option ℕ
 if_minute m = if nat_lt m limit then Some m else None
 
--- of a pending version: its retention, once the new provider has created it, else the old
--- provider's windows
+-- The deadline of a pending version: its retention once the new provider has made its create, and
+-- the concurrence windows of the old provider's before.
 abbrev pub pending_until : Windows → (due : ℕ) → (old_at new_at : Option ℕ) → (since : ℕ) → Option ℕ
 pending_until w due old_at (Some m) since =
     if_minute (retained_from due since (Some m) + w.pending_retention)

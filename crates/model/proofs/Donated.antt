@@ -39,8 +39,7 @@ of_block block line small =
     let same : (block * 1000 + line) / 1000 ≡ block = omega arith in
     grind (arith, nat_tests)
 
--- what is given an id among the filtered numbers of a block passes the filter, and is a number of
--- the block
+-- Holds if the subject passes the test and is a number of the block.
 record IsMade (block : ℕ) (test : Subject → Bool) (s : Subject) : Type 0 where
   passes : test s ≡ true
   inside : is_in_block block s ≡ true
@@ -81,7 +80,7 @@ made_number block test s first id (line ∷ lines) ok made =
     by_cases later true e f = is_it later e (subject_eq s (Number (number_in block line))) refl f
     by_cases later false e f = later first f
 
--- a number that gets a version by a donation has none in force, and is one of its block
+-- A number that gets a version by a donation has none in force.
 pub donate-unforced : (st : State) (s : Subject) (first id block : ℕ) (used : List ℕ) (lrn : ℕ)
     (cic : Option ℕ) → AreLines used →
     id_among s first (subjects_made_by (CommandRequest (Donate block used lrn cic)) (record_now st))
@@ -101,7 +100,7 @@ donate-inside st s first id block used lrn cic lines made =
     (made_number block (λ t. is_none (version_in_force (record_now st t))) s first id (rising used)
     (rising-lines used lines) made).inside
 
--- ---- the version of an id stands among all versions
+-- ---- the version of an id is among all versions
 
 none_behind : (test : SubjectVersion → Bool) (o : Option SubjectVersion) (es : List SubjectVersion)
     → list_any test (cons_option o es) ≡ false → list_any test es ≡ false
@@ -144,7 +143,8 @@ none_made test at from id (t ∷ ts) s v given found none =
         ∙ first_fails (test (record { subject = t; version = v })) none_here
     by_cases later false e f = later f
 
--- a number of a block that has no open port has no open version, or one in force
+-- In a block without an open port, a number's version is not open unless the number has one in
+-- force.
 pub open_port-none : (st : State) (block : ℕ) → has_open_port st block ≡ false
     → (s : Subject) (id : ℕ) (v : Version) → subject_of_id id 1 (made_now st)
     ≡ Some s →

@@ -1,4 +1,4 @@
--- A donation that is accepted makes at most a hundred versions.
+-- An accepted donation makes at most a hundred versions.
 use Rattle.std.proofs.Common.{◌≡◌, ℕ, zero, suc, ◌≤◌, Bool, true, false, List, [], ◌∷◌, ◌++◌, cond, length, Option, Some, None, refl, ap, arith}
 use Rattle.std.proofs.lemmas.Bool.Decides.{nat_tests}
 use Rattle.std.proofs.lemmas.List.{length-append}
@@ -27,7 +27,7 @@ so_many id (suc many) = ap suc (so_many (suc id) many)
 front_few : {A : Type 0} (xs ys : List A) (n : ℕ) → length (xs ++ ys) ≤ n → length xs ≤ n
 front_few xs ys n few = let both = length-append xs ys in omega (arith, both, few)
 
--- the used numbers are among those that are in use, of which there are at most a hundred
+-- At most a hundred numbers are in use, and the used numbers are among them.
 used_few : (st : State) (caller block : ℕ) (used : List ℕ) (lrn : ℕ) (cic : Option ℕ)
     → refusal st (RequestFrom caller (CommandRequest (Donate block used lrn cic))) ≡ None
     → length (used_numbers block used) ≤ 100
@@ -49,7 +49,7 @@ made_few st caller block used lrn cic none =
     (used_numbers block used) in
     omega (arith, many, less, used_few st caller block used lrn cic none)
 
--- the answer to a donation has at most a hundred ids
+-- The answer to a donation has at most a hundred ids.
 pub donated_few : (st : State) (caller block : ℕ) (used : List ℕ) (lrn : ℕ) (cic : Option ℕ) (b : ℕ)
     (ids : List ℕ)
     → Donated b ids ≡ out st (RequestFrom caller (CommandRequest (Donate block used lrn cic)))

@@ -1,4 +1,4 @@
--- Where no row's deadline has come, nothing is due.
+-- If the deadline of every row is later than now, nothing is due.
 use Rattle.std.proofs.Common.{◌≡◌, ℕ, zero, suc, ◌+◌, ◌-◌, ◌<◌, Bool, true, false, not, ◌&&◌, List, [], ◌∷◌, map, Option, Some, None, refl, ap, sym, ◌∙◌, subst}
 use Rattle.std.specs.Prelude.{◌==◌, find, option_map, if◌then◌else◌}
 use Rattle.std.specs.FinMap.{get}
@@ -23,7 +23,7 @@ use Rattle.model.proofs.Represented.{settled_shows}
 use Rattle.model.proofs.Sound.{judged_version-id}
 use Rattle.model.proofs.Entered.{given_now}
 
--- ---- each id once
+-- ---- ids without duplicates
 
 mapped_apart : (f : Version → Version) → ((v : Version) → (f v).id ≡ v.id) → (vs : List Version)
     → AreApart (map f vs) → AreApart vs
@@ -81,7 +81,8 @@ not_over now v early later =
     by_cases (Some d) e is = (subst (IsLeastBelow (λ j. is_expired j v v.status) limit) e is).2 now
         (later d e)
 
--- versions with ids of their own, each of which, found by its id, is not over
+-- Versions with ids of their own are quiet if each, found by its id, has a timer that has not
+-- expired.
 pub quiet_each : (now : ℕ) (vs : List Version)
     → ((v : Version) → find (λ u. u.id == v.id) vs ≡ Some v → is_expired now v v.status ≡ false)
     → AreApart vs → IsQuiet now vs
@@ -97,7 +98,7 @@ pub the_row : (row x : VersionRow) → (b : Bool) → (if b then Some row else N
 the_row row x true e = e
 the_row row x false e = cc
 
--- each version of what the rows show has its row
+-- Each version of a record that the rows match has its row.
 pub shown_row : (c : Content) (s : Subject) (r : Record) → RowsMatch c s r → (id : ℕ) (v : Version)
     → version_with id r ≡ Some v → get c.versions id ≡ Some (row_of s v)
 shown_row c s r shows id v found =
@@ -112,14 +113,14 @@ shown_row c s r shows id v found =
         the_row row (row_of s v) (subject_eq row.subject s)
         (sym (ap (of_subject s (λ (x : VersionRow). x.subject)) e) ∙ seen)
 
--- the versions of a kept record have ids of their own
+-- The versions of the record that rows match have ids of their own.
 pub kept_apart : (st : State) (c : Content) → (rep : Represents c st) → (s : Subject)
     → AreApart (rep.subjects s).kept.versions
 kept_apart st c rep s = caught_up_apart (set_now st) st.now (rep.subjects s).kept
     (subst (λ (r : Record). AreApart r.versions) (sym (rep.subjects s).catches_up)
     (given_apart _ s (record_now st s).versions (given_now st rep.history s)))
 
--- where nothing of a kept record is over, the record as it is now is it
+-- If that record is quiet, the record as it is now is quiet too.
 pub kept_quiet : (st : State) (c : Content) → (rep : Represents c st) → (s : Subject)
     → IsQuiet st.now (rep.subjects s).kept.versions → IsQuiet st.now (record_now st s).versions
 kept_quiet st c rep s quiet =
@@ -127,7 +128,8 @@ kept_quiet st c rep s quiet =
     (sym (caught_up-quiet (set_now st) st.now (rep.subjects s).kept quiet)
     ∙ (rep.subjects s).catches_up) quiet
 
--- where no row's deadline has come the rows of each subject show its record as it is now
+-- If the deadline of every row is later than now, the rows match each subject's record as it is
+-- now.
 pub nothing_is_due : (st : State) (c : Content) → Represents c st → NoRowIsDue c st.now
     → NothingIsDue c st
 nothing_is_due st c rep none = record {

@@ -21,7 +21,7 @@ of_id-elsewhere id change (v ∷ vs) none =
     neither (v.id == id) (has_id id vs) none in
     (ap (λ b. if b then change v else v) parts.0, of_id-elsewhere id change vs parts.1)
 
--- a change that is guarded by a test on the subject, which fails
+-- A change whose test on the subject fails leaves each version.
 leaves_each-guarded : (b : Bool) (test : Version → Bool) (change : Version
     → Version) (vs : List Version) → b ≡ false →
     LeavesEach (λ v. if b && test v then change v else v) vs
@@ -56,7 +56,7 @@ no_carrier : (request : Request) (s : Subject) (vs : List Version) → concerns 
 no_carrier (CommandRequest (RegisterCarrier spid)) s vs none = cc
 no_carrier _ s vs none = refl
 
--- an entry that neither concerns s nor makes a version of it leaves its record
+-- An entry that neither concerns s nor makes a version of it leaves its record.
 pub effect-elsewhere : (w : WindowSet) (s : Subject) (donor : Option ℕ) (e : Entry) (r : Record)
     → concerns e.request s r.versions ≡ false → effect w s None donor e r ≡ r
 unfolding effect
@@ -72,7 +72,7 @@ effect-elsewhere w s donor e r none =
     r.versions
     (version_after_request-elsewhere w s e.caller e.minute r.carriers e.request r.versions none))
 
--- and its replay goes on as if the entry weren't there
+-- The replay of s continues as without such an entry.
 pub replay_step-elsewhere : (w : WindowSet) (e : Entry) (donor : Option ℕ) (before : Replay)
     (s : Subject) (m : ℕ) →
     concerns e.request s (before.at s e.minute).versions ≡ false →

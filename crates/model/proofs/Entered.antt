@@ -30,8 +30,8 @@ pub judged-now : (w : WindowSet) (m : ℕ) (r : Record) → judged w m m r ≡ r
 unfolding judged_for
 judged-now w m r = ap (λ n. judged_for w m n r) (let e : m - m ≡ 0 = omega arith in e)
 
--- an entry that registers no carrier: what it makes stands in front of what it does to those that
--- were there
+-- An entry that registers no carrier puts the version that it makes before the versions that it
+-- changes.
 pub entered-record : (st : State) (caller : ℕ) (request : Request) (s : Subject)
     (news : List Subject) → subjects_made_by request (record_now st) ≡ news
     → carrier_named request ≡ None
@@ -67,7 +67,7 @@ length-more [] ys = omega arith
 length-more (x ∷ xs) ys = let later : length (xs ++ ys) ≡ length xs + length ys =
     length-more xs ys in omega arith
 
--- and it gives as many ids as it makes versions
+-- It gives as many ids as it makes versions.
 pub entered-ids : (st : State) (caller : ℕ) (request : Request) (news : List Subject)
     → subjects_made_by request (record_now st) ≡ news
     → next_of (accepted st (RequestFrom caller request)) ≡ next_of st + length news
@@ -77,7 +77,7 @@ entered-ids st caller request news new =
     ∙ (let all : length (made_now st ++ news) ≡ length (made_now st) + length news =
     length-more (made_now st) news in omega arith)
 
--- an entry that makes no version leaves the records that it does not concern
+-- An entry that makes no version leaves the records that it does not concern.
 pub entered-elsewhere : (st : State) (caller : ℕ) (request : Request) (s : Subject)
     → subjects_made_by request (record_now st) ≡ [] →
     concerns request s (record_now st s).versions ≡ false
@@ -93,7 +93,7 @@ entered-elsewhere st caller request s unmade none =
     (ap (id_among s (next_of st)) unmade)
     ∙ judged-now (set_now (accepted st (RequestFrom caller request))) st.now (record_now st s)
 
--- and gives no id
+-- An entry that makes no version gives no id.
 pub next_id-same : (st : State) (caller : ℕ) (request : Request)
     → subjects_made_by request (record_now st) ≡ [] →
     next_of (accepted st (RequestFrom caller request)) ≡ next_of st
@@ -123,7 +123,7 @@ record-carriers w (e ∷ h) s m =
 
 -- ---- ids
 
--- the next id is not past the limit
+-- The next id is not past the limit.
 not_past : (n : ℕ) → n ≤ limit → nat_lt limit (n + 0) ≡ false
 not_past n below = grind (arith, nat_tests)
 
@@ -143,7 +143,7 @@ create_fits st tn lacks room below =
         and_rest (is_none (second_of st tn lacks)) (ids_are_out st 1)
         (ap is_none (none_lacks lacks (record_now st (Number tn)).versions e)) room
 
--- the versions that an accepted command makes have ids within it
+-- The versions that an accepted command makes have ids within the limit.
 versions_fit : (st : State) (caller : ℕ) (c : Command) → AcceptedCommand st caller c →
     next_of st ≤ limit →
     nat_lt limit (next_of st + length (subjects_made_by (CommandRequest c) (record_now st)))
@@ -172,7 +172,7 @@ next_id-bound st caller (AcknowledgementRequest id attempt) none below =
     + 0 = length-more (made_now st) [] in
     omega arith
 
--- the next id never passes the limit
+-- The next id never passes the limit.
 pub next_id-below : (w : Windows) (h : List Entry) (now : ℕ) → IsHistory w h now
     → next_id w h ≤ limit
 unfolding replay_of replay_step
@@ -186,7 +186,7 @@ pub subject_eq-refl : (s : Subject) → subject_eq s s ≡ true
 subject_eq-refl (Number n) = grind (arith, nat_tests)
 subject_eq-refl (Block b) = grind (arith, nat_tests)
 
--- the versions of a subject are sound in every state
+-- The versions of a subject are sound in every reachable state.
 pub sound_now : (st : State) → HasHistory st → (s : Subject)
     → AreSound s (record_now st s).versions
 sound_now st is s = (replay-sound st.windows s st.history st.now is).0
@@ -202,7 +202,7 @@ pub found_is : (st : State) → HasHistory st
     version_of_id st id ≡ Some (record { subject = s; version = v })
 found_is st is s id v found = version_of_id_is st s id v (given_now st is s) found
 
--- no other subject has a version of that id
+-- No other subject has a version with that id.
 pub none_elsewhere : (st : State) → HasHistory st
     → (s t : Subject) (id : ℕ) (v : Version) → version_with id (record_now st s) ≡ Some v →
     subject_eq s t ≡ false → version_with id (record_now st t) ≡ None
@@ -282,7 +282,7 @@ module _ (id : ℕ) (f : Version → Version) (keeps : (v : Version) → (f v).i
           (not_other u.id id other e apart))
       by_cases later false e = ap (λ o. cond (u.id == other) (Some u) o) later
 
-  -- the same, where the change brings none of these versions into force
+  -- Holds if the change brings none of these versions into force.
   abbrev pub BringsNone : List Version → Type 0
   BringsNone [] = ⊤
   BringsNone (v ∷ vs) = ((not (in_force v) && in_force (of_id id f v)) ≡ false) × BringsNone vs
@@ -308,7 +308,7 @@ module _ (id : ℕ) (f : Version → Version) (keeps : (v : Version) → (f v).i
       by_cases true e = cc
       by_cases false e = no_takeover (in_force v)
 
-  -- it is enough to look at the version of the id, where ids were given once
+  -- Only the version with the id matters, if ids were given without duplicates.
   pub brings_none : (made : List Subject) (s : Subject) (vs : List Version) (v : Version)
       → AreGiven made s vs → find (λ u. u.id == id) vs ≡ Some v →
       (not (in_force v) && in_force (f v)) ≡ false → BringsNone vs

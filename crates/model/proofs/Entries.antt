@@ -25,7 +25,7 @@ use Rattle.model.proofs.Elsewhere.{of_id-elsewhere}
 use Rattle.model.proofs.Ids.{AreGiven, version_of_id_is, of_id-each, keeps_each, same_subject}
 use Rattle.model.specs.Windows.{WindowSet}
 
--- ---- from what status to what
+-- ---- from status to status
 
 activated : (s : Subject) (status : Status) → is_number s ≡ true → not (can_activate status) ≡ false
     → StatusRespects s status (Sending Create)
@@ -173,9 +173,9 @@ module _ (st : State) (s : Subject) (given : AreGiven (made_now st) s
       by_cases true e = refl
       by_cases false e = cc
 
-  -- ---- the commands on an id, but a disconnect
+  -- ---- commands on an id, except a disconnect
 
-  -- a command that goes by the status of the version that it names
+  -- A command that goes by the version's status keeps the record sound.
   command-sound : (caller id : ℕ) (all_carriers : List ℕ) (c : VersionCommand)
       → AcceptedCommand st caller (OnVersion id c) →
       ((v : Version) → version_with id (record_now st s) ≡ Some v → is_number s ≡ true
@@ -228,7 +228,7 @@ waiting_is_closed : (s : Subject) (release : ℕ) → open_by s (DisconnectPendi
 waiting_is_closed (Number n) release = refl
 waiting_is_closed (Block b) release = refl
 
--- ---- second creates, which need no acceptance either
+-- ---- second creates, which need no acceptance
 
 to_conflict : (s : Subject) (tn : ℕ) (status : Status) → subject_eq s (Number tn) ≡ true
     → awaits_creates status ≡ true → StatusRespects s status Conflict
@@ -284,7 +284,7 @@ new_create-respects w s caller minute all_carriers tn old_provider new_provider 
     by_cases v true = keeps s v.status
     by_cases v false = keeps s v.status
 
--- ---- a disconnect and a modify: beside an open version they are refused
+-- ---- a disconnect and a modify, which are refused beside an open version
 
 find_none : (id : ℕ) (vs : List Version) → find (λ u. u.id == id) vs ≡ None → has_id id vs ≡ false
 find_none id [] none = refl
@@ -342,7 +342,7 @@ modified_from w s routing all_carriers minute v active = record {
   block = λ is ok. refl;
 }
 
--- where no version is open, nothing stands beside an open one
+-- If no version is open, nothing is beside an open one.
 none_beside : (s : Subject) (change : Version → Version) (vs : List Version)
     → is_some (find (is_open s) vs) ≡ false → KeepsBeside s change vs
 none_beside s change [] none = tt
@@ -353,7 +353,7 @@ none_beside s change (v ∷ vs) none =
 
 module _ (st : State) (s : Subject) (given : AreGiven (made_now st) s
     (record_now st s).versions) where
-  -- a command on an active version that is refused beside an open one keeps the record sound
+  -- A command on an active version that is refused beside an open one keeps the record sound.
   active-sound : (id : ℕ) (change : Version → Version)
       → ((v : Version) → version_with id (record_now st s) ≡ Some v → Respects s v (change v)) →
       holds_of (λ (e : SubjectVersion). is_some (open_version e.subject (record_now st e.subject)))
@@ -380,7 +380,7 @@ module _ (st : State) (s : Subject) (given : AreGiven (made_now st) s
           found)) ∙ alone))
           sound
 
--- whether a command takes the version that it names from active
+-- Whether a command changes an active version.
 abbrev is_from_active : VersionCommand → Bool
 is_from_active (Disconnect release) = true
 is_from_active (ModifyRouting lrn cic) = true
@@ -388,8 +388,8 @@ is_from_active _ = false
 
 module _ (st : State) (s : Subject) (given : AreGiven (made_now st) s
     (record_now st s).versions) where
-  -- an accepted command takes the version that it names from status to status, but for one that
-  -- takes it from active
+  -- An accepted command that does not change an active version leads from its status to a permitted
+  -- one.
   version-status : (caller id : ℕ) (all_carriers : List ℕ) (c : VersionCommand)
       → AcceptedCommand st caller (OnVersion id c) → (v : Version)
       → version_with id (record_now st s) ≡ Some v → is_number s ≡ true →
@@ -419,7 +419,7 @@ module _ (st : State) (s : Subject) (given : AreGiven (made_now st) s
   version-status caller id all_carriers (Disconnect release) accepted v found number other = cc
   version-status caller id all_carriers (ModifyRouting lrn cic) accepted v found number other = cc
 
-  -- neither opens nor brings into force a version that was neither
+  -- An accepted command neither opens nor brings into force a version that was neither.
   version-respects : (caller id : ℕ) (all_carriers : List ℕ) (c : VersionCommand)
       → AcceptedCommand st caller (OnVersion id c) →
       (v : Version) → version_with id (record_now st s) ≡ Some v
@@ -438,7 +438,7 @@ module _ (st : State) (s : Subject) (given : AreGiven (made_now st) s
       (version-status caller id all_carriers c accepted v found (named_number st s given id v found
       (accepted 10)) refl)
 
-  -- and keeps the record sound
+  -- An accepted command keeps the record sound.
   pub version-sound : (caller id : ℕ) (all_carriers : List ℕ) (c : VersionCommand)
       → AcceptedCommand st caller (OnVersion id c) →
       AreSound s (record_now st s).versions
@@ -476,7 +476,7 @@ released_each w s block minute all_carriers vs =
     }
     by_cases v false e = by_status s v v (keeps s v.status)
 
--- the last version is active, so none is open
+-- If the last version is active, none is open.
 active_beside : (s : Subject) (change : Version → Version) (vs : List Version) →
     holds_of (λ (v : Version). not (is_active v.status)) (first_of_versions vs) ≡ false
     → KeepsBeside s change vs
@@ -494,7 +494,7 @@ other_subject w s block minute all_carriers vs other =
     then next_attempt w Delete all_carriers minute v else v).status) (sym other) (keeps s v.status))
     vs
 
--- an accepted release keeps each record sound
+-- An accepted release keeps each record sound.
 pub release-sound : (st : State) (s : Subject) (caller block : ℕ) (all_carriers : List ℕ)
     → AcceptedCommand st caller (Release block) →
     AreSound s (record_now st s).versions
@@ -528,8 +528,8 @@ release-sound st s caller block all_carriers accepted sound =
 
 -- ---- every accepted entry
 
--- no accepted entry opens a version that is closed, or brings one into force that is neither open
--- nor in force
+-- No accepted entry opens a closed version, or brings one into force that is neither open nor in
+-- force.
 pub entry-respects : (st : State) (s : Subject)
     → AreGiven (made_now st) s (record_now st s).versions
     → (caller : ℕ) (all_carriers : List ℕ) (request : Request) →

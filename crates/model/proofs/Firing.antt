@@ -1,4 +1,4 @@
--- Of a subject's versions at most one waits for a minute, so a minute ends one status and no other.
+-- Of a subject's versions at most one has a running timer, so a minute ends one status at most.
 use Rattle.std.proofs.Common.{◌≡◌, ℕ, Bool, true, false, cond, not, ◌&&◌, ◌||◌, List, [], ◌∷◌, map, Some, refl, ap, sym, ◌∙◌, subst}
 use Rattle.std.specs.Prelude.{⊤, ◌==◌, find, if◌then◌else◌}
 use Rattle.numbers.specs.Subjects.{Subject, Number, Block}
@@ -18,7 +18,7 @@ use Rattle.model.proofs.Sound.{replay-sound}
 use Rattle.model.proofs.Reached.{reached_as}
 use Rattle.model.proofs.Unique.{judge-sound}
 
--- ---- a record of the machine's is sound
+-- ---- a reachable record is sound
 
 pub reached-sound : (w : Windows) (present : WindowSet) (s : Subject) (r : Record)
     → IsReachableRecord w present s r → AreSound s r.versions
@@ -27,7 +27,7 @@ reached-sound w present s r reached =
     (λ j x sound. judge-sound s present j x sound)
     (replay-sound w s reached.entries reached.until reached.are_entries).0
 
--- ---- what waits for a minute is open, or in force and not active
+-- ---- a version with a timer is open, or in force and not active
 
 module _ (w : WindowSet) (j : ℕ) where
   pub over_status : (s : Subject) (status : Status) (v : Version)
@@ -42,12 +42,12 @@ module _ (w : WindowSet) (j : ℕ) where
   over_status (Block b) (Sending (Modify routing)) v block over closed = (refl, λ e. cc)
   over_status (Block b) _ v block over closed = let fits = block refl in cc
 
-  -- ---- versions none of which is open
+  -- ---- versions that are not open
 
   abbrev Over : Version → Bool
   Over v = is_expired j v v.status
 
-  -- none in force: nothing is over
+  -- If none of them is in force, no timer has expired.
   none_over : (s : Subject) (vs : List Version) → (is_block s ≡ true → HaveBlockStatus vs)
       → NoneOpen s vs → NoneInForce vs → IsQuiet j vs
   none_over s [] block closed out = tt
@@ -59,7 +59,7 @@ module _ (w : WindowSet) (j : ℕ) where
       by_cases true e =
           true-false (in_force v) (over_status s v.status v (λ is. (block is).0) e closed.0).0 out.0
 
-  -- only an active one in force: nothing is over
+  -- If only an active one is in force, no timer has expired.
   active_over : (s : Subject) (vs : List Version) → (is_block s ≡ true → HaveBlockStatus vs)
       → NoneOpen s vs → InForceIsActive vs → IsQuiet j vs
   active_over s [] block closed active = tt
@@ -74,7 +74,7 @@ module _ (w : WindowSet) (j : ℕ) where
           let waits = over_status s v.status v (λ is. (block is).0) e closed.0 in
           absurd (waits.1 (active.0 waits.0))
 
-  -- ---- no version but that of the id is over
+  -- ---- only the timer of the version with the id has expired
 
   abbrev pub OnlyOver : ℕ → List Version → Type 0
   OnlyOver id [] = ⊤
@@ -90,7 +90,8 @@ module _ (w : WindowSet) (j : ℕ) where
   same_found : (x y : Version) → Some x ≡ Some y → x ≡ y
   same_found x y e = cc
 
-  -- what is found among versions that are not open, and is over, is in force and not active
+  -- A version whose timer has expired, among versions that are not open, is in force and not
+  -- active.
   found_waits : (s : Subject) (id : ℕ) (vs : List Version) (x : Version)
       → (is_block s ≡ true → HaveBlockStatus vs) → NoneOpen s vs → Finds id vs x → Over x ≡ true →
       (in_force x ≡ true) × (x.status ≡ Active → ⊥)
@@ -132,7 +133,7 @@ module _ (w : WindowSet) (j : ℕ) where
           let same : v ≡ x = same_found v x f in
           subst (λ (u : Version). in_force u ≡ true → u.status ≡ Active) same active.0 now
 
-  -- among versions none of which is open
+  -- Among versions that are not open, only the timer of the one with the id has expired.
   closed_only : (s : Subject) (id : ℕ) (vs : List Version) (x : Version)
       → (is_block s ≡ true → HaveBlockStatus vs) → NoneOpen s vs → OneInForce vs → Finds id vs x
       → Over x ≡ true → OnlyOver id vs
@@ -170,7 +171,7 @@ module _ (w : WindowSet) (j : ℕ) where
       behind : is_block s ≡ true → HaveBlockStatus vs
       behind is = (sound.3 is).0.1
 
-      -- the newest is over: nothing behind it is
+      -- If the timer of the newest version has expired, no older one's has.
       quiet_behind : Over v ≡ true → (b : Bool) → is_open s v ≡ b → IsQuiet j vs
       quiet_behind o true e = active_over s vs behind sound.0 (sound.2 e)
       quiet_behind o false e =
@@ -202,9 +203,9 @@ module _ (w : WindowSet) (j : ℕ) where
         closed_only s id vs x behind sound.0 sound.1.1 f over,
       )
 
-  -- ---- a minute judged
+  -- ---- judging a minute
 
-  -- and it is over wherever its id is
+  -- Holds if the timer of each version with the id has expired.
   abbrev AllOver : ℕ → List Version → Type 0
   AllOver id [] = ⊤
   AllOver id (v ∷ vs) = ((v.id == id) ≡ true → Over v ≡ true) × AllOver id vs
@@ -233,7 +234,7 @@ module _ (w : WindowSet) (j : ℕ) where
       )
       by_cases false e f later = (λ is. true-false (v.id == id) is e, later f)
 
-  -- one that is over ends
+  -- The version after its timer expired.
   abbrev pub ended_at : List ℕ → Version → Version
   ended_at all_carriers v = version_on_expiry w all_carriers j v v.status
 
@@ -262,8 +263,8 @@ module _ (w : WindowSet) (j : ℕ) where
       (retired w (not (in_force v) && in_force (of_id id (ended_at all_carriers) v)) j) us)
       (same_change all_carriers id vs others.1 its.1)
 
-  -- the minute at which a version is over ends it, and changes no other but one that it takes the
-  -- place of
+  -- The minute when a version's timer expires ends that version's status. It changes no other
+  -- version except one that this one supersedes.
   pub judge-one : (s : Subject) (r : Record) (id : ℕ) (v : Version) → AreSound s r.versions
       → AreApart r.versions → version_with id r ≡ Some v → is_expired j v v.status ≡ true →
       judge w j r ≡ record r {

@@ -1,4 +1,4 @@
--- At most two of the minutes that come change the record of a subject.
+-- At most two of the coming minutes change the record of a subject.
 use Rattle.std.proofs.Common.{◌≡◌, ℕ, zero, suc, ◌+◌, ◌≤◌, Bool, true, false, not, ◌&&◌, ◌||◌, List, [], ◌∷◌, map, Option, Some, None, refl, ap, sym, ◌∙◌, arith, ◌⊎◌, inl, inr, is_some}
 use Rattle.std.specs.Prelude.{◌-◌, ⊤, ◌≢◌, nat_le, if◌then◌else◌}
 use Rattle.std.proofs.lemmas.Bool.Decides.{nat_tests}
@@ -23,7 +23,7 @@ use Rattle.model.proofs.Unique.{judge-sound}
 use Rattle.model.proofs.Sound.{replay-sound}
 use Rattle.model.proofs.Sets.{present-are}
 
--- ---- whether some version is over
+-- ---- whether some timer has expired
 
 abbrev any_over : ℕ → List Version → Bool
 any_over j [] = false
@@ -42,7 +42,7 @@ quiet_over : (j : ℕ) (vs : List Version) → IsQuiet j vs → any_over j vs �
 quiet_over j [] quiet = refl
 quiet_over j (v ∷ vs) quiet = ap (λ b. b || any_over j vs) quiet.0 ∙ quiet_over j vs quiet.1
 
--- ---- a status is over at some minute, or never
+-- ---- a timer expires at some minute, or never
 
 aged : (window since : ℕ) → has_age window since (since + window) ≡ true
 aged window since = grind (arith, nat_tests)
@@ -94,9 +94,9 @@ ever_any (v ∷ vs) = by_cases (ever_over v v.status) (ever_any vs)
     by_cases (inl never) (inr found) =
         inr (found.0, ap (λ b. b || any_over found.0 vs) (never found.0) ∙ found.1)
 
--- ---- the first minute at which some version is over
+-- ---- the first minute with an expired timer
 
--- nothing is over up to b, and something is at the minute after it
+-- Holds if no timer has expired up to b, and one has at the minute after it.
 record IsFirst (a : ℕ) (vs : List Version) (b : ℕ) : Type 0 where
   later : a ≤ b
   quiet : IsQuiet b vs
@@ -136,7 +136,7 @@ first a vs still = by_cases (ever_any vs)
         inr (least found.0 found.1 (least_below (λ j. any_over j vs) (suc found.0))
         (least_below_is (λ j. any_over j vs) (suc found.0)))
 
--- ---- how many minutes can still end what a version waits for
+-- ---- how many minutes can still end a status
 
 abbrev to_end : Status → ℕ
 to_end Pending = 1
@@ -154,7 +154,7 @@ two_at_most : (status : Status) → to_end status ≤ 2
 two_at_most Pending = omega arith
 two_at_most _ = omega arith
 
--- ---- each minute that ends something leaves fewer
+-- ---- each minute that ends a status leaves fewer
 
 closed_is_done : (action : Send) (bs : List Broadcast)
     → to_end (status_after action (outcome_at_end bs)) ≡ 0
@@ -278,9 +278,9 @@ judge_fewer : (w : WindowSet) (j : ℕ) (r : Record) → any_over j r.versions �
 unfolding judge
 judge_fewer w j r over = changed_fewer w r.carriers j r.versions over
 
--- ---- of a subject's versions at most one waits, and two minutes are enough for it
+-- ---- of a subject's versions at most one has a timer, and two minutes are enough for it
 
--- what is neither open nor in force waits for nothing
+-- A version that is neither open nor in force has no timer.
 done_status : (s : Subject) (status : Status) → (is_block s ≡ true → block_status status ≡ true)
     → open_by s status ≡ false → in_force_status status ≡ false → to_end status ≡ 0
 done_status (Number n) (Sending Create) block closed out = cc
@@ -336,7 +336,7 @@ two_left s (v ∷ vs) sound = by_cases (is_open s v) refl (in_force v) refl
 
 -- ---- the minutes that change the record
 
--- from minute a on, each minute of which P holds leaves the record as it is
+-- Holds if each minute after a that has property P leaves the record as it is.
 abbrev StaysWhere : WindowSet → ℕ → Record → (ℕ → Type 0) → Type 0
 StaysWhere w a r P = (m : ℕ) → a ≤ m → P (suc m) → judge w (suc m) (judged w a m r) ≡ judged w a m r
 
@@ -347,7 +347,7 @@ stays-never w a r never m after =
     ap (judge w (suc m)) same
     ∙ judge-quiet w (suc m) r (none_over (suc m) r.versions (never (suc m))) ∙ sym same
 
--- and before the first minute at which something is over
+-- The minutes before the first with an expired timer leave the record.
 stays-before : (w : WindowSet) (a b : ℕ) (r : Record) → IsQuiet b r.versions → (m : ℕ) → a ≤ m
     → suc m ≤ b → judge w (suc m) (judged w a m r) ≡ judged w a m r
 stays-before w a b r quiet m after before =
@@ -356,7 +356,7 @@ stays-before w a b r quiet m after before =
     ap (judge w (suc m)) same ∙ judge-quiet w (suc m) r (IsQuiet-before (suc m) b r.versions before
     quiet) ∙ sym same
 
--- the minute after b changes the record, and so do those that change what it becomes
+-- Only the minute after b changes the record, and the minutes that change what it becomes.
 stays-first : (w : WindowSet) (a b : ℕ) (r : Record) (P : ℕ → Type 0) → a ≤ b → IsQuiet b r.versions
     → StaysWhere w (suc b) (judge w (suc b) r) P →
     StaysWhere w a r (λ j. (j ≢ suc b) × P j)
@@ -376,7 +376,7 @@ stays-first w a b r P before quiet stays m after other = by_cases (sides m)
         ap (judge w (suc m)) passed ∙ stays m late other.1 ∙ sym passed
 
 module _ (w : WindowSet) (windows : AreWindows w.windows) (s : Subject) where
-  -- nothing is left to end
+  -- No minute changes a record with no status left to end.
   stays-done : (a : ℕ) (r : Record) → AreSound s r.versions → IsQuiet a r.versions
       → all_to_end r.versions ≤ 0 → (m : ℕ) → a ≤ m
       → judge w (suc m) (judged w a m r) ≡ judged w a m r
@@ -388,7 +388,7 @@ module _ (w : WindowSet) (windows : AreWindows w.windows) (s : Subject) where
       by_cases (inr found) = let less = judge_fewer w (suc found.0) r found.1.over in
           absurd (omega (arith, less, none))
 
-  -- one minute is left
+  -- At most one minute changes a record with one status left to end.
   stays-once : (a : ℕ) (r : Record) → AreSound s r.versions → IsQuiet a r.versions
       → all_to_end r.versions ≤ 1 → (e : ℕ) × StaysWhere w a r (λ j. j ≢ e)
   stays-once a r sound still one = by_cases (first a r.versions still)
@@ -406,7 +406,7 @@ module _ (w : WindowSet) (windows : AreWindows w.windows) (s : Subject) where
                 (λ k late t. rest k late) m after (other, tt),
           )
 
-  -- two are
+  -- At most two minutes change a record with two.
   stays-twice : (a : ℕ) (r : Record) → AreSound s r.versions → IsQuiet a r.versions
       → all_to_end r.versions ≤ 2 → (d : ℕ) × (e : ℕ) × StaysWhere w a r (λ j. (j ≢ d) × (j ≢ e))
   stays-twice a r sound still two = by_cases (first a r.versions still)
@@ -424,7 +424,7 @@ module _ (w : WindowSet) (windows : AreWindows w.windows) (s : Subject) where
             stays-first w a found.0 r (λ j. j ≢ rest.0) found.1.later found.1.quiet rest.1,
           )
 
-  -- a record in which something is over already changes at the next minute
+  -- A record with a timer that has expired already changes at the next minute.
   judged-next : (a : ℕ) (r : Record) → judged w a (suc a) r ≡ judge w (suc a) r
   unfolding judged_for
   judged-next a r =
@@ -457,7 +457,7 @@ module _ (w : WindowSet) (windows : AreWindows w.windows) (s : Subject) where
           (quiet_over a r.versions (IsQuiet-before a (suc a) r.versions (omega arith)
           (none_over (suc a) r.versions e)))
 
-  -- at most two minutes change a sound record
+  -- At most two minutes change a sound record.
   pub stays-sound : (a : ℕ) (r : Record) → AreSound s r.versions → (d : ℕ) × (e : ℕ)
       × StaysWhere w a r (λ j. (j ≢ d) × (j ≢ e))
   stays-sound a r sound = by_cases (any_over a r.versions) refl

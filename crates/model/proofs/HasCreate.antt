@@ -18,7 +18,7 @@ HasCreateAs old_at new_at status = is_before_sending status ≡ true
 abbrev pub HasCreate : Version → Type 0
 HasCreate v = HasCreateAs v.old_at v.new_at v.status
 
--- what was sent waits for creates no more
+-- A version that was sent does not wait for creates.
 closed_needs_none : (action : Send) (outcome : Outcome)
     → is_before_sending (status_after action outcome) ≡ false
 closed_needs_none action Open = refl
@@ -31,7 +31,7 @@ needs_none : (old_at new_at : Option ℕ) (status : Status) → is_before_sendin
 needs_none old_at new_at status none = λ needs. absurd (let no : true ≡ false = sym needs ∙ none in
     cc)
 
--- every move keeps it
+-- Every move keeps it.
 pub create_kept : (w : WindowSet) → MovesKeep w (λ m cs v. HasCreate v)
 create_kept w = record {
   later = λ m n cs v up is. is;

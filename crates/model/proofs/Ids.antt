@@ -31,7 +31,7 @@ subjects_turned (Block b) (Number m) = refl
 pub other_subject : (s t : Subject) → subject_eq s t ≡ false → subject_eq t s ≡ false
 other_subject s t apart = subjects_turned t s ∙ apart
 
--- ---- to whom an id was given
+-- ---- the subject of an id
 
 pub given-append : (id from : ℕ) (xs ys : List Subject) (s : Subject)
     → subject_of_id id from xs ≡ Some s → subject_of_id id from (xs ++ ys) ≡ Some s
@@ -46,7 +46,7 @@ given-append id from (x ∷ xs) ys s given =
     by_cases later true e = e
     by_cases later false e = later e
 
--- no id past the last was given
+-- No id past the last was given.
 pub not_given : (id from : ℕ) (xs : List Subject) → from + length xs ≤ id
     → subject_of_id id from xs ≡ None
 not_given id from [] past = refl
@@ -64,7 +64,7 @@ given-after id from (x ∷ xs) ys past =
     ∙ given-after id (suc from) xs ys (omega arith)
     ∙ ap (λ k. subject_of_id id k ys) (omega arith)
 
--- the id that is given to s among the new ones is not below the first, and is s's
+-- The id that s gets among the new ones is not below the first, and belongs to s.
 pub id_among-from : (s : Subject) (from id : ℕ) (xs : List Subject) → id_among s from xs ≡ Some id
     → from ≤ id
 id_among-from s from id [] e = cc
@@ -98,7 +98,7 @@ id_among-given s from id (x ∷ xs) e =
 
 -- ---- the ids of a record
 
--- each version's id was given to s, and no later version has it
+-- Holds if each version's id was given to s, and no older version has it.
 abbrev pub AreGiven : List Subject → Subject → List Version → Type 0
 AreGiven made s [] = ⊤
 AreGiven made s (v ∷ vs) = (subject_of_id v.id 1 made ≡ Some s) × (has_id v.id vs ≡ false)
@@ -113,7 +113,7 @@ AreGiven-append made new s (v ∷ vs) given = (
   AreGiven-append made new s vs given.2,
 )
 
--- a new id is none of theirs
+-- A new id is not among theirs.
 pub fresh : (made : List Subject) (s : Subject) (vs : List Version) (id : ℕ) → AreGiven made s vs
     → next_after made ≤ id → has_id id vs ≡ false
 fresh made s [] id given past = refl
@@ -199,7 +199,7 @@ found_given made s id (u ∷ us) v given e =
         ∙ given.0
     by_cases later false f g = later g
 
--- a version of the record of s is the register's version of its id
+-- A version of the record of s is the register's version with its id.
 pub version_of_id_is : (st : State) (s : Subject) (id : ℕ) (v : Version)
     → AreGiven (made_now st) s (record_now st s).versions →
     version_with id (record_now st s) ≡ Some v → version_of_id st id ≡ Some (record {
@@ -214,7 +214,7 @@ version_of_id_is st s id v given found =
 
 -- ---- a change of the version of one id
 
--- each id once
+-- Holds if no two versions have the same id.
 abbrev pub AreApart : List Version → Type 0
 AreApart [] = ⊤
 AreApart (v ∷ vs) = (has_id v.id vs ≡ false) × AreApart vs
@@ -224,7 +224,7 @@ pub given_apart : (made : List Subject) (s : Subject) (vs : List Version) → Ar
 given_apart made s [] given = tt
 given_apart made s (v ∷ vs) given = (given.1, given_apart made s vs given.2)
 
--- each version is the one that is found by its id
+-- Holds if each version is the one that is found by its id.
 abbrev pub AreFound : List Version → List Version → Type 0
 AreFound whole vs = AllByRecursion (λ v. find (λ u. u.id == v.id) whole ≡ Some v) vs
 
@@ -253,8 +253,8 @@ all_found (v ∷ vs) apart = (
   found_more v vs vs apart.0 (all_found vs apart.1),
 )
 
--- what relates the version found to what becomes of it, and each version to itself, relates all to
--- what the change of that id makes of them
+-- A reflexive relation holds of each version before and after a change of one id, if it holds of
+-- the version with that id.
 pub of_id-each : (T : Version → Version → Type 0) → ((v : Version) → T v v)
     → (made : List Subject) (s : Subject) (id : ℕ) (change : Version → Version) (vs : List Version)
     → AreGiven made s vs →

@@ -1,5 +1,5 @@
--- What is in force, as the definitions list it: rising by subject, each subject once, and each
--- version in force.
+-- The list of what is in force: ascending by subject, without duplicates, with each version in
+-- force.
 use Rattle.std.proofs.Common.{◌≡◌, ℕ, inl, inr, suc, ◌≤◌, ◌<◌, Bool, true, false, List, [], ◌∷◌, Option, Some, None, refl, ap, sym, ◌∙◌, subst, arith}
 use Rattle.std.specs.Prelude.{◌==◌, ◌⊎◌, nat_lt, if◌then◌else◌}
 use Rattle.std.specs.List.{cons_option}
@@ -13,7 +13,7 @@ use Rattle.numbers.proofs.Small.{same_number, less_is, some_is, not_less}
 use Rattle.model.proofs.Lists.{Among}
 use Rattle.model.proofs.Ascending as ascending
 
--- ---- rising lists of rows
+-- ---- ascending lists of rows
 
 abbrev pub key : InForce → ℕ
 key r = subject_key r.subject
@@ -96,7 +96,7 @@ inserted-rise r (q ∷ qs) rise apart =
 
 -- ---- the versions of all subjects
 
--- e is the version of an id that was given from `from` on
+-- Holds if e is the version of an id that was given from `from` on.
 pub record IsGiven (at : Subject → Record) (from : ℕ) (ss : List Subject) (e : SubjectVersion)
     (id : ℕ) : Type 0 where
   pub given : subject_of_id id from ss ≡ Some e.subject
@@ -115,7 +115,7 @@ later-given at from s ss e id is = record {
   later = let le : suc from ≤ id = is.later in omega (arith, le);
 }
 
--- the row in force of a version that was given an id
+-- Holds if r is the row of such a version, which is in force.
 pub record IsRow (at : Subject → Record) (from : ℕ) (ss : List Subject) (r : InForce) : Type 0 where
   pub e : SubjectVersion
   pub id : ℕ
@@ -133,7 +133,7 @@ later-row at from s ss r row = record {
   row = row.row;
 }
 
--- each row that is listed is of a version in force
+-- Each listed row is of a version in force.
 pub listed-row : (at : Subject → Record) (from : ℕ) (ss : List Subject) (r : InForce)
     → Among r (rows_in_force (versions_made at from ss)) → IsRow at from ss r
 listed-row at from [] r is = absurd is
@@ -177,7 +177,7 @@ listed-row at from (s ∷ ss) r is =
     by_cases later None found there = later there
     by_cases later (Some v) found there = inner later v found (in_force v) refl there
 
--- each version in force is listed
+-- Each version in force is listed.
 pub row-listed : (at : Subject → Record) (from : ℕ) (ss : List Subject) (e : SubjectVersion)
     (id : ℕ) → subject_of_id id from ss ≡ Some e.subject
     → version_with id (at e.subject) ≡ Some e.version →
@@ -261,7 +261,7 @@ row-listed at from (s ∷ ss) e id given found force =
     by_cases later true f g = here (some_is s e.subject g) (equal_number f)
     by_cases later false f g = past (version_with from (at s)) (later g)
 
--- they rise, where no subject has two versions in force
+-- The rows ascend, if no subject has two versions in force.
 pub listed-rise : (at : Subject → Record) (from : ℕ) (ss : List Subject) →
     ((s : Subject) (id other : ℕ) (v u : Version) → version_with id (at s) ≡ Some v
     → version_with other (at s) ≡ Some u → in_force v ≡ true → in_force u ≡ true → id ≡ other) →

@@ -1,4 +1,4 @@
--- One induction over the histories and the minutes after them: what the first record has, and each
+-- One induction over histories and the minutes after them: what the first record has, and each
 -- minute and each accepted entry keeps, every record has.
 use Rattle.std.proofs.Common.{◌≡◌, ℕ, zero, suc, ◌+◌, ◌-◌, ◌≤◌, List, [], ◌∷◌, ap, sym, ◌∙◌, subst, arith}
 use Rattle.numbers.specs.Subjects.{Subject}
@@ -8,7 +8,7 @@ use Rattle.model.specs.Judge.{judge, judged_for}
 use Rattle.model.specs.History.{Entry, effect, replay_step, replay_of, replay, subjects_made_by, subjects_made, next_after, id_among, donor_of, assigned_block, present_set}
 use Rattle.model.specs.Machine.{IsHistory}
 
--- a history is one at every later minute
+-- A history is one at every later minute.
 pub later-history : (w : Windows) (h : List Entry) (now m : ℕ) → now ≤ m → IsHistory w h now →
     IsHistory w h m
 later-history w [] now m up is = tt
@@ -20,7 +20,7 @@ later-history w (e ∷ h) now m up is = (
   is.3,
 )
 
--- the record of s right after one more entry, at its own minute
+-- The record of s right after one more entry, at the minute of that entry.
 abbrev pub record_after : Windows → Subject → List Entry → Entry → Record
 record_after w s h e =
     effect (present_set w h) s (id_among s (next_after (subjects_made w h))
@@ -28,8 +28,8 @@ record_after w s h e =
     h) e
     (replay w s h e.minute)
 
--- P is of a history, a minute that is not before its last entry, and the record of s then. Each
--- step may cite whatever is known of the history so far
+-- Holds if the steps keep P, which is of a history, a minute that is not before its newest entry,
+-- and the record of s then. Each step may use whatever is known of the history so far.
 pub record IsKept (w : Windows) (s : Subject) (P : List Entry → ℕ → Record → Type 0) : Type 0 where
   pub first : (m : ℕ) → P [] m nothing
   pub minute : (h : List Entry) (m : ℕ) → IsHistory w h m → P h m (replay w s h m) →
@@ -42,7 +42,7 @@ module _ (w : Windows) (s : Subject) (P : List Entry → ℕ → Record
   moved : (h : List Entry) (a b : ℕ) (x y : Record) → a ≡ b → x ≡ y → P h a x → P h b y
   moved h a b x y e f is = subst (λ k. P h k y) e (subst (λ r. P h a r) f is)
 
-  -- the record so many minutes after the entry
+  -- The record n minutes after the entry.
   minutes_after : (h : List Entry) (e : Entry) (n : ℕ) →
       replay w s (e ∷ h) (e.minute + n) ≡ judged_for (present_set w (e ∷ h)) e.minute n
       (record_after w s h e)
@@ -67,7 +67,7 @@ module _ (w : Windows) (s : Subject) (P : List Entry → ℕ → Record
       (keeps.minute (e ∷ h) (e.minute + n) (later-history w (e ∷ h) e.minute (e.minute + n)
       (omega arith) is) (kept_after h e is now n))
 
-  -- every record of every history
+  -- Every record of every history has P.
   pub kept : (h : List Entry) (m : ℕ) → IsHistory w h m → P h m (replay w s h m)
   unfolding replay_of
   kept [] m is = keeps.first m

@@ -1,4 +1,4 @@
--- What each move keeps, every version of every record has.
+-- Every version of every record has what each move keeps.
 use Rattle.std.proofs.Common.{◌≡◌, ℕ, suc, Bool, true, false, not, ◌&&◌, List, [], ◌∷◌, map, Option, Some, None, refl, arith}
 use Rattle.std.specs.Prelude.{◌==◌, if◌then◌else◌}
 use Rattle.std.specs.List.{AllByRecursion}
@@ -32,7 +32,7 @@ module _ {P : Property} {w : WindowSet} (keeps : MovesKeep w P) where
       by_cases true false e = all.0
       by_cases false y e = all.0
 
-  -- a change that is right for each of them
+  -- A change that gives each version the property keeps it.
   changed_kept : (m : ℕ) (cs : List ℕ) (change : Version → Version) (vs : List Version) →
       AllByRecursion (λ v. P m cs (change v)) vs
       → AllByRecursion (P m cs) (changed_at w m change vs)
@@ -43,14 +43,14 @@ module _ {P : Property} {w : WindowSet} (keeps : MovesKeep w P) where
         (changed_kept m cs change vs all.1),
   )
 
-  -- a minute
+  -- A minute keeps the property.
   pub judge_kept : (m : ℕ) (r : Record) → AllByRecursion (P m r.carriers) r.versions →
       AllByRecursion (P m (judge w m r).carriers) (judge w m r).versions
   unfolding judge
   judge_kept m r all = changed_kept m r.carriers (judged_version w r.carriers m) r.versions
       (each (λ v p. judged_kept keeps r.carriers m v p) r.versions all)
 
--- ---- one step of a history: by the moves while its present set holds
+-- ---- one step of a history, by the moves with its present set of windows
 
 module _ {P : Property} (w : Windows) (s : Subject) (h : List Entry)
     (keeps : MovesKeep (present_set w h) P) where
@@ -89,10 +89,10 @@ module _ {P : Property} (w : Windows) (s : Subject) (h : List Entry)
       with_new cs made vs olds None new = olds
       with_new cs made vs olds (Some id) new = (new id refl, olds)
 
--- ---- every history: by the moves, whichever set holds
+-- ---- every history, by the moves with any set
 
 module _ {P : Property} (keeps : (w : WindowSet) → MovesKeep w P) where
-  -- every version of every record of every history
+  -- Every version of every record of every history has the property.
   pub versions_kept : (w : Windows) (s : Subject) (h : List Entry) (m : ℕ) → IsHistory w h m →
       AllByRecursion (P m (replay w s h m).carriers) (replay w s h m).versions
   versions_kept w s = kept w s (λ h m r. AllKept P m r) (record {
@@ -101,7 +101,7 @@ module _ {P : Property} (keeps : (w : WindowSet) → MovesKeep w P) where
     entry = λ h e is all. entry_kept w s h (keeps (present_set w h)) e is all;
   })
 
-  -- of this minute
+  -- Every version of this minute has it.
   pub version_now : (st : State) → HasHistory st →
       (s : Subject) (id : ℕ) (v : Version) → version_with id (record_now st s) ≡ Some v →
       P st.now (record_now st s).carriers v

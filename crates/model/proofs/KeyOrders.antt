@@ -1,4 +1,4 @@
--- The keys of broadcasts and of waiting downloads are ordered, and equal by their order alone.
+-- The keys of broadcasts and of pending downloads are ordered, and equal if their order says so.
 use Rattle.std.proofs.Common.{◌≡◌, refl}
 use Rattle.std.specs.declared.cmp.Ordering.{Ordering}
 use Rattle.std.specs.declared.cmp.Ordering.TheVariants.{Less, Equal, Greater}

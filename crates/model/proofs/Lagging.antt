@@ -1,4 +1,4 @@
--- What rows say of a state behind which they may lag.
+-- What lagging rows say of a state.
 use Rattle.std.proofs.Common.{◌≡◌, ℕ, zero, suc, ◌+◌, ◌-◌, Bool, true, false, cond, ◌||◌, List, [], ◌∷◌, Option, Some, None, refl, ap, sym, ◌∙◌}
 use Rattle.std.specs.Prelude.{◌==◌, find, option_map, option_and_then}
 use Rattle.std.specs.FinMap.{get}
@@ -29,7 +29,7 @@ judged_for-has_id w from (suc n) id r =
     (judged_for w from n r).versions)
     ∙ judged_for-has_id w from n id r
 
--- to catch up makes no version and takes none
+-- Catching up makes no version and removes none.
 pub caught_up-has_id : (w : WindowSet) (now id : ℕ) (r : Record)
     → has_id id (caught_up w now r).versions ≡ has_id id r.versions
 unfolding judge
@@ -60,7 +60,7 @@ without_id id (u ∷ us) none = by_cases (λ later. without_id id us later) (u.i
 
 -- ---- a record's rows
 
--- a row of the subject is that of a version
+-- A row of the subject is that of a version.
 pub row_shown : (c : Content) (r : Record) (id : ℕ) (row : VersionRow) → RowsMatch c row.subject r
     → get c.versions id ≡ Some row →
     (v : Version) × (version_with id r ≡ Some v) × (row ≡ row_of row.subject v)
@@ -82,7 +82,7 @@ row_shown c r id row shows found = by_cases (version_with id r) refl
       some_is row (row_of row.subject v) (shown ∙ ap (option_map (row_of row.subject)) e),
     )
 
--- where the record has no version of the id, no row of the id is the subject's
+-- If the record has no version with the id, no row with the id is the subject's.
 module _ (c : Content) (t : Subject) (r : Record) (shows : RowsMatch c t r) (id : ℕ)
     (free : version_with id r ≡ None) where
   pub no_version : of_subject t (λ (x : VersionRow). x.subject) (get c.versions id) ≡ None
@@ -100,7 +100,7 @@ module _ (c : Content) (t : Subject) (r : Record) (shows : RowsMatch c t r) (id 
 
 -- ---- a record that lags
 
--- it has the ids of the record as it is now
+-- It has the ids of the record as it is now.
 pub kept_has_id : (w : Windows) (present : WindowSet) (c : Content) (now : ℕ) (s : Subject)
     (r : Record) → (lags : RowsCatchUp w present c now s r) → (id : ℕ)
     → has_id id lags.kept.versions ≡ has_id id r.versions
@@ -115,7 +115,7 @@ kept_free w present c now s r lags id free =
     ∙ none_with id r.versions free)
 
 module _ (st : State) (c : Content) (represents : Represents c st) where
-  -- a row is that of a version of its subject
+  -- A row is that of a version of its subject.
   kept_row : (id : ℕ) (row : VersionRow) → get c.versions id ≡ Some row →
       (v : Version) × (version_with id (represents.subjects row.subject).kept ≡ Some v)
       × (row ≡ row_of row.subject v)
@@ -123,7 +123,7 @@ module _ (st : State) (c : Content) (represents : Represents c st) where
       row_shown c (represents.subjects row.subject).kept id row
       (represents.subjects row.subject).rows_match found
 
-  -- and its subject has a version of its id now
+  -- The row's subject has a version with its id now.
   pub row_has_id : (id : ℕ) (row : VersionRow) → get c.versions id ≡ Some row
       → has_id id (record_now st row.subject).versions ≡ true
   row_has_id id row found =
@@ -132,7 +132,7 @@ module _ (st : State) (c : Content) (represents : Represents c st) where
       ∙ found_has_id id (represents.subjects row.subject).kept.versions (kept_row id row found).0
       (kept_row id row found).1
 
-  -- a row that has the subject in a column is of the subject
+  -- A row that has the subject in a column is of the subject.
   pub column_subject : (test : Subject → Version → Bool) (column : VersionRow → Option Subject) →
       ((t : Subject) (v : Version) → column (row_of t v) ≡ subject_if (test t v) t) →
       (id : ℕ) (row : VersionRow) (s : Subject) → get c.versions id ≡ Some row → column row ≡ Some s
@@ -146,7 +146,7 @@ module _ (st : State) (c : Content) (represents : Represents c st) where
       held true e = some_is row.subject s e
       held false e = cc
 
-  -- where no row has the id, no version has it
+  -- If no row has the id, no version has it.
   pub no_row_at : (id : ℕ) → get c.versions id ≡ None → (s : Subject)
       → has_id id (record_now st s).versions ≡ false
   no_row_at id none s =
@@ -166,7 +166,7 @@ module _ (st : State) (c : Content) (represents : Represents c st) where
       by_cases (Some s) =
           ap (of_its_subject s) (without_id id (record_now st s).versions (no_row_at id none s))
 
-  -- a wait's subject has a version of its id
+  -- The subject of a pending download has a version with its id.
   pub wait_has_id : (carrier minute id attempt : ℕ) (s : Subject) → get c.waits (record {
     carrier = carrier;
     minute = minute;

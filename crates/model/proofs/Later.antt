@@ -1,4 +1,4 @@
--- The clock goes on: what a state is at a later minute, by rows that stay.
+-- What a state is at a later minute, with the same rows.
 use Rattle.std.proofs.Common.{◌≡◌, ℕ, zero, suc, ◌+◌, ◌-◌, ◌≤◌, List, [], ◌∷◌, Some, refl, ap, sym, ◌∙◌, arith}
 use Rattle.std.specs.Prelude.{option_map}
 use Rattle.numbers.specs.Subjects.{Subject, Block}
@@ -60,7 +60,7 @@ block-later st m up is b =
     (record-later st m up is (Block b)) ∙ judged-last (set_now st) st.now (m - st.now)
     (record_now st (Block b)))
 
--- ---- rows that stay lag by the minutes that go by
+-- ---- rows that stay lag by the minutes that pass
 
 pub lags-later : (st : State) (m : ℕ) (old new : Content) (s : Subject) → st.now ≤ m
     → HasHistory st → SameRows s old new →

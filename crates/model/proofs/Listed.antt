@@ -1,4 +1,4 @@
--- What the definitions list rises by subject, each subject once.
+-- The lists of the definitions ascend by subject, without duplicates.
 use Rattle.std.proofs.Common.{◌≡◌, ℕ, ◌≤◌, inl, inr, Bool, true, false, List, [], ◌∷◌, length, map, Some, refl, ap, sym, ◌∙◌, arith}
 use Rattle.std.specs.Prelude.{nat_lt, filter, if◌then◌else◌}
 use Rattle.std.proofs.lemmas.Bool.Decides.{nat_tests}
@@ -48,7 +48,7 @@ module _ (st : State) (is : IsReachable st) where
       (filtered-to in_force (record_now st s).versions v there force)
       (filtered-to in_force (record_now st s).versions u also forces)
 
-  -- a version of a record that is in force is the one that is found
+  -- A version of a record that is in force is the one that is found.
   pub is_in_force : (s : Subject) (v : Version) → Among v (record_now st s).versions
       → in_force v ≡ true → version_in_force (record_now st s) ≡ Some v
   is_in_force s v there force =
@@ -71,7 +71,7 @@ module _ (st : State) (is : IsReachable st) where
   pub rows_rise : Rise (all_in_force st)
   rows_rise = listed-rise (record_now st) 1 (made_now st) alone
 
-  -- a row is that of its subject's version in force
+  -- A row is that of its subject's version in force.
   pub row_is : (r : InForce) → Among r (all_in_force st) → IsOfForce st r
   row_is r there =
       let row = listed-row (record_now st) 1 (made_now st) r there in
@@ -84,7 +84,7 @@ module _ (st : State) (is : IsReachable st) where
         routing = ap (λ (x : InForce). x.routing) row.row;
       }
 
-  -- and each version in force has its row
+  -- Each version in force has its row.
   pub row_there : (s : Subject) (v : Version) → version_in_force (record_now st s) ≡ Some v
       → Among (let r : InForce = record { subject = s; routing = v.routing } in r) (all_in_force st)
   row_there s v stands =
@@ -107,7 +107,7 @@ force_is_listed st is = (
       (row_there st is s v stands)),
 )
 
--- ---- subjects, each once
+-- ---- subjects without duplicates
 
 lt_trans : (a b c : ℕ) → nat_lt a b ≡ true → nat_lt b c ≡ true → nat_lt a c ≡ true
 lt_trans a b c p q = grind (arith, nat_tests)
@@ -212,7 +212,7 @@ once-to [] x is = is
 once-to (s ∷ ss) x (inl e) = with-to s (each_once ss) x (inl e)
 once-to (s ∷ ss) x (inr is) = with-to s (each_once ss) x (inr (once-to ss x is))
 
--- subjects that rise do so by their keys
+-- Subjects that ascend do so by their keys.
 pub subjects-ascend : (ss : List Subject) → AreSubjectsSorted ss → ascending.Rise subject_key ss
 subjects-ascend [] rise = tt
 subjects-ascend (s ∷ ss) rise = (above ss rise.0, subjects-ascend ss rise.1)

@@ -1,10 +1,10 @@
--- What is among the elements of a list, and what holds of each of them.
+-- The elements of a list, and what holds of each of them.
 use Rattle.std.proofs.Common.{◌≡◌, zero, suc, inl, inr, Bool, true, false, cond, ◌&&◌, ◌||◌, List, [], ◌∷◌, ◌++◌, map, Some, refl, ap, sym, ◌∙◌, subst, arith}
 use Rattle.std.specs.Prelude.{◌⊎◌, find, filter, flat_map, All, Contains}
 use Rattle.std.specs.List.{list_all, list_any, AllByRecursion}
 use Rattle.numbers.proofs.Small.{true-false, or_true}
 
--- ---- among them
+-- ---- being an element
 
 abbrev pub Among : {A : Type 0} → A → List A → Type 0
 Among a [] = ⊥
@@ -99,7 +99,7 @@ flat-to f (z ∷ zs) x y (inl e) there =
 flat-to f (z ∷ zs) x y (inr is) there =
     appended-second (f z) (flat_map f zs) y (flat-to f zs x y is there)
 
--- what is found is among them, and passes the test
+-- What is found is an element, and passes the test.
 pub found-among : {A : Type 0} (test : A → Bool) (xs : List A) (x : A) → find test xs ≡ Some x
     → Among x xs × (test x ≡ true)
 found-among test [] x found = cc
@@ -110,7 +110,7 @@ found-among test (y ∷ ys) x found = by_cases (λ e. found-among test ys x e) (
     by_cases later true e f = let same : y ≡ x = cc in (inl (sym same), ap test (sym same) ∙ e)
     by_cases later false e f = let rest = later f in (inr rest.0, rest.1)
 
--- one that passes the test is found, it or another
+-- If an element passes the test, one is found.
 pub found-there : {A : Type 0} (test : A → Bool) (xs : List A) (x : A) → Among x xs → test x ≡ true
     → (y : A) × (find test xs ≡ Some y)
 found-there test [] x is passes = absurd is
@@ -134,7 +134,7 @@ contains-among [] x (k, lt, e) = absurd (omega (arith, lt))
 contains-among (y ∷ ys) x (zero, lt, e) = inl (sym e)
 contains-among (y ∷ ys) x (suc k, lt, e) = inr (contains-among ys x (k, omega (arith, lt), e))
 
--- ---- of each of them
+-- ---- each element
 
 pub everywhere : {A : Type 0} {P : A → Type 0} → ((x : A) → P x) → (xs : List A)
     → AllByRecursion P xs
@@ -162,13 +162,13 @@ pub each_mapped : {A B : Type 0} (f : A → B) (P : B → Type 0) (xs : List A)
 each_mapped f P [] all = tt
 each_mapped f P (x ∷ xs) all = (all.0, each_mapped f P xs all.1)
 
--- what holds of whatever is among them holds of each
+-- What holds of every element holds of each in turn.
 pub each_there : {A : Type 0} (P : A → Type 0) (xs : List A) → ((x : A) → Among x xs → P x)
     → AllByRecursion P xs
 each_there P [] step = tt
 each_there P (x ∷ xs) step = (step x (inl refl), each_there P xs (λ y there. step y (inr there)))
 
--- what holds of each holds of one that is found
+-- What holds of each holds of one that is found.
 pub found_has : {A : Type 0} (P : A → Type 0) (test : A → Bool) (xs : List A) (x : A)
     → AllByRecursion P xs → find test xs ≡ Some x → P x
 found_has P test xs x all found = each-among P xs x all (found-among test xs x found).0

@@ -1,4 +1,4 @@
--- A version is made only where there is room for it.
+-- A version is made only if there is room for it.
 use Rattle.std.proofs.Common.{◌≡◌, ℕ, Bool, true, false, cond, ◌&&◌, List, [], ◌∷◌, Option, Some, None, refl, ap, sym, ◌∙◌, subst}
 use Rattle.std.specs.Prelude.{if◌then◌else◌, find, is_some, is_none, option_map}
 use Rattle.std.specs.List.{list_any}
@@ -20,14 +20,14 @@ use Rattle.model.proofs.Ids.{same_subject}
 use Rattle.model.proofs.Entries.{is_active-is}
 use Rattle.model.specs.Windows.{WindowSet}
 
--- there is room for a version of s: none is open, and what is in force is active
+-- Holds if there is room for a version of s: none is open, and what is in force is active.
 pub record HasRoom (s : Subject) (vs : List Version) : Type 0 where
   pub closed : NoneOpen s vs
   pub one : OneInForce vs
   pub active : InForceIsActive vs
   pub block : is_block s ≡ true → HaveBlockStatus vs × NoneInForce vs
 
--- a new version in front of the others, which the entry may change too
+-- The versions stay sound with a new one before the others, which the entry may change too.
 pub made-sound : (w : WindowSet) (s : Subject) (minute : ℕ) (change : Version
     → Version) (vs : List Version) (new : Version) → StatusesRespect s change vs → HasRoom s vs →
     in_force new ≡ false → (is_block s ≡ true → block_status new.status ≡ true)
@@ -78,7 +78,7 @@ pub none-active : (vs : List Version) → NoneInForce vs → InForceIsActive vs
 none-active [] none = tt
 none-active (v ∷ vs) none = (λ now. true-false (in_force v) now none.0, none-active vs none.1)
 
--- the one in force is active
+-- If the version in force is active, each one in force is.
 found-active : (vs : List Version) (u : Version) → OneInForce vs → find in_force vs ≡ Some u
     → u.status ≡ Active → InForceIsActive vs
 found-active [] u one found active = cc
@@ -146,7 +146,7 @@ pub and_rest : (b c : Bool) → b ≡ true → (b && c) ≡ false → c ≡ fals
 and_rest true c e none = none
 and_rest false c e none = cc
 
--- a create that makes a version finds room for it
+-- A create that makes a version finds room for it.
 pub old_create-room : (st : State) (caller : ℕ) (s : Subject) (first id tn old_provider new_provider
     due : ℕ) (authorized : Bool)
     → AcceptedCommand st caller (OldProviderCreate tn old_provider new_provider due authorized) →

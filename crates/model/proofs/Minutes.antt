@@ -1,4 +1,4 @@
--- What minutes do: they compose, and where no status is over they do nothing.
+-- Judging minutes composes, and does nothing if no timer has expired.
 use Rattle.std.proofs.Common.{◌≡◌, ℕ, zero, suc, ◌+◌, ◌-◌, ◌≤◌, Bool, true, false, cond, not, ◌&&◌, List, [], ◌∷◌, map, refl, ap, sym, ◌∙◌, arith, add-suc, add_assoc, is_some}
 use Rattle.std.specs.Prelude.{nat_le}
 use Rattle.std.proofs.lemmas.Bool.Decides.{nat_tests}
@@ -18,7 +18,7 @@ pub retired-never : (w : WindowSet) (minute : ℕ) (vs : List Version)
 retired-never w minute [] = refl
 retired-never w minute (v ∷ vs) = ap (λ us. v ∷ us) (retired-never w minute vs)
 
--- a change leaves each version as it is
+-- Holds if a change leaves each version as it is.
 abbrev pub LeavesEach : (Version → Version) → List Version → Type 0
 LeavesEach change vs = AllByRecursion (λ v. change v ≡ v) vs
 
@@ -45,7 +45,7 @@ judged_for-add w from m (suc n) r =
     ∙ ap (judge w (suc (from + (m + n)))) (judged_for-add w from m n r)
     ∙ sym (ap (λ k. judged_for w from k r) (add-suc m n))
 
--- up to b, and then up to c
+-- Judging up to b and then up to c is judging up to c.
 pub judged-trans : (w : WindowSet) (a b c : ℕ) (r : Record) → a ≤ b → b ≤ c
     → judged w b c (judged w a b r) ≡ judged w a c r
 judged-trans w a b c r ab bc =
@@ -54,7 +54,7 @@ judged-trans w a b c r ab bc =
     ∙ judged_for-add w a (b - a) (c - b) r
     ∙ ap (λ k. judged_for w a k r) (omega arith)
 
--- ---- where nothing is over
+-- ---- no timer has expired
 
 leaves_each_quiet : (w : WindowSet) (all_carriers : List ℕ) (j : ℕ) (vs : List Version)
     → IsQuiet j vs
@@ -64,14 +64,14 @@ leaves_each_quiet w all_carriers j [] quiet = tt
 leaves_each_quiet w all_carriers j (v ∷ vs) quiet =
     (rw quiet.0, leaves_each_quiet w all_carriers j vs quiet.1)
 
--- judging a quiet minute does nothing
+-- Judging a quiet minute does nothing.
 pub judge-quiet : (w : WindowSet) (j : ℕ) (r : Record) → IsQuiet j r.versions → judge w j r ≡ r
 unfolding judge
 judge-quiet w j r quiet =
     ap (λ vs. record r { versions = vs }) (changed_at-same w j (judged_version w r.carriers j)
     r.versions (leaves_each_quiet w r.carriers j r.versions quiet))
 
--- what is not over later was not over before
+-- An age that is not reached was not reached earlier.
 has_age-before : (window since i j : ℕ) → i ≤ j → has_age window since j ≡ false
     → has_age window since i ≡ false
 has_age-before window since i j before young = grind (arith, nat_tests)
@@ -123,7 +123,7 @@ IsQuiet-before i j (v ∷ vs) before quiet = (
   IsQuiet-before i j vs before quiet.1,
 )
 
--- as long as nothing is over at the last minute, all the minutes before it do nothing
+-- If no timer has expired at the last minute, the minutes up to it do nothing.
 pub judged_for-quiet : (w : WindowSet) (from n : ℕ) (r : Record) → IsQuiet (from + n) r.versions
     → judged_for w from n r ≡ r
 unfolding judged_for
@@ -139,7 +139,7 @@ pub judged-quiet : (w : WindowSet) (a b : ℕ) (r : Record) → a ≤ b → IsQu
 judged-quiet w a b r before quiet = judged_for-quiet w a (b - a) r (let e : a + (b - a) ≡ b =
     omega arith in rw e quiet)
 
--- to go to a minute with nothing over before it is to judge that minute alone
+-- Judging up to a minute with no expired timer before it is judging only that minute.
 pub judged-at_end : (w : WindowSet) (a b : ℕ) (r : Record) → a ≤ b → IsQuiet b r.versions
     → judged w a (suc b) r ≡ judge w (suc b) r
 unfolding judged_for

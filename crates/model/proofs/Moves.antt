@@ -1,5 +1,4 @@
--- What may become of a version, move by move. Whatever an accepted request or a minute makes of a
--- version is one of the moves.
+-- The moves: whatever an accepted request or a minute makes of a version is one of them.
 use Rattle.std.proofs.Common.{◌≡◌, ℕ, ◌+◌, ◌<◌, ◌≤◌, ◌⊎◌, inl, inr, Bool, true, false, cond, not, ◌&&◌, List, [], ◌∷◌, map, Option, Some, None, refl, ap, sym, ◌∙◌, subst, arith, is_some}
 use Rattle.std.specs.Prelude.{◌==◌, nat_lt, find, unwrap_or, if◌then◌else◌}
 use Rattle.std.specs.List.{AllByRecursion}
@@ -33,55 +32,57 @@ use Rattle.model.proofs.Entered.{given_now, sound_now, record-carriers}
 
 -- ---- statuses
 
--- a version waits for creates or for a cancellation's acknowledgement
+-- Whether a version with this status waits for creates or for the acknowledgement of a cancel.
 abbrev pub is_before_sending : Status → Bool
 is_before_sending Pending = true
 is_before_sending Conflict = true
 is_before_sending (CancelPending by) = true
 is_before_sending _ = false
 
--- it was never in force, and may still be cancelled
+-- Whether a version with this status was never in force, and may still become canceled.
 abbrev pub is_unserved : Status → Bool
 is_unserved Failed = true
 is_unserved status = is_before_sending status
 
--- it waits for its release minute
+-- Whether a version with this status waits for its release minute.
 abbrev pub is_planned : Status → Bool
 is_planned (DisconnectPending release) = true
 is_planned _ = false
 
--- its newest broadcast's last acknowledgement would change it
+-- Whether the last acknowledgement of its newest broadcast would change a version with this status.
 abbrev pub awaits_answers : Status → Bool
 awaits_answers (Sending action) = true
 awaits_answers PartialFailure = true
 awaits_answers _ = false
 
--- ---- when a move comes
+-- ---- conditions of moves
 
--- the version has a status of these
+-- Holds if the version's status passes the test.
 abbrev pub IsIn : (Status → Bool) → List ℕ → Version → Type 0
 IsIn test cs v = test v.status ≡ true
 
 abbrev pub Sends : Send → List ℕ → Version → Type 0
 Sends action cs v = v.status ≡ Sending action
 
--- it failed before, or is pending and has the new provider's create, and an attempt is left
+-- Holds if the version failed, or is pending with the new provider's create, and has an attempt
+-- left.
 abbrev pub MayActivate : List ℕ → Version → Type 0
 MayActivate cs v =
     ((v.status ≡ Failed) ⊎ ((v.status ≡ Pending) × (is_some v.new_at ≡ true)))
     × (v.attempt + 1 < limit)
 
--- it is active, and an attempt is left
+-- Holds if the version is active and has an attempt left.
 abbrev pub MayDisconnect : List ℕ → Version → Type 0
 MayDisconnect cs v = (v.status ≡ Active) × (v.attempt + 1 < limit)
 
--- one more carrier has acknowledged an attempt
+-- The version with the acknowledgement of one more carrier.
 abbrev pub answered_by : ℕ → ℕ → Version → Version
 answered_by c attempt v = record v {
   broadcasts = map (acknowledged_broadcast c attempt) v.broadcasts;
 }
 
--- a carrier acknowledges, and somebody is still missing or nothing waits for the last one
+-- Holds if a carrier acknowledges, and either somebody is still missing or the status does not
+-- change with the last acknowledgement.
 abbrev pub MayAnswer : (c attempt : ℕ) → List ℕ → Version → Type 0
 MayAnswer c attempt cs v =
     (is_among c cs ≡ true)
@@ -90,28 +91,28 @@ MayAnswer c attempt cs v =
 
 -- ---- the moves
 
--- a property of a minute, the carriers that there are and a version
+-- A property of a minute, the registered carriers and a version.
 abbrev pub Property : Type 1
 Property = ℕ → List ℕ → Version → Type 0
 
--- where the version is so, what becomes of it has P again
+-- Holds if the move keeps P under its condition.
 abbrev pub Move : Property → (List ℕ → Version → Type 0) → (ℕ → List ℕ → Version → Version) → Type 0
 Move P when becomes =
     (m : ℕ) (cs : List ℕ) (v : Version) → when cs v → P m cs v → P m cs (becomes m cs v)
 
--- a version that is made has P; somebody is a carrier, since a request made it
+-- Holds if a version that is made has P. Somebody is a carrier, since a request made it.
 abbrev pub Makes : WindowSet → Property → (ℕ → List ℕ → Version → Version) → Type 0
 Makes w P becomes =
     (m : ℕ) (cs : List ℕ) (id old_provider new_provider due : ℕ) → is_nonempty cs ≡ true →
     P m cs (becomes m cs (blank_version w id old_provider new_provider due m))
 
--- each move keeps P, while this set of windows holds
+-- Holds if each move keeps P, with this set of windows as the present one.
 pub record MovesKeep (w : WindowSet) (P : Property) : Type 0 where
-  -- time goes by, and a carrier registers
+  -- Time passes, or a carrier registers.
   pub later : (m n : ℕ) (cs : List ℕ) (v : Version) → m ≤ n → P m cs v → P n cs v
   pub joined : (c m : ℕ) (cs : List ℕ) (v : Version) → P m cs v
       → P m (with_number c cs) (joined_by c v)
-  -- a version is made: by a create, and by a donation or an assignment, which send it
+  -- A version is made: by a create, or by a donation or an assignment, which send it.
   pub made_old : Makes w P (λ m cs b. record b { old_at = Some m })
   pub made_new : (routing : Routing) →
       Makes w P (λ m cs b. record b { new_at = Some m; routing = Some routing })
@@ -121,11 +122,11 @@ pub record MovesKeep (w : WindowSet) (P : Property) : Type 0 where
         protective =
             protective;
       }))
-  -- a second create comes
+  -- A second create comes.
   pub old_create : Move P (IsIn awaits_creates) (λ m cs v. record v { old_at = Some m })
   pub new_create : (routing : Routing) →
       Move P (IsIn awaits_creates) (λ m cs v. record v { new_at = Some m; routing = Some routing })
-  -- it enters a status at once
+  -- The version enters a status at once.
   pub pending : Move P (IsIn is_before_sending) (λ m cs v. with_status w Pending m v)
   pub conflict : (spent : Bool) →
       Move P (IsIn is_before_sending) (λ m cs v. record (with_status w Conflict m v) {
@@ -139,18 +140,17 @@ pub record MovesKeep (w : WindowSet) (P : Property) : Type 0 where
   pub planned : (release : ℕ)
       → Move P MayDisconnect (λ m cs v. with_status w (DisconnectPending release) m v)
   pub old : Move P (IsIn in_force_status) (λ m cs v. with_status w Old m v)
-  -- it is sent: by an activation, by a disconnect or a block's release, when its release minute
-  -- comes, and by a modify
+  -- The version is sent: by an activation, by a disconnect or a block's release, by its release
+  -- minute, or by a modify.
   pub activated : Move P MayActivate (λ m cs v. next_attempt w Create cs m v)
   pub disconnected : Move P MayDisconnect (λ m cs v. next_attempt w Delete cs m v)
   pub released : Move P (IsIn is_planned) (λ m cs v. next_attempt w Delete cs m v)
   pub modified : (routing : Routing)
       → Move P MayDisconnect (λ m cs v. next_attempt w (Modify routing) cs m v)
-  -- its window ends
+  -- The window of its broadcast ends.
   pub ended : (action : Send) →
       Move P (Sends action) (λ m cs v. closed_with w action (outcome_at_end v.broadcasts) m v)
-  -- a carrier acknowledges, and then the last one, which closes the broadcast or makes a partial
-  -- failure whole
+  -- A carrier acknowledges. The last one closes the broadcast, or makes a partial failure active.
   pub answered : (c attempt : ℕ) → Move P (MayAnswer c attempt) (λ m cs v. answered_by c attempt v)
   pub closed : (c attempt : ℕ) (action : Send) →
       Move P (λ cs v. (is_among c cs ≡ true) × Sends action cs v)
@@ -161,11 +161,11 @@ pub record MovesKeep (w : WindowSet) (P : Property) : Type 0 where
 
 -- ---- what the tests say
 
--- where the limit's test fails, an attempt is left
+-- If the limit's test fails, an attempt is left.
 left_by : (attempt : ℕ) → has_no_attempt_left attempt ≡ false → attempt + 1 < limit
 left_by attempt e = grind (arith, nat_tests)
 
--- a status that passed a command's test
+-- The status passed a command's test.
 pending_before : (status : Status) → not (is_pending status) ≡ false
     → is_before_sending status ≡ true
 pending_before Pending may = refl
@@ -186,7 +186,7 @@ awaiting_before Pending awaits = refl
 awaiting_before Conflict awaits = refl
 awaiting_before _ awaits = cc
 
--- what is activated failed before, or is pending and has the new provider's create
+-- A version that is activated failed, or is pending with the new provider's create.
 activated_from : (w : Windows) (now : ℕ) (new_at old_at : Option ℕ) (since : ℕ) (status : Status) →
     not (can_activate status) ≡ false →
     lacks_concurrence w now status old_at new_at since ≡ false → (status ≡ Failed)
@@ -196,7 +196,7 @@ activated_from w now (Some m) old_at since Pending may concurred = inr (refl, re
 activated_from w now None old_at since Pending may concurred = cc
 activated_from w now new_at old_at since _ may concurred = cc
 
--- of a block's versions only the last is in force
+-- Of a block's versions only the newest is in force.
 last_in_force : (s : Subject) (vs : List Version) (v : Version) → AreSound s vs →
     is_block s ≡ true → find (λ u. u.id == v.id) vs ≡ Some v → in_force v ≡ true →
     first_of_versions vs ≡ Some v
@@ -217,7 +217,7 @@ some_carrier : (c : ℕ) (cs : List ℕ) → is_among c cs ≡ true → is_nonem
 some_carrier c [] is = cc
 some_carrier c (d ∷ ds) is = refl
 
--- whoever makes a version names a carrier, or is one: somebody is a carrier
+-- Whoever makes a version names a carrier or is one, so somebody is a carrier.
 made_by_carrier : (st : State) (caller : ℕ) (s : Subject) (from id : ℕ) (request : Request) →
     refusal st (RequestFrom caller request) ≡ None →
     id_among s from (subjects_made_by request (record_now st)) ≡ Some id
@@ -242,7 +242,7 @@ made_by_carrier st caller s from id (CommandRequest (Assign block holder lrn cic
     (accepted_command st caller (Assign block holder lrn cic) ok 1))
 made_by_carrier st caller s from id _ ok made = cc
 
--- an acknowledgement that was accepted is a carrier's
+-- An accepted acknowledgement is a carrier's.
 by_carrier : (st : State) (caller id attempt : ℕ) →
     refusal st (RequestFrom caller (AcknowledgementRequest id attempt)) ≡ None →
     is_among caller (carriers st.history) ≡ true
@@ -251,10 +251,10 @@ by_carrier st caller id attempt ok =
     denied (is_among caller (carriers st.history))
     (none_holds (tests st (RequestFrom caller (AcknowledgementRequest id attempt))) ok).0
 
--- ---- what is kept
+-- ---- what keeps P
 
 module _ {P : Property} {w : WindowSet} (keeps : MovesKeep w P) where
-  -- by a minute
+  -- A minute keeps P.
   pub judged_kept : (cs : List ℕ) (m : ℕ) (v : Version) → P m cs v →
       P m cs (judged_version w cs m v)
   unfolding judged_version
@@ -278,7 +278,7 @@ module _ {P : Property} {w : WindowSet} (keeps : MovesKeep w P) where
     either true u one = one refl
     either false u one = p
 
-    -- by an acknowledgement
+    -- An acknowledgement keeps P.
     acknowledged_kept : (c attempt : ℕ) → is_among c cs ≡ true
         → P m cs (acknowledged_by w c attempt m v)
     acknowledged_kept c attempt among =
@@ -299,7 +299,7 @@ module _ {P : Property} {w : WindowSet} (keeps : MovesKeep w P) where
         by_cases true e = complete v.status refl
         by_cases false e = keeps.answered c attempt m cs v (among, λ awaits. e) p
 
-    -- by a second create
+    -- A second create keeps P.
     old_create_kept : (authorized : Bool) → awaits_creates v.status ≡ true →
         P m cs (with_old_create w authorized m v)
     old_create_kept true awaits = keeps.old_create m cs v awaits p
@@ -307,7 +307,7 @@ module _ {P : Property} {w : WindowSet} (keeps : MovesKeep w P) where
         keeps.conflict true m cs (record v { old_at = Some m }) (awaiting_before v.status awaits)
         (keeps.old_create m cs v awaits p)
 
-    -- by a cancel
+    -- A cancel keeps P.
     waiting_kept : (caller : ℕ) → is_before_sending v.status ≡ true → is_unserved v.status ≡ true
         → (b : Bool) →
         P m cs (if b then with_status w (CancelPending (side_of caller v.old_provider)) m v
@@ -330,7 +330,7 @@ module _ {P : Property} {w : WindowSet} (keeps : MovesKeep w P) where
         keeps.active m cs v (ap is_planned e) p
     cancelled_kept caller _ e may = cc
 
-    -- by a disconnect
+    -- A disconnect keeps P.
     disconnected_kept : (release : Option ℕ) → v.status ≡ Active → v.attempt + 1 < limit →
         P m cs (disconnected w release cs m v)
     disconnected_kept None active left = keeps.disconnected m cs v (active, left) p
@@ -356,7 +356,7 @@ module _ {P : Property} (st : State) (keeps : MovesKeep (set_now st) P)
       → is_so v ≡ false
   test = named_test st s (given_now st is s)
 
-  -- by a command on the version
+  -- A command on the version keeps P.
   change_kept : (caller id : ℕ) (c : VersionCommand) →
       AcceptedCommand st caller (OnVersion id c) → (v : Version) →
       version_with id (record_now st s) ≡ Some v →
@@ -403,7 +403,7 @@ module _ {P : Property} (st : State) (keeps : MovesKeep (set_now st) P)
             (accepted 28)),
       ) p
 
-  -- by the release of a block: its last version is active
+  -- The release of a block keeps P: its newest version is active.
   released_kept : (caller block : ℕ) → AcceptedCommand st caller (Release block) → (v : Version) →
       version_with v.id (record_now st s) ≡ Some v →
       (subject_eq s (Block block) && in_force v) ≡ true → P st.now all_carriers v
@@ -424,7 +424,7 @@ module _ {P : Property} (st : State) (keeps : MovesKeep (set_now st) P)
             (sym last_is) ∙ accepted 28),
       ) p
 
-  -- by an accepted request, of a version of the subject
+  -- An accepted request keeps P of a version of the subject.
   pub done_kept : (caller : ℕ) (request : Request) → refusal st (RequestFrom caller request) ≡ None
       →
       (v : Version) → version_with v.id (record_now st s) ≡ Some v →
@@ -480,7 +480,7 @@ module _ {P : Property} (st : State) (keeps : MovesKeep (set_now st) P)
       (ap (is_among caller) carriers_are ∙ by_carrier st caller id attempt ok))
   done_kept caller _ ok v found p = p
 
-  -- by the version that a request makes
+  -- The version that a request makes has P.
   pub made_kept : (caller : ℕ) (donor : Option ℕ) (from id : ℕ) (request : Request) →
       refusal st (RequestFrom caller request) ≡ None →
       id_among s from (subjects_made_by request (record_now st)) ≡ Some id

@@ -1,4 +1,4 @@
--- What is sound has at most one version in force and at most one open.
+-- A sound record has at most one version in force and at most one open.
 use Rattle.std.proofs.Common.{◌≡◌, ◌≤◌, Bool, true, false, cond, List, [], ◌∷◌, length, Some, None, refl, ap, sym, ◌∙◌, arith}
 use Rattle.std.specs.Prelude.{find, filter}
 use Rattle.numbers.specs.Subjects.{Subject}
@@ -75,7 +75,7 @@ orderly : (s : Subject) (vs : List Version) → AreSound s vs → OneInForce vs
 orderly s [] sound = tt
 orderly s (v ∷ vs) sound = sound.1
 
--- in every state that a run can reach
+-- This holds in every reachable state.
 pub no_two_active : NoTwoActive
 no_two_active st is s =
     let sound : AreSound s (record_now st s).versions =

@@ -1,5 +1,5 @@
--- A command on a version is refused by its own tests, and whatever is refused, with the least
--- number whose test holds.
+-- A command on a version is refused by its own tests, and any refusal has the least number of the
+-- tests that hold.
 use Rattle.std.proofs.Common.{◌≡◌, ℕ, ◌≤◌, Bool, true, false, not, ◌&&◌, List, [], ◌∷◌, Option, Some, None, refl, ap, sym, ◌∙◌, arith}
 use Rattle.std.specs.Prelude.{nat_lt, ◌==◌, if◌then◌else◌}
 use Rattle.std.proofs.lemmas.Bool.Decides.{nat_tests}
@@ -18,7 +18,7 @@ refused_by_own_tests st is caller id c = refl
 
 -- ---- tests in the order of their numbers
 
--- the numbers rise, from past this one
+-- Whether the numbers ascend, from past this one.
 abbrev rises : ℕ → List (ℕ × Bool) → Bool
 rises past [] = true
 rises past (t ∷ ts) = nat_lt past t.0 && rises t.0 ts
@@ -41,7 +41,7 @@ past_all (t ∷ ts) past n rise holds =
 abbrev Least : List (ℕ × Bool) → Type 0
 Least ts = (k n : ℕ) → first_refusal ts ≡ Some k → holds_at n ts ≡ true → k ≤ n
 
--- the first that holds is the least
+-- The first test that holds has the least number.
 least : (ts : List (ℕ × Bool)) (past k n : ℕ) → rises past ts ≡ true
     → first_refusal ts ≡ Some k → holds_at n ts ≡ true → k ≤ n
 least [] past k n rise first holds = cc
@@ -62,7 +62,7 @@ least (t ∷ ts) past k n rise first holds =
     by_cases later behind false true e g f is = let never : true ≡ false = sym is ∙ e in cc
     by_cases later behind false false e g f is = later f is
 
--- ---- a modify, whose routing number (7) is judged behind 10
+-- ---- a modify, whose routing number (7) is tested after 10
 
 module _ (unknown number mine : Bool) (ts : List (ℕ × Bool)) where
   abbrev as_they_stand : List (ℕ × Bool)

@@ -1,4 +1,4 @@
--- A block with a version in force holds no number whose protective version is open.
+-- No number of a block with a version in force has a protective open version.
 use Rattle.std.proofs.Common.{◌≡◌, ℕ, zero, suc, ◌+◌, ◌-◌, inl, inr, Bool, true, false, cond, not, ◌&&◌, ◌||◌, List, [], ◌∷◌, map, Option, Some, None, refl, ap, sym, ◌∙◌, subst}
 use Rattle.std.specs.Prelude.{⊤, ◌⊎◌, ◌==◌, if◌then◌else◌, find, filter, is_none, is_some}
 use Rattle.std.specs.List.{list_any, AllByRecursion}
@@ -32,7 +32,7 @@ use Rattle.model.proofs.Unique.{Respects, RespectsEach, by_status, judged_versio
 
 -- ---- a block that nobody donated
 
--- a block's subject is none of the numbers
+-- A block is not among the numbers.
 numbers_none : (b k block : ℕ) (test : Subject → Bool) (lines : List ℕ)
     → id_among (Block b) k (filter test (map (λ line. Number (number_in block line)) lines)) ≡ None
 numbers_none b k block test [] = refl
@@ -53,7 +53,7 @@ one_number : (b k tn : ℕ) (c : Bool) → id_among (Block b) k (if c then [] el
 one_number b k tn true = refl
 one_number b k tn false = refl
 
--- only an assignment of the block makes a version of it
+-- Holds if the request is an assignment of the block; only that makes a version of it.
 abbrev IsAssigned : ℕ → Request → Type 0
 IsAssigned b (CommandRequest (Assign block holder lrn cic)) = block ≡ b
 IsAssigned b _ = ⊥
@@ -93,7 +93,7 @@ not_made st b k request never =
     by_cases None e = refl
     by_cases (Some id) e = absurd (never (made_of_block st b k id request e))
 
--- so one that nobody donated has no version
+-- So a block that nobody donated has no version.
 no_donor : (st : State) (caller b : ℕ) (request : Request)
     → refusal st (RequestFrom caller request) ≡ None → donor_of b st.history ≡ None
     → IsAssigned b request → ⊥
@@ -132,9 +132,9 @@ undonated w b = kept w (Block b) (λ h m r. donor_of b h ≡ None → r.versions
       e.minute (replay w (Block b) h e.minute).carriers e.request)) (before earlier);
 })
 
--- ---- an open protective version stands alone
+-- ---- a protective open version is the only version of its number
 
--- a version that is open and protective
+-- Whether the version is open and protective.
 abbrev pub is_port : ℕ → Version → Bool
 is_port n v = is_open (Number n) v && v.protective
 
@@ -157,7 +157,7 @@ changed_alone w n minute change (v ∷ vs) each same sound alone = λ is.
     (changed-none w (Number n) minute change vs each.1 sound.0
     (alone (port_before n v (change v) each.0 (same v) is)))
 
--- only a donation makes a protective version
+-- Holds if the request is a donation of the number's block; only that makes a protective version.
 abbrev IsDonated : ℕ → Request → Type 0
 IsDonated n (CommandRequest (Donate block used lrn cic)) = block_of n ≡ block
 IsDonated n _ = ⊥
@@ -249,9 +249,9 @@ ports_alone w n = kept w (Number n) (λ h m r. PortIsAlone n r.versions) (record
       (subjects_made_by e.request (λ t. replay w t h e.minute))) refl;
 })
 
--- ---- what stands of a block
+-- ---- the state of a block
 
--- a version of the subject is in force or open
+-- Whether the version is in force or open.
 abbrev stands : Subject → Version → Bool
 stands s v = in_force v || is_open s v
 
@@ -261,8 +261,8 @@ is_taken b vs = list_any (stands (Block b)) vs
 abbrev has_port : ℕ → List Version → Bool
 has_port n vs = list_any (is_port n) vs
 
--- what holds of a version after a change only where it held before, and not of an old one, holds of
--- one of them only where it did of one before
+-- If a change gives no version the property, some version has it afterwards only if one had it
+-- before. An old version must not have it.
 module _ (w : WindowSet) (p : Version → Bool) (minute : ℕ) (fails : (v : Version)
     → p (with_status w Old minute v) ≡ false) where
   retired_before : (c : Bool) (vs : List Version) → list_any p (map (retired w c minute) vs) ≡ true
@@ -303,7 +303,7 @@ module _ (w : WindowSet) (p : Version → Bool) (minute : ℕ) (fails : (v : Ver
       or_both false x true y f g e = refl
       or_both false x false y f g e = g e
 
--- a version that is made in front
+-- The version that is made, or another one, has the property.
 any_made : (p : Version → Bool) (o : Option ℕ) (made : ℕ → Version) (vs : List Version)
     → list_any p (with_made o made vs) ≡ true → (list_any p vs ≡ true)
     ⊎ ((id : ℕ) × (o ≡ Some id) × (p (made id) ≡ true))
@@ -333,7 +333,7 @@ stood_before b old new respects is = by_cases (is_open (Block b) old) refl (in_f
     by_cases false e true g h = ap (λ a. a || false) (respects.forces e g)
     by_cases false e false g h = true-false (is_open (Block b) old) (respects.opens h) e
 
--- minutes make no version stand, and open none
+-- A minute gives no version the property.
 module _ (w : WindowSet) (s : Subject) (p : Version → Bool) (fails : (minute : ℕ) (v : Version)
     → p (with_status w Old minute v) ≡ false)
     (before : (old new : Version) → Respects s old new → new.protective ≡ old.protective
@@ -375,7 +375,7 @@ module _ (st : State) (is : HasHistory st) (n : ℕ) where
       by_cases true e = refl
       by_cases false e = true-false (has_port n vs) e (closed vs sound.0)
 
-  -- a number with an open protective version is an open port of its block
+  -- A number with a protective open version is an open port of its block.
   port_is_open : (vs : List Version) → number_now ≡ vs → has_port n vs ≡ true
       → has_open_port st (block_of n) ≡ false → ⊥
   port_is_open [] e has none = cc
@@ -437,8 +437,7 @@ module _ (st : State) (is : HasHistory st) (n : ℕ) where
   both_never (CommandRequest (Assign block holder lrn cic)) assigned donated = absurd donated
   both_never _ assigned donated = absurd assigned
 
-  -- after an accepted entry the block is not taken while the number's protective version is open,
-  -- if it was not before
+  -- An accepted entry does not make the block taken while the number's protective version is open.
   entered_apart : (is_taken (block_of n) block_now ≡ true → has_port n number_now ≡ true → ⊥)
       → (caller : ℕ) (a c : List ℕ) (donor : Option ℕ) (k : ℕ) (request : Request)
       → HasValues request →
@@ -535,7 +534,7 @@ stay_apart w n (e ∷ h) m is taken has =
     (old_port_not (present_set w (e ∷ h)) n) (port_before n) e.minute (m - e.minute)
     (record_after w (Number n) h e) has)
 
--- in every state that a run can reach
+-- This holds in every reachable state.
 pub no_port_under_block : NoPortUnderBlock
 no_port_under_block st is n forced =
     by_open (open_version (Number n) (record_now st (Number n))) refl

@@ -1,4 +1,4 @@
--- A carrier's queue rises by minute, id and attempt: no two of its downloads have one id and
+-- A carrier's queue ascends by minute, id and attempt: no two downloads have the same id and
 -- attempt.
 use Rattle.std.proofs.Common.{◌≡◌, ◌<◌, ◌≤◌, ◌⊎◌, ℕ, zero, suc, inl, inr, Bool, true, false, List, [], ◌∷◌, ◌++◌, length, Option, Some, None, refl, ap, sym, ◌∙◌, subst, arith}
 use Rattle.std.specs.Prelude.{⊤, ◌==◌, ◌&&◌, not, cond, find, option_and_then, flat_map, filter, map, take, if◌then◌else◌}
@@ -25,7 +25,7 @@ before_trans : (a b c : Download) → is_before a b ≡ true → is_before b c �
     → is_before a c ≡ true
 before_trans a b c p q = grind (arith, nat_tests)
 
--- not both
+-- Of two downloads, at most one is before the other.
 pub before_apart : (a b : Download) → is_before a b ≡ true → is_before b a ≡ true → ⊥
 before_apart a b p q = grind (arith, nat_tests)
 
@@ -77,7 +77,7 @@ inserted-rises d (e ∷ es) rises differs =
       later,
     )
 
--- ---- no id and attempt stand twice
+-- ---- no id and attempt occur twice
 
 abbrev pub Apart : List Download → Type 0
 Apart [] = ⊤
@@ -116,7 +116,7 @@ below_each n [] b below there = absurd there
 below_each n (x ∷ xs) b below (inl e) = subst (λ (y : Broadcast). y.attempt < n) (sym e) below.0
 below_each n (x ∷ xs) b below (inr there) = below_each n xs b below.1 there
 
--- those of one version
+-- The downloads of one version are apart.
 apart_sent : (test : Broadcast → Bool) (e : SubjectVersion) (bs : List Broadcast) → AreApart bs
     → Apart (map (download e) (filter test bs))
 apart_sent test e [] apart = tt
@@ -137,7 +137,7 @@ apart_sent test e (b ∷ bs) apart = by_cases (test b) (apart_sent test e bs apa
     by_cases true later = (other, later)
     by_cases false later = later
 
--- those of all versions, whose ids rise
+-- The downloads of all versions are apart, since ids ascend.
 listed_above : (at : Subject → Record) (from : ℕ) (ss : List Subject) (e : SubjectVersion)
     → Among e (versions_made at from ss) → from ≤ e.version.id
 listed_above at from [] e there = absurd there
@@ -189,7 +189,7 @@ apart_listed at test from (s ∷ ss) apart =
         let its : y.id ≡ second.0.version.id = ap (λ (d : Download). d.id) told.2 in
         absurd (omega (arith, id, above, its, same.0)))
 
--- the queue rises
+-- The queue ascends.
 pub queue_rises : (st : State) → HasHistory st → (c : ℕ)
     → IsQueueSorted (queue st c)
 unfolding queue
@@ -200,9 +200,9 @@ queue_rises st is c =
     let found = listed-from (record_now st) 1 (made_now st) e there in
     (version_now tended_kept st is e.subject found.0 e.version found.1).apart))
 
--- ---- what stands in it
+-- ---- the downloads in a queue
 
--- a broadcast is found by its attempt
+-- A broadcast is found by its attempt.
 pub found_by_attempt : (bs : List Broadcast) (b : Broadcast) → AreApart bs → Among b bs
     → find (λ x. x.attempt == b.attempt) bs ≡ Some b
 found_by_attempt [] b apart there = absurd there
@@ -217,8 +217,8 @@ found_by_attempt (x ∷ xs) b apart (inr there) =
     ap (λ k. cond k (Some x) (find (λ y. y.attempt == b.attempt) xs)) differs
     ∙ found_by_attempt xs b apart.1 there
 
--- a broadcast waits for a carrier that it was sent to and that has not acknowledged it, unless it
--- is withdrawn
+-- A broadcast is pending for a carrier that it was sent to and that has not acknowledged it, unless
+-- it is withdrawn.
 waits_is : (c : ℕ) (b : Broadcast)
     → is_among c (waiters b)
     ≡ (not (is_withdrawn b) && (not (is_among c b.acknowledged) && is_among c b.recipients))
@@ -258,7 +258,7 @@ module _ (st : State) (is : HasHistory st) (c : ℕ) where
         missing = parts.2;
       }
 
-  -- the version that is found by an id stands in its subject's record
+  -- The version that is found by an id is in its subject's record.
   version_stands : (id : ℕ) (e : SubjectVersion) → version_of_id st id ≡ Some e
       → version_with id (record_now st e.subject) ≡ Some e.version
   version_stands id e found = by_cases (subject_of_id id 1 (made_now st)) found
@@ -299,9 +299,10 @@ queue_is_what_waits st is c = (
   (λ d sent. contained (queue st c) d (sent_queued st is.history c d sent)),
 )
 
--- ---- the front of a queue
+-- ---- the first downloads of a queue
 
--- a rising list that is the front of a queue, so many or all
+-- An ascending part of a queue that all its other downloads follow is the queue's first `many`
+-- downloads, or all of them.
 pub front_is : (many : ℕ) (xs qs : List Download) → IsQueueSorted xs → IsQueueSorted qs
     → ((x : Download) → Among x xs → Among x qs) →
     ((q : Download) → Among q qs → Among q xs ⊎ ((length xs ≡ many) × ((x : Download) → Among x xs

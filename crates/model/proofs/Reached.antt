@@ -18,7 +18,7 @@ use Rattle.model.proofs.Recipients.{IsKnown, known_kept}
 use Rattle.model.proofs.Rooms.{HasRoom, room_kept}
 use Rattle.model.proofs.Begun.{HasBegun, begun_kept}
 
--- what one judging keeps, all of them keep
+-- What judging one minute keeps, judging all of them keeps.
 each_minute : (P : Record → Type 0) (w : WindowSet) → ((j : ℕ) (r : Record) → P r → P (judge w j r))
     → (minutes : List ℕ) (r : Record) → P r → P (judged_at w minutes r)
 each_minute P w step [] r is = is
@@ -38,7 +38,7 @@ judge-carriers w j r = refl
 
 module _ (w : Windows) (present : WindowSet) (s : Subject) (r : Record)
     (reached : IsReachableRecord w present s r) where
-  -- each id was given once
+  -- Each id was given only once.
   pub reached_given : AreGiven (subjects_made w reached.entries) s r.versions
   reached_given =
       reached_as (λ (x : Record). AreGiven (subjects_made w reached.entries) s x.versions) w
@@ -46,7 +46,7 @@ module _ (w : Windows) (present : WindowSet) (s : Subject) (r : Record)
       (λ j x given. judge-given (subjects_made w reached.entries) s present j x given)
       (replay-sound w s reached.entries reached.until reached.are_entries).1
 
-  -- what each move keeps, every version has
+  -- Every version has what each move keeps.
   version_has : (P : List ℕ → Version → Type 0) → ((x : WindowSet) → MovesKeep x (λ m. P))
       → (id : ℕ) (v : Version) → version_with id r ≡ Some v → P r.carriers v
   version_has P keeps id v found =
@@ -55,7 +55,7 @@ module _ (w : Windows) (present : WindowSet) (s : Subject) (r : Record)
       (λ j x all. judge_kept (keeps present) j x all)
       (versions_kept keeps w s reached.entries reached.until reached.are_entries)) found
 
-  -- of one version
+  -- The same of one version.
   pub version_tended : (id : ℕ) (v : Version) → version_with id r ≡ Some v → IsTended r.carriers v
   version_tended = version_has IsTended tended_kept
 

@@ -1,5 +1,4 @@
--- In every record the recipients of a broadcast, and those who acknowledged it, are registered
--- carriers.
+-- In every record the recipients of a broadcast, and those that acknowledged it, are registered.
 use Rattle.std.proofs.Common.{◌≡◌, ℕ, Bool, true, false, ◌||◌, List, [], ◌∷◌, map, Option, Some, None, refl, sym, ◌∙◌, subst, arith}
 use Rattle.std.specs.Prelude.{◌==◌, find, option_and_then, if◌then◌else◌}
 use Rattle.std.specs.List.{AllByRecursion}
@@ -24,7 +23,7 @@ use Rattle.model.specs.Windows.{WindowSet}
 
 -- ---- broadcasts
 
--- everybody to whom it was sent and everybody who acknowledged it is one of these
+-- Holds if the recipients of a broadcast, and those that acknowledged it, are among these carriers.
 pub record AreKnown (cs : List ℕ) (b : Broadcast) : Type 0 where
   pub recipients : (k : ℕ) → is_among k b.recipients ≡ true → is_among k cs ≡ true
   pub acknowledged : (k : ℕ) → is_among k b.acknowledged ≡ true → is_among k cs ≡ true
@@ -49,7 +48,7 @@ module _ (w : WindowSet) (cs : List ℕ) where
   sent_known action minute v known =
       (record { recipients = λ k e. e; acknowledged = λ k e. cc }, known)
 
-  -- who acknowledges is one of them
+  -- The carrier that acknowledges is one of them.
   answered_known : (c attempt : ℕ) → is_among c cs ≡ true → (bs : List Broadcast) → AllKnown cs bs
       → AllKnown cs (map (acknowledged_broadcast c attempt) bs)
   answered_known c attempt carrier [] known = tt
@@ -103,7 +102,7 @@ module _ (w : WindowSet) (cs : List ℕ) where
         acknowledged = λ k e. kept k (known.0.acknowledged k e);
       }
 
--- every move keeps it
+-- Every move keeps it.
 pub known_kept : (w : WindowSet) → MovesKeep w (λ m cs v. IsKnown cs v)
 known_kept w = sends_kept (record {
   later = λ m n cs attempt bs up is. is;
@@ -114,7 +113,7 @@ known_kept w = sends_kept (record {
   answers = λ c attempt m cs last bs among. answered_known w cs c attempt among bs;
 })
 
--- the recipients of a broadcast, and those who acknowledged it, are carriers
+-- The recipients of a broadcast, and those that acknowledged it, are registered carriers.
 pub broadcast_known : (st : State) → HasHistory st
     → (s : Subject) (id attempt : ℕ) (b : Broadcast) → broadcast_with id attempt (record_now st s)
     ≡ Some b → AreKnown (carriers st.history) b

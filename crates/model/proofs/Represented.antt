@@ -16,7 +16,7 @@ use Rattle.model.proofs.Settling.{fired_at_deadline, caught_up-quiet}
 
 -- ---- the first state
 
--- a store in which nothing was written represents the first state
+-- The empty content represents the first state.
 pub empty-represents : (w : Windows) → AreWindows w → Represents empty_content (first_state w)
 unfolding replay_of judged_for judge
 empty-represents w windows = record {
@@ -48,7 +48,7 @@ empty-represents w windows = record {
   };
 }
 
--- the record as it is now is the machine's
+-- The record as it is now is reachable.
 pub reached_now : (st : State) → HasHistory st → (s : Subject)
     → IsReachableRecord st.windows (set_now st) s (record_now st s)
 reached_now st is s = record {
@@ -70,7 +70,7 @@ same_rows_show s old new r same shows = record {
       ∙ shows.waits carrier minute id attempt;
 }
 
--- a subject whose rows are not changed lags as before
+-- A subject whose rows are not changed lags as before.
 pub same_rows_lag : (w : Windows) (present : WindowSet) (now : ℕ) (s : Subject) (old new : Content)
     (r : Record) → SameRows s old new → RowsCatchUp w present old now s r
     → RowsCatchUp w present new now s r
@@ -81,7 +81,7 @@ same_rows_lag w present now s old new r same lags = record {
   catches_up = lags.catches_up;
 }
 
--- rows that are judged at their deadline alone keep their meaning
+-- Rows that are judged only at their deadline keep their meaning.
 pub fired_lag : (w : Windows) (present : WindowSet) (now : ℕ) (s : Subject) (old new : Content)
     (r : Record) (d : ℕ) → AreWindows present.windows → d ≤ now
     → (lags : RowsCatchUp w present old now s r) →
@@ -100,7 +100,7 @@ fired_lag w present now s old new r d windows before lags quiet shows = record {
   catches_up = fired_at_deadline present windows d now lags.kept before quiet ∙ lags.catches_up;
 }
 
--- rows in which nothing is over show the record as it is now
+-- Rows whose timers have not expired match the record as it is now.
 pub settled_shows : (w : Windows) (present : WindowSet) (c : Content) (now : ℕ) (s : Subject)
     (r : Record) → (lags : RowsCatchUp w present c now s r) → IsQuiet now lags.kept.versions
     → RowsMatch c s r

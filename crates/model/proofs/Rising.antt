@@ -1,4 +1,4 @@
--- Numbers each once, rising: one more of them, and lists of the same numbers.
+-- Ascending numbers without duplicates: adding one, and lists of the same numbers.
 use Rattle.std.proofs.Common.{◌≡◌, ℕ, ◌≤◌, ◌<◌, Bool, true, false, cond, ◌&&◌, ◌||◌, List, [], ◌∷◌, map, Option, Some, None, refl, ap, sym, ◌∙◌, subst, arith}
 use Rattle.std.specs.Prelude.{⊤, ◌==◌, nat_lt, filter, T, if◌then◌else◌}
 use Rattle.std.specs.FinMap.Entries.{is_sorted, below_all}
@@ -44,7 +44,7 @@ with_number-nonempty c (d ∷ ds) = by_cases (nat_lt c d) (c == d)
     by_cases false true = refl
     by_cases false false = refl
 
--- those that pass a test are still some where one is added
+-- If some numbers pass a test, some still do with one more.
 pub joined-some : (test : ℕ → Bool) (c : ℕ) (xs : List ℕ) → is_empty (filter test xs) ≡ false
     → is_empty (filter test (with_number c xs)) ≡ false
 joined-some test c [] some = cc
@@ -72,7 +72,7 @@ joined-some test c (d ∷ ds) some =
     by_cases later false true = some
     by_cases later false false = more later (test d) some
 
--- ---- rising lists of the same numbers
+-- ---- ascending lists of the same numbers
 
 abbrev pub AreAbove : ℕ → List ℕ → Type 0
 AreAbove k [] = ⊤

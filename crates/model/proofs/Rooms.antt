@@ -1,5 +1,5 @@
--- In every record the attempts of each version are below the limit, and a version that is planned
--- to disconnect has one left.
+-- In every record the attempts of each version are below the limit, and a version with a planned
+-- disconnect has one left.
 use Rattle.std.proofs.Common.{◌≡◌, ℕ, ◌+◌, ◌<◌, true, false, refl, sym, ◌∙◌, arith}
 use Rattle.model.specs.Statuses.{Send}
 use Rattle.model.specs.Statuses.{Create, Delete, Modify}
@@ -18,7 +18,7 @@ HasRoomAs attempt status = (attempt < limit) × (is_planned status ≡ true → 
 abbrev pub HasRoom : Version → Type 0
 HasRoom v = HasRoomAs v.attempt v.status
 
--- in a status that plans nothing
+-- It holds in a status that plans nothing.
 at_rest : (attempt : ℕ) (status : Status) → is_planned status ≡ false → attempt < limit
     → HasRoomAs attempt status
 at_rest attempt status none below = (
@@ -34,7 +34,7 @@ closed_rests Create _ = refl
 closed_rests Delete _ = refl
 closed_rests (Modify routing) _ = refl
 
--- every move keeps it
+-- Every move keeps it.
 pub room_kept : (w : WindowSet) → MovesKeep w (λ m cs v. HasRoom v)
 room_kept w = record {
   later = λ m n cs v up is. is;

@@ -13,7 +13,7 @@ use Rattle.model.proofs.Lists.{found-among, found_has}
 use Rattle.model.proofs.KeptVersions.{versions_kept}
 use Rattle.model.specs.Windows.{WindowSet}
 
--- a version of this status is or was in force, or is or was sent
+-- Whether a version with this status is or was in force, or is or was sent.
 abbrev pub needs_routing : Status → Bool
 needs_routing (Sending action) = true
 needs_routing Active = true
@@ -22,7 +22,8 @@ needs_routing Failed = true
 needs_routing (DisconnectPending release) = true
 needs_routing _ = false
 
--- the new provider's create brought a routing, and a status that needs one has one
+-- Holds if a version with the new provider's create, or with a status that needs a routing, has
+-- one.
 abbrev pub IsRoutedAs : Option ℕ → Option Routing → Status → Type 0
 IsRoutedAs new_at routing status = (is_some new_at ≡ true → is_some routing ≡ true)
     × (needs_routing status ≡ true → is_some routing ≡ true)
@@ -30,12 +31,13 @@ IsRoutedAs new_at routing status = (is_some new_at ≡ true → is_some routing 
 abbrev pub IsRouted : Version → Type 0
 IsRouted v = IsRoutedAs v.new_at v.routing v.status
 
--- one that has a routing may enter any status
+-- A version with a routing may enter any status.
 routed_as : (v : Version) (status : Status) → is_some v.routing ≡ true
     → IsRoutedAs v.new_at v.routing status
 routed_as v status is = (λ made. is, λ needs. is)
 
--- a pending one has the new provider's create, and a failed one was sent
+-- A version that is activated has a routing: it failed, or is pending with the new provider's
+-- create.
 activated_routed : (v : Version) → (v.status ≡ Failed)
     ⊎ ((v.status ≡ Pending) × (is_some v.new_at ≡ true)) → IsRouted v → is_some v.routing ≡ true
 activated_routed v (inl failed) is = is.1 (ap needs_routing failed)
@@ -52,7 +54,7 @@ force_needs (DisconnectPending release) now = refl
 force_needs (Sending action) now = refl
 force_needs _ now = cc
 
--- what closes has a routing then too
+-- A version has a routing after its broadcast closed.
 closed_routed : (action : Send) (outcome : Outcome) (routing : Option Routing)
     → is_some routing ≡ true → is_some (routing_after action outcome routing) ≡ true
 closed_routed Create outcome routing is = is
@@ -69,7 +71,7 @@ closed_as v action outcome is = (
   λ needs. closed_routed action outcome v.routing is,
 )
 
--- every move keeps it
+-- Every move keeps it.
 pub routed_kept : (w : WindowSet) → MovesKeep w (λ m cs v. IsRouted v)
 routed_kept w = record {
   later = λ m n cs v up is. is;

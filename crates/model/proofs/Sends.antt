@@ -1,5 +1,5 @@
--- What every move keeps, where it speaks of a version's attempts and broadcasts alone: such a
--- property is kept wherever sending, closing, acknowledging and joining keep it.
+-- A property of only the attempts and broadcasts of a version is kept by every move if sending,
+-- closing, acknowledging and registering keep it.
 use Rattle.std.proofs.Common.{◌≡◌, ℕ, ◌+◌, ◌≤◌, true, List, [], ◌∷◌, map, Some}
 use Rattle.model.specs.Statuses.{Send, Create, Delete, Modify}
 use Rattle.model.specs.declared.words.Outcome.{Outcome}
@@ -10,7 +10,7 @@ use Rattle.model.specs.Changes.{outcome_at_end, next_attempt, on_newest, acknowl
 use Rattle.model.specs.History.{blank_version}
 use Rattle.model.proofs.Moves.{MovesKeep}
 
--- the end of a window closes
+-- The end of a window closes the broadcast.
 pub end_closes : (bs : List Broadcast) → outcome_at_end bs ≡ Open → ⊥
 end_closes [] is = cc
 end_closes (b ∷ bs) is = by_cases b.acknowledged is
@@ -19,7 +19,8 @@ end_closes (b ∷ bs) is = by_cases b.acknowledged is
     by_cases [] e = cc
     by_cases (c ∷ cs) e = cc
 
--- P: of a minute, the carriers that there are, a number of attempts and the broadcasts
+-- Holds if P is kept as time passes, and by registering, sending, closing and acknowledging. P is
+-- of a minute, the registered carriers, an attempt and the broadcasts.
 pub record SendsKeep (w : WindowSet) (P : ℕ → List ℕ → ℕ → List Broadcast → Type 0) : Type 0 where
   pub later : (m n : ℕ) (cs : List ℕ) (attempt : ℕ) (bs : List Broadcast) → m ≤ n
       → P m cs attempt bs → P n cs attempt bs

@@ -1,4 +1,4 @@
--- Commands on a block leave who serves the numbers that are in use.
+-- Commands on a block keep the service of the numbers in use.
 use Rattle.std.proofs.Common.{◌≡◌, ◌/◌, ℕ, suc, Bool, true, false, cond, ◌||◌, List, [], ◌∷◌, Option, Some, None, refl, ap, sym, ◌∙◌, subst, arith}
 use Rattle.std.specs.Prelude.{if◌then◌else◌, find, filter, is_none, is_some}
 use Rattle.std.specs.List.{list_any}
@@ -23,9 +23,9 @@ use Rattle.model.proofs.Lists.{everywhere}
 use Rattle.model.proofs.Minutes.{changed_at-same}
 use Rattle.numbers.proofs.Small.{denied, equal_number}
 
--- ---- what is held
+-- ---- numbers that keep their carrier
 
--- the state after an accepted request
+-- The state after an accepted request.
 pub accepted_next : (st : State) (caller : ℕ) (request : Request)
     → refusal st (RequestFrom caller request) ≡ None
     → next st (RequestFrom caller request) ≡ accepted st (RequestFrom caller request)
@@ -35,7 +35,7 @@ accepted_next st caller request none = rw none
 abbrev by : Option Version → Option Version → Server → Server
 by f o other = elim f [ Some v ↦ ByVersion v.new_provider | None ↦ protected_by o other ]
 
--- a number with a version in force, or with a protective one that is open, is served by that
+-- A number with a version in force, or with a protective open one, is served by that version.
 held_service : (old new : State) (n : ℕ) → is_retained old n ≡ true
     → record_now new (Number n) ≡ record_now old (Number n) → KeepsService old new n
 held_service old new n held same = in_force_or (version_in_force (record_now old (Number n))) refl
@@ -136,7 +136,7 @@ module _ (st : State) (is : IsReachable st) (caller block : ℕ) (used : List �
   abbrev ids_from : ℕ
   ids_from = next_of st
 
-  -- the record of a number that gets no version
+  -- The record of a number that gets no version stays.
   left_alone : (n : ℕ)
       → id_among (Number n) ids_from (subjects_made_by (CommandRequest (Donate block used lrn cic))
       (record_now st))
@@ -150,7 +150,7 @@ module _ (st : State) (is : IsReachable st) (caller block : ℕ) (used : List �
       }) (donor_of 0 st.history) (replay_of st.windows st.history) (Number n) st.now refl unmade
       ∙ judged-now (set_now st) st.now (record_now st (Number n))
 
-  -- the version of a number that gets one stands in front
+  -- The version that a number gets, which comes before its others.
   abbrev protective : ℕ → ℕ → Version
   protective id n = made_version (set_now st) id caller st.now (record_now st (Number n)).carriers
       (donor_of 0 st.history) (CommandRequest (Donate block used lrn cic))
@@ -182,7 +182,7 @@ module _ (st : State) (is : IsReachable st) (caller block : ℕ) (used : List �
       (record_now st (Number n)).versions
       (everywhere (λ v. refl) (record_now st (Number n)).versions))
 
-  -- so the donor serves it, as it did by its code
+  -- So the donor serves the number, as it did by its code.
   by_donor : (n id : ℕ)
       → id_among (Number n) ids_from (subjects_made_by (CommandRequest (Donate block used lrn cic))
       (record_now st))
@@ -255,7 +255,7 @@ module _ (st : State) (is : IsReachable st) (caller block : ℕ) (used : List �
       ten : (m b : ℕ) → m / 1000 ≡ b → m / 10000 ≡ b / 10
       ten m b e = omega arith
 
-  -- a used number without a version in force gets one
+  -- A used number without a version in force gets one.
   gets_one : (n from : ℕ) (test : Subject → Bool) (ss : List Subject)
       → list_any (subject_eq (Number n)) ss ≡ true → test (Number n) ≡ true
       → (id : ℕ) × (id_among (Number n) from (filter test ss) ≡ Some id)
@@ -285,7 +285,7 @@ module _ (st : State) (is : IsReachable st) (caller block : ℕ) (used : List �
           )
       by_cases later false e false f g = later from g
 
-  -- a number in force gets none
+  -- A number with a version in force gets none.
   gets_none : (n from : ℕ) (test : Subject → Bool) (ss : List Subject) → test (Number n) ≡ false
       → id_among (Number n) from (filter test ss) ≡ None
   gets_none n from test [] fails = refl

@@ -1,5 +1,5 @@
--- The sets of windows of a history: each is at least a minute long, each number is one set's, and
--- every version holds one of them.
+-- The sets of windows of a history: each window is at least a minute, each number is one set's, and
+-- every version holds one of the sets.
 use Rattle.std.proofs.Common.{◌≡◌, ℕ, ◌+◌, ◌≤◌, Bool, true, false, List, [], ◌∷◌, Option, Some, None, refl, ap, ◌∙◌, arith}
 use Rattle.std.specs.Prelude.{◌==◌, if◌then◌else◌}
 use Rattle.std.specs.List.{AllByRecursion}
@@ -32,11 +32,11 @@ present-are w (e ∷ h) now are is =
 
 -- ---- numbers
 
--- the set is that of its number
+-- Holds if the set is the one with its number.
 abbrev pub IsSetOf : Windows → List Entry → WindowSet → Type 0
 IsSetOf w h set = set_of_number set.number w h ≡ Some set
 
--- a set's number is not above the present one's
+-- A set's number is not above the present one's.
 set-below : (w : Windows) (h : List Entry) (number : ℕ) (set : WindowSet)
     → set_of_number number w h ≡ Some set → number ≤ (present_set w h).number
 set-below w [] number set is = by_cases (1 == number) refl is
@@ -60,7 +60,7 @@ set-below w (e ∷ h) number set is = by_cases (set-below w h number set) (windo
         new true g f = grind (arith, nat_tests)
         new false g f = let below : number ≤ (present_set w h).number = before f in omega arith
 
--- a set stays that of its number
+-- A set stays the one with its number.
 pub set-stays : (w : Windows) (e : Entry) (h : List Entry) (set : WindowSet) → IsSetOf w h set
     → IsSetOf w (e ∷ h) set
 set-stays w e h set is = by_cases (windows_named e.request)
@@ -75,7 +75,7 @@ set-stays w e h set is = by_cases (windows_named e.request)
     by_cases (Some windows) = ap (λ b. if b then Some (set_added (Some windows) (present_set w h))
         else set_of_number set.number w h) (apart (set-below w h set.number set is)) ∙ is
 
--- and so is the present one
+-- The present set is the one with its number.
 pub present-is : (w : Windows) (h : List Entry) → IsSetOf w h (present_set w h)
 present-is w [] = refl
 present-is w (e ∷ h) = by_cases (present-is w h) (windows_named e.request)
@@ -90,9 +90,9 @@ present-is w (e ∷ h) = by_cases (present-is w h) (windows_named e.request)
         else set_of_number ((present_set w h).number + 1) w h)
         (same_number ((present_set w h).number + 1))
 
--- ---- what a version holds
+-- ---- the set that a version holds
 
--- what holds of the present set, and of the set that a version holds, every move keeps
+-- What holds of the present set and of the set that a version holds, every move keeps.
 held_kept : (w : WindowSet) (K : WindowSet → Type 0) → K w → MovesKeep w (λ m cs v. K v.held)
 held_kept w K now = record {
   later = λ m n cs v up is. is;
@@ -119,7 +119,7 @@ held_kept w K now = record {
   whole = λ c attempt m cs v may is. now;
 }
 
--- every version of every record holds a set of the history
+-- Every version of every record holds a set of the history.
 pub versions_hold : (w : Windows) (s : Subject) (h : List Entry) (m : ℕ) → IsHistory w h m
     → AllByRecursion (λ v. IsSetOf w h v.held) (replay w s h m).versions
 versions_hold w s =
@@ -133,7 +133,7 @@ versions_hold w s =
           (held_kept (present_set w h) (IsSetOf w h) (present-is w h)) e is all);
     })
 
--- the set that a version holds is that of its number
+-- The set that a version holds is the one with its number.
 pub held-is : (st : State) → HasHistory st
     → (s : Subject) (id : ℕ) (v : Version) → version_with id (record_now st s) ≡ Some v
     → IsSetOf st.windows st.history v.held

@@ -1,4 +1,4 @@
--- Windows that are set change no record, and no rows where everything that was due is settled.
+-- Setting windows changes no record, and no rows if everything that was due is settled.
 use Rattle.std.proofs.Common.{◌≡◌, ◌≤◌, ℕ, List, ◌∷◌, None, refl, sym, subst, arith}
 use Rattle.numbers.specs.Subjects.{Subject}
 use Rattle.model.specs.Commands.{SetWindows}
@@ -14,7 +14,7 @@ use Rattle.model.proofs.Entered.{entered-elsewhere, next_id-same}
 use Rattle.model.proofs.Represented.{reached_now}
 use Rattle.model.proofs.Settling.{caught_up-quiet}
 
--- the state after
+-- The state after windows are set.
 abbrev pub after_windows : State → ℕ → Windows → State
 after_windows st caller windows =
     accepted st (RequestFrom caller (CommandRequest (SetWindows windows)))
@@ -29,7 +29,7 @@ pub windows-next_id : (st : State) (caller : ℕ) (windows : Windows)
 windows-next_id st caller windows =
     next_id-same st caller (CommandRequest (SetWindows windows)) refl
 
--- every other entry leaves the sets
+-- Every other entry leaves the sets.
 pub sets-same : (w : Windows) (e : Entry) (h : List Entry) (number : ℕ)
     → windows_named e.request ≡ None → set_of_number number w (e ∷ h) ≡ set_of_number number w h
 sets-same w e h number none = rw none refl
@@ -46,7 +46,7 @@ windows-history st caller windows are is ok = (
   is,
 )
 
--- rows that show a subject's record, of which nothing is over, lag behind it under the new set too
+-- Rows that match a subject's quiet record catch up with it under the new set too.
 pub windows-lag : (st : State) (caller : ℕ) (windows : Windows) → AreWindows windows
     → HasHistory st →
     refusal st (RequestFrom caller (CommandRequest (SetWindows windows))) ≡ None

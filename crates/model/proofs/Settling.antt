@@ -1,5 +1,5 @@
--- After a minute is judged nothing is over at it, and so a version may be judged at its deadline
--- alone.
+-- After a minute is judged, no timer has expired at it, so a version may be judged only at its
+-- deadline.
 use Rattle.std.proofs.Common.{◌≡◌, ℕ, zero, suc, ◌≤◌, ◌<◌, Bool, true, false, not, ◌&&◌, List, [], ◌∷◌, map, refl, ap, sym, ◌∙◌, arith}
 use Rattle.std.specs.Prelude.{if◌then◌else◌}
 use Rattle.std.proofs.lemmas.Bool.Decides.{nat_tests}
@@ -14,7 +14,7 @@ use Rattle.model.specs.Judge.{is_expired, version_on_expiry, judged_version, jud
 use Rattle.model.specs.Laws.{IsQuiet}
 use Rattle.model.proofs.Minutes.{judged-trans, judged-quiet, judged-at_end, judge-quiet, IsQuiet-before}
 
--- what has just begun has no age
+-- A window that has just begun has not ended.
 pub newborn : (window j : ℕ) → 1 ≤ window → has_age window j j ≡ false
 newborn window j positive = grind (arith, nat_tests)
 
@@ -53,7 +53,7 @@ closed_is_quiet j v (Modify routing) (b ∷ bs) = by_cases b.acknowledged
     by_cases [] = refl
     by_cases (c ∷ cs) = refl
 
--- what a status ends in does not end at the same minute
+-- The status that another one ends in does not end at the same minute.
 ended_is_quiet : (w : WindowSet) → AreWindows w.windows
     → (all_carriers : List ℕ) (j : ℕ) (v : Version) (status : Status) → is_expired j v status ≡ true
     →
@@ -105,7 +105,7 @@ changed_at-is_quiet w j change each (v ∷ vs) = (
       (changed_at-is_quiet w j change each vs),
 )
 
--- after a minute is judged nothing is over at it
+-- After a minute is judged, no timer has expired at it.
 pub judge-is_quiet : (w : WindowSet) → AreWindows w.windows → (j : ℕ) (r : Record)
     → IsQuiet j (judge w j r).versions
 unfolding judge
@@ -113,8 +113,7 @@ judge-is_quiet w windows j r =
     changed_at-is_quiet w j (judged_version w r.carriers j) (judged_version-is_quiet w windows
     r.carriers j) r.versions
 
--- where nothing is over before d, to judge d alone changes nothing of what the record is at a later
--- minute
+-- If no timer expires before d, judging only d first does not change the record of a later minute.
 pub judge-at_deadline : (w : WindowSet) → AreWindows w.windows → (d now : ℕ) (r : Record)
     → suc d ≤ now → IsQuiet d r.versions →
     judged w 0 now (judge w (suc d) r) ≡ judged w 0 now r
@@ -125,12 +124,12 @@ judge-at_deadline w windows d now r before quiet =
     ∙ sym (judged-at_end w 0 d r (omega arith) quiet))
     ∙ judged-trans w 0 (suc d) now r (omega arith) before
 
--- to judge a minute twice is to judge it once
+-- Judging a minute twice is judging it once.
 judge-twice : (w : WindowSet) → AreWindows w.windows → (j : ℕ) (r : Record)
     → judge w j (judge w j r) ≡ judge w j r
 judge-twice w windows j r = judge-quiet w j (judge w j r) (judge-is_quiet w windows j r)
 
--- the same, with the minute 0 among those that are judged
+-- The same, with minute 0 among those that are judged.
 pub fired_at_deadline : (w : WindowSet) → AreWindows w.windows → (d now : ℕ) (r : Record) → d ≤ now
     → ((j : ℕ) → j < d → IsQuiet j r.versions) →
     caught_up w now (judge w d r) ≡ caught_up w now r
@@ -145,7 +144,7 @@ fired_at_deadline w windows (suc d) now r before quiet =
     ∙ ap (judged w 0 now)
     (sym (judge-quiet w 0 r (IsQuiet-before 0 d r.versions (omega arith) still)))
 
--- where nothing is over now, nothing was over before
+-- If no timer has expired now, none had before.
 pub caught_up-quiet : (w : WindowSet) (now : ℕ) (r : Record) → IsQuiet now r.versions
     → caught_up w now r ≡ r
 caught_up-quiet w now r quiet =

@@ -1,4 +1,4 @@
--- What rows say of a state in which nothing is due.
+-- What rows say of a state if nothing is due.
 use Rattle.std.proofs.Common.{◌≡◌, ℕ, false, not, List, [], ◌∷◌, Option, Some, None, refl, ap, sym, ◌∙◌}
 use Rattle.std.specs.Prelude.{◌==◌, find, filter, option_map, option_and_then, if◌then◌else◌}
 use Rattle.std.specs.FinMap.{get}
@@ -15,18 +15,18 @@ use Rattle.model.proofs.Entered.{subject_eq-refl}
 
 -- ---- a row of a subject
 
--- all to whom it was sent wait, while nobody has acknowledged
+-- The broadcast is pending for all its recipients while nobody has acknowledged.
 pub all_wait : (cs : List ℕ) → filter (λ c. not (is_among c [])) cs ≡ cs
 all_wait [] = refl
 all_wait (c ∷ cs) = ap (λ xs. c ∷ xs) (all_wait cs)
 
--- a version that is found by an id has it
+-- A version that is found by an id has that id.
 pub id_found : (id : ℕ) (vs : List Version) (v : Version) → find (λ u. u.id == id) vs ≡ Some v
     → v.id ≡ id
 id_found id vs v found =
     equal_number v.id id (found-among (λ (u : Version). u.id == id) vs v found).1
 
--- a row of the subject, and of another
+-- A row of the subject, and a row of another.
 pub own : {R : Type 0} (s : Subject) (subject : R → Subject) (r : R) → subject r ≡ s
     → of_subject s subject (Some r) ≡ Some r
 own s subject r e = ap (λ t. if subject_eq t s then Some r else None) e ∙ ap (λ b. if b then Some r
@@ -43,7 +43,7 @@ pub none_mapped : {A B : Type 0} (f : A → B) (o : Option A) → option_map f o
 none_mapped f None e = refl
 none_mapped f (Some x) e = cc
 
--- where no row has the id, no version has it
+-- If no row has the id, no version has it.
 pub no_row : (st : State) (c : Content) (id : ℕ) → NothingIsDue c st → get c.versions id ≡ None
     → version_of_id st id ≡ None
 no_row st c id due none = by_cases (subject_of_id id 1 (made_now st))
@@ -58,7 +58,7 @@ no_row st c id due none = by_cases (subject_of_id id 1 (made_now st))
     by_cases None = refl
     by_cases (Some s) = ap (of_its_subject s) (gone s)
 
--- where a version has the broadcasts that it had
+-- A version with the broadcasts that it had gives the same broadcast.
 pub same_broadcast_with : (r after : Record) (k : ℕ)
     → option_map (λ (u : Version). u.broadcasts) (version_with k after)
     ≡ option_map (λ (u : Version). u.broadcasts) (version_with k r) →

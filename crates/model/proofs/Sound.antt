@@ -1,5 +1,5 @@
--- Every state that a run reaches is sound: each subject has at most one version in force and at
--- most one open.
+-- Every reachable state is sound: each subject has at most one version in force and at most one
+-- open.
 use Rattle.std.proofs.Common.{◌≡◌, ℕ, suc, ◌≤◌, Bool, true, false, ◌&&◌, List, ◌∷◌, ◌++◌, map, Option, Some, None, refl, ap, ◌∙◌}
 use Rattle.std.specs.Prelude.{if◌then◌else◌, ◌==◌}
 use Rattle.numbers.specs.Subjects.{subject_eq, Subject, Number, Block}
@@ -30,7 +30,7 @@ use Rattle.model.proofs.Donated.{donate-room}
 
 -- ---- what stays of each version
 
--- the version keeps its id, and stays protective or not
+-- Holds if the version keeps its id, and whether it is protective.
 pub record IsSame (u v : Version) : Type 0 where
   pub id : u.id ≡ v.id
   pub protective : u.protective ≡ v.protective
@@ -154,7 +154,7 @@ judge-given made s w j r given =
 
 module _ (st : State) (s : Subject) (given : AreGiven (made_now st) s
     (record_now st s).versions) (sound : AreSound s (record_now st s).versions) where
-  -- the versions that are there stay sound
+  -- The existing versions stay sound.
   entry-sound : (caller : ℕ) (all_carriers : List ℕ) (request : Request)
       → refusal st (RequestFrom caller request) ≡ None →
       AreSound s (changed_at (set_now st) st.now (version_after_request (set_now st) s caller st.now
@@ -188,7 +188,7 @@ module _ (st : State) (s : Subject) (given : AreGiven (made_now st) s
       changed-sound_by_status (set_now st) s st.now _ _ (all_keep s (λ v. v) (λ v. refl)
       (record_now st s).versions) sound
 
-  -- and so does the new one in front of them
+  -- They stay sound with the new version before them.
   new-sound : (caller : ℕ) (all_carriers : List ℕ) (donor : Option ℕ) (first id : ℕ)
       (request : Request)
       → HasValues request → refusal st (RequestFrom caller request) ≡ None →
@@ -263,7 +263,7 @@ module _ (st : State) (s : Subject) (given : AreGiven (made_now st) s
       (everywhere (version_after_request-id (set_now st) s caller st.now all_carriers request)
       (record_now st s).versions) given
 
-  -- the versions after an entry, sound and with the ids that were given to s
+  -- The versions after an entry are sound, and have the ids that were given to s.
   entered : (caller : ℕ) (all_carriers : List ℕ) (donor : Option ℕ) (request : Request)
       → HasValues request → refusal st (RequestFrom caller request) ≡ None →
       (o : Option ℕ) → id_among s (next_of st)
@@ -327,7 +327,7 @@ module _ (w : Windows) (s : Subject) where
       (id_among s (next_after (subjects_made w h))
       (subjects_made_by e.request (λ t. replay w t h e.minute))) refl
 
-  -- a subject's record is sound, and its ids are those that were given to it
+  -- A subject's record is sound, and its ids are those that were given to it.
   pub replay-sound : (h : List Entry) (now : ℕ) → IsHistory w h now
       → SoundWith (subjects_made w h) (replay w s h now).versions
   replay-sound = kept w s (λ h m r. SoundWith (subjects_made w h) r.versions) (record {

@@ -1,5 +1,5 @@
--- In every record the broadcasts of a version have attempts of their own, the newest the version's,
--- and while the version sends or has partly failed somebody is missing in the newest.
+-- In every record a version's broadcasts have attempts of their own, the newest the version's.
+-- While the version sends or is a partial failure, some recipient is missing in the newest.
 use Rattle.std.proofs.Common.{◌≡◌, ℕ, ◌+◌, ◌<◌, Bool, true, false, not, List, [], ◌∷◌, map, Some, refl, ap, sym, ◌∙◌, subst, arith}
 use Rattle.std.specs.Prelude.{⊤, if◌then◌else◌}
 use Rattle.model.specs.Statuses.{Send}
@@ -24,7 +24,7 @@ abbrev pub AreBelow : ℕ → List Broadcast → Type 0
 AreBelow n [] = ⊤
 AreBelow n (b ∷ bs) = (b.attempt < n) × AreBelow n bs
 
--- each has an attempt above those before it
+-- Holds if each broadcast has an attempt above those of the older ones.
 abbrev pub AreApart : List Broadcast → Type 0
 AreApart [] = ⊤
 AreApart (b ∷ bs) = AreBelow b.attempt bs × AreApart bs
@@ -33,8 +33,8 @@ abbrev pub IsNewest : ℕ → List Broadcast → Type 0
 IsNewest attempt [] = ⊤
 IsNewest attempt (b ∷ bs) = b.attempt ≡ attempt
 
--- over the fields of a version that the changes touch. There are carriers, since a request made the
--- version
+-- The property, over the fields of a version that the changes touch. There are carriers, since a
+-- request made the version.
 pub record IsTendedAs (all_carriers : List ℕ) (attempt : ℕ) (status : Status)
     (bs : List Broadcast) : Type 0 where
   pub carriers : is_nonempty all_carriers ≡ true
@@ -45,7 +45,7 @@ pub record IsTendedAs (all_carriers : List ℕ) (attempt : ℕ) (status : Status
 abbrev pub IsTended : List ℕ → Version → Type 0
 IsTended all_carriers v = IsTendedAs all_carriers v.attempt v.status v.broadcasts
 
--- in a status that awaits no answers
+-- It holds in a status that awaits no acknowledgements.
 at_rest : (all_carriers : List ℕ) (attempt : ℕ) (old status : Status) (bs : List Broadcast)
     → awaits_answers status ≡ false → IsTendedAs all_carriers attempt old bs
     → IsTendedAs all_carriers attempt status bs
@@ -129,7 +129,7 @@ sent_tended w cs action m v is = record {
     some [] e = cc
     some (c ∷ ds) e = refl
 
--- one that has closed awaits no answers, or somebody is still missing
+-- A version whose broadcast closed awaits no acknowledgements, or somebody is still missing.
 closed_tended : (cs : List ℕ) (attempt : ℕ) (old status : Status) (outcome : Outcome)
     (bs : List Broadcast) → (awaits_answers status ≡ true → nobody_is_missing bs ≡ false) →
     IsTendedAs cs attempt old bs
@@ -146,7 +146,7 @@ all_rests Create = refl
 all_rests Delete = refl
 all_rests (Modify routing) = refl
 
--- an acknowledgement, whatever the status, where it awaits no answers or somebody is still missing
+-- An acknowledgement keeps it in any status that awaits none, or if somebody is still missing.
 answered_tended : (cs : List ℕ) (c attempt : ℕ) (status : Status) (v : Version)
     → (awaits_answers status ≡ true → nobody_is_missing (answered_by c attempt v).broadcasts
     ≡ false) →
@@ -172,7 +172,7 @@ joined_tended cs c v is = record {
 blank_tended : (cs : List ℕ) → is_nonempty cs ≡ true → IsTendedAs cs 0 Pending []
 blank_tended cs some = record { carriers = some; apart = tt; newest = tt; missing = λ awaits. cc }
 
--- every move keeps it
+-- Every move keeps it.
 pub tended_kept : (w : WindowSet) → MovesKeep w (λ m cs v. IsTended cs v)
 tended_kept w = record {
   later = λ m n cs v up is. is;

@@ -1,5 +1,5 @@
--- A subject has at most one version in force and at most one open, and an open one only beside none
--- or an active one.
+-- A subject has at most one version in force and at most one open. Beside an open one, the version
+-- in force is active.
 use Rattle.std.proofs.Common.{◌≡◌, ℕ, Bool, true, false, not, ◌&&◌, List, [], ◌∷◌, map, refl, ap, sym, ◌∙◌, subst}
 use Rattle.std.specs.Prelude.{⊤, if◌then◌else◌}
 use Rattle.std.specs.List.{AllByRecursion}
@@ -22,7 +22,7 @@ use Rattle.numbers.proofs.Small.{true-false, and_false}
 
 -- ---- what a change of each version may do
 
--- only an open version comes into force, and only an open one is open
+-- Holds if only an open version comes into force, and only an open one is open afterwards.
 pub record Respects (s : Subject) (old new : Version) : Type 0 where
   pub forces : is_open s old ≡ false → in_force new ≡ true → in_force old ≡ true
   pub opens : is_open s new ≡ true → is_open s old ≡ true
@@ -31,11 +31,11 @@ pub record Respects (s : Subject) (old new : Version) : Type 0 where
 abbrev pub RespectsEach : Subject → (Version → Version) → List Version → Type 0
 RespectsEach s change vs = AllByRecursion (λ v. Respects s v (change v)) vs
 
--- an active version stays active
+-- Holds if an active version stays active.
 abbrev pub KeepsActive : (Version → Version) → List Version → Type 0
 KeepsActive change vs = AllByRecursion (λ v. v.status ≡ Active → (change v).status ≡ Active) vs
 
--- beside an open version the active one stays active
+-- Holds if the active version beside an open one stays active.
 abbrev pub KeepsBeside : Subject → (Version → Version) → List Version → Type 0
 KeepsBeside s change [] = ⊤
 KeepsBeside s change (v ∷ vs) = is_open s v ≡ true → KeepsActive change vs
@@ -83,7 +83,7 @@ retired-all w minute (v ∷ vs) = (by_cases (in_force v) refl, retired-all w min
     by_cases true e = refl
     by_cases false e = e
 
--- ---- a change of the versions behind the newest
+-- ---- a change of the versions older than the newest
 
 not_opened : (s : Subject) (old new : Version) → Respects s old new → is_open s old ≡ false
     → is_open s new ≡ false
@@ -101,7 +101,7 @@ not_forced s old new r closed out = by_cases (in_force new) refl
     by_cases true e = true-false (in_force old) (r.forces closed e) out
     by_cases false e = refl
 
--- no closed version takes over
+-- No closed version supersedes another.
 no_takeover : (s : Subject) (old new : Version) → Respects s old new → is_open s old ≡ false
     → (not (in_force old) && in_force new) ≡ false
 no_takeover s old new r closed = by_cases (in_force old) refl
@@ -177,7 +177,7 @@ module _ (w : WindowSet) (s : Subject) (minute : ℕ) (change : Version → Vers
         changed-active vs each.1 keeps.1 closed.1 all.1,
       )
 
-  -- the newest one changed too: where it comes into force, each earlier one in force becomes old
+  -- If the newest version comes into force, each older one in force becomes old.
   one_after : (v : Version) (vs : List Version) → RespectsEach s change vs → NoneOpen s vs
       → OneInForce (v ∷ vs) → (b c : Bool) → in_force v ≡ b → in_force (change v) ≡ c →
       (c ≡ true → NoneInForce (map (retired w (not b && c) minute) (changed_at w minute change vs)))
@@ -196,7 +196,7 @@ module _ (w : WindowSet) (s : Subject) (minute : ℕ) (change : Version → Vers
         (retired-all w minute (changed_at w minute change vs)),
   )
 
-  -- what is sound stays so
+  -- A sound record stays sound.
   pub changed-sound : (vs : List Version) → RespectsEach s change vs → KeepsBeside s change vs
       → AreSound s vs → AreSound s (changed_at w minute change vs)
   changed-sound [] each beside sound = tt
@@ -224,7 +224,7 @@ module _ (w : WindowSet) (s : Subject) (minute : ℕ) (change : Version → Vers
 
 -- ---- minutes
 
--- a change from one status to another, by the statuses alone
+-- A permitted change from one status to another, by the statuses only.
 pub record StatusRespects (s : Subject) (old new : Status) : Type 0 where
   pub forces : open_by s old ≡ false → in_force_status new ≡ true → in_force_status old ≡ true
   pub opens : open_by s new ≡ true → open_by s old ≡ true
@@ -239,7 +239,7 @@ keeps s status = record {
   block = λ is ok. ok;
 }
 
--- to a status that is neither open nor in force
+-- A change to a status that is neither open nor in force is permitted.
 pub leaves : (s : Subject) (old new : Status) → open_by s new ≡ false → in_force_status new ≡ false
     → (old ≡ Active → ⊥) → (is_block s ≡ true → block_status old ≡ true → block_status new ≡ true)
     → StatusRespects s old new
@@ -357,7 +357,7 @@ judged_version-respects s w all_carriers j v = by_cases (is_expired j v v.status
     by_cases true = version_on_expiry-respects w s all_carriers j v v.status refl
     by_cases false = keeps s v.status
 
--- ---- changes that go by the status alone
+-- ---- changes that go by the status only
 
 abbrev pub StatusesRespect : Subject → (Version → Version) → List Version → Type 0
 StatusesRespect s change vs = AllByRecursion (λ v. StatusRespects s v.status (change v).status) vs
@@ -387,7 +387,7 @@ judged_respect : (s : Subject) (w : WindowSet) (all_carriers : List ℕ) (j : �
 judged_respect s w all_carriers j vs =
     everywhere (λ v. judged_version-respects s w all_carriers j v) vs
 
--- minutes keep a record sound
+-- Minutes keep a record sound.
 pub judge-sound : (s : Subject) (w : WindowSet) (j : ℕ) (r : Record) → AreSound s r.versions
     → AreSound s (judge w j r).versions
 unfolding judge

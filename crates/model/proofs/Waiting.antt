@@ -1,4 +1,4 @@
--- Of a subject's versions one alone is open, and one alone in force.
+-- Of a subject's versions at most one is open, and at most one in force.
 use Rattle.std.proofs.Common.{◌≡◌, ℕ, Bool, true, false, cond, List, [], ◌∷◌, Some, ap, sym, ◌∙◌, subst}
 use Rattle.std.specs.Prelude.{◌==◌, find}
 use Rattle.numbers.specs.Subjects.{Subject}
@@ -10,7 +10,7 @@ use Rattle.model.proofs.Shown.{some_is}
 abbrev Finds : ℕ → List Version → Version → Type 0
 Finds id vs x = find (λ v. v.id == id) vs ≡ Some x
 
--- what is found by its id among versions none of which passes a test doesn't
+-- A version found by its id fails a test if all versions of the list fail it.
 module _ (test : Version → Bool) (None-passes : List Version
     → Type 0) (first : (v : Version) (vs : List Version) → None-passes (v ∷ vs) → test v ≡ false)
     (rest : (v : Version) (vs : List Version) → None-passes (v ∷ vs) → None-passes vs) where
@@ -26,7 +26,7 @@ module _ (test : Version → Bool) (None-passes : List Version
       by_cases true f later =
           subst (λ (u : Version). test u ≡ false) (some_is v x f) (first v vs none)
 
--- ---- the open one
+-- ---- the open version
 
 found_closed : (s : Subject) (id : ℕ) (vs : List Version) (x : Version) → NoneOpen s vs
     → Finds id vs x → is_open s x ≡ false
@@ -47,7 +47,7 @@ open_once s a b [] x y sound f g p q = cc
 open_once s a b (v ∷ vs) x y sound f g p q =
     newest_open s a v vs x sound.0 f p ∙ sym (newest_open s b v vs y sound.0 g q)
 
--- ---- the one in force
+-- ---- the version in force
 
 found_out : (id : ℕ) (vs : List Version) (x : Version) → NoneInForce vs → Finds id vs x
     → in_force x ≡ false

@@ -1,4 +1,4 @@
--- What the definitions see of the statuses of the code.
+-- The sends and statuses of the model that the code's values mean.
 use Rattle.model.specs.declared.words.Status.{Status as StatusImpl}
 use Rattle.model.specs.declared.words.Status.TheVariants.{Pending as PendingImpl, Conflict as ConflictImpl, CancelPending as CancelPendingImpl, SendingCreate as SendingCreateImpl, SendingDelete as SendingDeleteImpl, SendingModify as SendingModifyImpl, Active as ActiveImpl, PartialFailure as PartialFailureImpl, Failed as FailedImpl, DisconnectPending as DisconnectPendingImpl, Old as OldImpl, Canceled as CanceledImpl}
 use Rattle.model.specs.declared.words.Send.{Send as SendImpl}

@@ -1,4 +1,4 @@
--- How one subscription version passes from one status to another.
+-- How a subscription version passes from one status to another.
 use Rattle.std.specs.Prelude.{ℕ, ◌+◌, Bool, true, false, not, ◌&&◌, ◌==◌, List, [], ◌∷◌, map, Option, Some, None, if◌then◌else◌}
 use Rattle.numbers.specs.Routings.{Routing}
 use Rattle.model.specs.declared.words.Action.{Action}
@@ -11,18 +11,19 @@ use Rattle.model.specs.Versions.{Broadcast, Version, with_number, is_open_broadc
 
 -- ---- sending and closing
 
--- what the broadcast of a send does, and what it puts at a carrier
+-- What the broadcast of a send does to a carrier's copy.
 abbrev pub action_of : Send → Action
 action_of Create = CreateAction
 action_of Delete = DeleteAction
 action_of (Modify routing) = ModifyAction
 
+-- The routing that a send carries.
 abbrev pub routing_sent : Send → Version → Option Routing
 routing_sent Create v = v.routing
 routing_sent Delete v = None
 routing_sent (Modify routing) v = Some routing
 
--- what a version becomes when its broadcast closes
+-- The status of a version after its broadcast closed with this outcome.
 abbrev pub status_after : Send → Outcome → Status
 status_after Create AllAcknowledged = Active
 status_after Create SomeAcknowledged = PartialFailure
@@ -35,8 +36,8 @@ status_after (Modify routing) SomeAcknowledged = PartialFailure
 status_after (Modify routing) NoneAcknowledged = Active
 status_after action Open = Sending action
 
--- and where it is routed then: a modify that somebody acknowledged leaves it with the routing that
--- it put
+-- The version's routing after its broadcast closed. A modify that somebody acknowledged leaves the
+-- routing that it carried.
 abbrev pub routing_after : Send → Outcome → Option Routing → Option Routing
 routing_after (Modify put) AllAcknowledged routing = Some put
 routing_after (Modify put) SomeAcknowledged routing = Some put
@@ -45,12 +46,13 @@ routing_after (Modify put) Open routing = routing
 routing_after Create outcome routing = routing
 routing_after Delete outcome routing = routing
 
--- the newest of the broadcasts changed
+-- The broadcasts, with the newest one changed.
 abbrev pub on_newest : (Broadcast → Broadcast) → List Broadcast → List Broadcast
 on_newest f [] = []
 on_newest f (b ∷ bs) = f b ∷ bs
 
--- how a broadcast closes at the end of its window: some acknowledged, or nobody did
+-- The outcome of the newest broadcast at the end of its window: some acknowledged it, or nobody
+-- did.
 abbrev pub outcome_at_end : List Broadcast → Outcome
 outcome_at_end [] = NoneAcknowledged
 outcome_at_end (b ∷ bs) = some_or_nobody b.acknowledged
@@ -65,17 +67,19 @@ abbrev pub is_empty : List ℕ → Bool
 is_empty [] = true
 is_empty (c ∷ cs) = false
 
+-- Whether all recipients of the newest broadcast have acknowledged it.
 abbrev pub nobody_is_missing : List Broadcast → Bool
 nobody_is_missing [] = false
 nobody_is_missing (b ∷ bs) = is_empty (unacknowledged b)
 
+-- The broadcast with the acknowledgement of carrier c, if it is of this attempt.
 abbrev pub acknowledged_broadcast : ℕ → ℕ → Broadcast → Broadcast
 acknowledged_broadcast c attempt b = if b.attempt == attempt then record b {
   acknowledged =
       with_number c b.acknowledged;
 } else b
 
--- a carrier that registers is a recipient of what is still open
+-- The broadcast after carrier c registered. While it is open, c is one of its recipients.
 abbrev pub joined_broadcast : ℕ → Broadcast → Broadcast
 joined_broadcast c b = if is_open_broadcast b then record b {
   recipients =
@@ -85,14 +89,14 @@ joined_broadcast c b = if is_open_broadcast b then record b {
 abbrev pub joined_by : ℕ → Version → Version
 joined_by c v = record v { broadcasts = map (joined_broadcast c) v.broadcasts }
 
--- ---- changes of a version's status: by the set of windows that is present then
+-- ---- changes of a version's status, with the present set of windows
 
 module _ (present : WindowSet) where
-  -- the version enters a status at a minute
+  -- The version entering a status at a minute. From then on it holds the present set of windows.
   abbrev pub with_status : Status → ℕ → Version → Version
   with_status status minute v = record v { status = status; since = minute; held = present }
 
-  -- the next attempt begins, to every carrier that there is
+  -- The version sending its next attempt, to all registered carriers.
   abbrev pub next_attempt : Send → List ℕ → ℕ → Version → Version
   next_attempt action all_carriers minute v = record (with_status (Sending action) minute v) {
     attempt = v.attempt + 1;
@@ -107,6 +111,7 @@ module _ (present : WindowSet) where
     } ∷ v.broadcasts;
   }
 
+  -- The version after its newest broadcast closed with this outcome.
   abbrev pub closed_with : Send → Outcome → ℕ → Version → Version
   closed_with action outcome minute v =
       record (with_status (status_after action outcome) minute v) {
@@ -114,7 +119,8 @@ module _ (present : WindowSet) where
         broadcasts = on_newest (λ b. record b { outcome = outcome }) v.broadcasts;
       }
 
-  -- the last recipient closes an open broadcast, and makes a partial failure whole
+  -- The version after the last recipient acknowledged its newest broadcast. An open broadcast
+  -- closes; a partial failure becomes active.
   abbrev pub completed : Status → ℕ → Version → Version
   completed (Sending action) minute v = closed_with action AllAcknowledged minute v
   completed PartialFailure minute v = with_status Active minute v
@@ -127,6 +133,7 @@ module _ (present : WindowSet) where
   completed Old minute v = v
   completed Canceled minute v = v
 
+  -- The version after carrier c acknowledged one of its attempts.
   abbrev pub acknowledged_by : ℕ → ℕ → ℕ → Version → Version
   acknowledged_by c attempt minute v =
       let answered = record v {
@@ -134,18 +141,18 @@ module _ (present : WindowSet) where
       } in
       if nobody_is_missing answered.broadcasts then completed v.status minute answered else answered
 
-  -- where a later version comes into force, an earlier one that is in force becomes old
+  -- The version after a later one took over, if one did: old, if it was in force.
   abbrev pub retired : Bool → ℕ → Version → Version
   retired takes_over minute v = if takes_over && in_force v then with_status Old minute v else v
 
-  -- each version of a subject changed. Where one comes into force, every earlier one in force
-  -- becomes old
+  -- The versions of a subject, newest first, each changed. When one comes into force, every earlier
+  -- one in force becomes old.
   abbrev pub changed_at : ℕ → (Version → Version) → List Version → List Version
   changed_at minute change [] = []
   changed_at minute change (v ∷ vs) =
       change v ∷ map (retired (not (in_force v) && in_force (change v)) minute)
       (changed_at minute change vs)
 
--- only the version with this id
+-- The change, applied only to the version with this id.
 abbrev pub of_id : ℕ → (Version → Version) → Version → Version
 of_id id change v = if v.id == id then change v else v

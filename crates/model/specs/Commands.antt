@@ -1,8 +1,8 @@
--- What a caller may command.
+-- The commands of a caller.
 use Rattle.std.specs.Prelude.{ℕ, Bool, List, Option}
 use Rattle.model.specs.Windows.{Windows}
 
--- what is done to one version
+-- A command on one version.
 pub data VersionCommand : Type 0 where
   Activate : VersionCommand
   PutInConflict : VersionCommand
@@ -13,7 +13,7 @@ pub data VersionCommand : Type 0 where
   Disconnect : (release : Option ℕ) → VersionCommand
   ModifyRouting : (lrn : ℕ) (cic : Option ℕ) → VersionCommand
 
--- each command, with what it names
+-- A command, with everything that it names.
 pub data Command : Type 0 where
   RegisterCarrier : (spid : ℕ) → Command
   RegisterRoutingNumber : (lrn : ℕ) → Command

@@ -7,11 +7,12 @@ use Rattle.model.specs.Versions.{Version}
 use Rattle.model.specs.History.{Request, CommandRequest, AcknowledgementRequest, subjects_made_by}
 use Rattle.model.specs.State.{State, record_now}
 
+-- Whether one of the versions has this id.
 abbrev pub has_id : ℕ → List Version → Bool
 has_id id vs = list_any (λ v. v.id == id) vs
 
--- the request may change a version of s: it names s, or the id of one of these versions, or it
--- registers a carrier
+-- Whether the request may change a version of s, given its versions. It names s, or the id of one
+-- of these versions, or it registers a carrier.
 abbrev pub concerns : Request → Subject → List Version → Bool
 concerns (CommandRequest (RegisterCarrier spid)) s vs = true
 concerns (CommandRequest (RegisterRoutingNumber lrn)) s vs = false
@@ -27,7 +28,7 @@ concerns (CommandRequest (SetWindows windows)) s vs = false
 concerns (CommandRequest (Release block)) s vs = subject_eq s (Block block)
 concerns (AcknowledgementRequest id attempt) s vs = has_id id vs
 
--- it may change one, or makes one
+-- Whether the request may change a version of s, or makes one.
 abbrev pub touches : State → Request → Subject → Bool
 touches st request s = concerns request s (record_now st s).versions || list_any (subject_eq s)
     (subjects_made_by request (record_now st))

@@ -1,5 +1,5 @@
--- The conditions of refusals that are over one version: over its status and its other fields, so
--- that they serve its row too.
+-- Conditions of refusals over one version. They take its status and its other fields, so that they
+-- apply to its row too.
 use Rattle.std.specs.Prelude.{ℕ, ◌+◌, ◌-◌, Bool, true, false, not, ◌&&◌, ◌||◌, ◌==◌, nat_lt, nat_le, Option, Some, None, is_some, is_none}
 use Rattle.model.specs.Statuses.{Send}
 use Rattle.model.specs.Statuses.{Create, Delete, Modify}
@@ -8,15 +8,16 @@ use Rattle.model.specs.declared.words.Side.TheVariants.{OldProvider, NewProvider
 use Rattle.model.specs.Statuses.{Status, Pending, Conflict, CancelPending, Sending, Active, PartialFailure, Failed, DisconnectPending, Old, Canceled}
 use Rattle.model.specs.Windows.{Windows}
 
--- minutes, ids and attempts stay below 2^40
+-- The limit of minutes, ids and attempts: they stay below 2^40.
 abbrev pub limit : ℕ
 limit = 1099511627776
 
--- whether there is a value, and the test holds of it
+-- Whether there is a value, and it passes the test.
 abbrev pub holds_of : {A : Type 0} → (A → Bool) → Option A → Bool
 holds_of test None = false
 holds_of test (Some x) = test x
 
+-- Whether there is a value, and it is c.
 abbrev pub is_the : ℕ → Option ℕ → Bool
 is_the c None = false
 is_the c (Some d) = c == d
@@ -36,7 +37,7 @@ is_delete Create = false
 is_delete Delete = true
 is_delete (Modify routing) = false
 
--- a block with this status is being released
+-- Whether a block with this status is being released.
 abbrev pub is_delete_sent : Status → Bool
 is_delete_sent (Sending action) = is_delete action
 is_delete_sent _ = false
@@ -77,6 +78,7 @@ abbrev pub is_failed : Status → Bool
 is_failed Failed = true
 is_failed _ = false
 
+-- Whether this status of a block's newest version prevents an assignment.
 abbrev pub takes_block : Status → Bool
 takes_block (Sending action) = true
 takes_block Active = true
@@ -91,44 +93,48 @@ takes_block Canceled = false
 
 -- ---- creates
 
--- there is no room for a first create: a version of the number is open, or the one in force is not
--- active, or with none in force the number's block is being released
+-- Whether there is no room for a first create. That is so if a version of the number is open, or if
+-- the one in force is not active. With none in force it is so if the number's block is being
+-- released.
 abbrev pub has_no_room : (opened in_force block_in_force : Option Status) → Bool
 has_no_room (Some status) in_force block_in_force = true
 has_no_room None (Some status) block_in_force = not (is_active status)
 has_no_room None None block_in_force = holds_of is_delete_sent block_in_force
 
--- the minute is before now
+-- Whether the minute is before now.
 abbrev pub is_past : (now minute : ℕ) → Bool
 is_past now minute = nat_lt minute now
 
--- a second create has to have the version's due minute
+-- Whether the due minute of a second create differs from the version's.
 abbrev pub is_another_due : (due its_due : ℕ) → Bool
 is_another_due due its_due = not (its_due == due)
 
--- a conflict is put only so long before the due minute
+-- Whether a conflict comes too late: fewer minutes are left before the due minute than the window
+-- of conflict restriction has.
 abbrev pub is_late_conflict : Windows → (now due : ℕ) → Bool
 is_late_conflict w now due = nat_lt due (now + w.conflict_restriction)
 
 -- ---- activation
 
--- the new provider has created it, and the old one too or has let its windows pass
+-- Whether the new provider made its create, and the old provider made its own or let both
+-- concurrence windows end.
 abbrev pub has_concurred : Windows → (now : ℕ) → (old_at new_at : Option ℕ) → (since : ℕ) → Bool
 has_concurred w now old_at new_at since =
     is_some new_at && (is_some old_at || nat_le (w.initial_concurrence + w.final_concurrence)
     (now - since))
 
--- of the two statuses that can be activated only pending asks for concurrence
+-- Whether an activation lacks concurrence. Only a pending version needs it; a failed one, which can
+-- be activated too, does not.
 abbrev pub lacks_concurrence : Windows → (now : ℕ) → Status → (old_at new_at : Option ℕ)
     → (since : ℕ) → Bool
 lacks_concurrence w now status old_at new_at since =
     is_pending status && not (has_concurred w now old_at new_at since)
 
--- and waits for its due minute
+-- Whether an activation comes before the due minute. Only a pending version waits for it.
 abbrev pub is_not_yet_due : (now : ℕ) → Status → (due : ℕ) → Bool
 is_not_yet_due now status due = is_pending status && nat_lt now due
 
--- the next attempt would be past the last
+-- Whether the next attempt would reach the limit.
 abbrev pub has_no_attempt_left : ℕ → Bool
 has_no_attempt_left attempt = nat_le limit (attempt + 1)
 
@@ -138,13 +144,15 @@ abbrev pub is_neither : (caller old_provider new_provider : ℕ) → Bool
 is_neither caller old_provider new_provider =
     not (caller == old_provider) && not (caller == new_provider)
 
--- the caller's own create is missing
+-- Whether the caller's own create is missing.
 abbrev pub lacks_own_create : (caller old_provider new_provider : ℕ) → (old_at new_at : Option ℕ)
     → Bool
 lacks_own_create caller old_provider new_provider old_at new_at =
     ((caller == old_provider) && is_none old_at) || ((caller == new_provider) && is_none new_at)
 
--- which provider may not cancel, by the status
+-- Whether the provider may not cancel, by the status. A pending version or one in conflict: a
+-- provider whose own create is missing. A failed or disconnect-pending one: any but the new
+-- provider.
 abbrev pub may_not_cancel : (caller old_provider new_provider : ℕ) → (old_at new_at : Option ℕ)
     → Status → Bool
 may_not_cancel caller old_provider new_provider old_at new_at Pending =
@@ -161,12 +169,13 @@ may_not_cancel caller old_provider new_provider old_at new_at PartialFailure = f
 may_not_cancel caller old_provider new_provider old_at new_at Old = false
 may_not_cancel caller old_provider new_provider old_at new_at Canceled = false
 
--- the provider of a side
+-- The provider on this side.
 abbrev pub provider_of : Side → (old_provider new_provider : ℕ) → ℕ
 provider_of OldProvider old_provider new_provider = old_provider
 provider_of NewProvider old_provider new_provider = new_provider
 
--- the caller is the provider who cancelled, and so not the one whose acknowledgement is missing
+-- Whether the caller is the provider that cancelled, and not the one whose acknowledgement is
+-- missing.
 abbrev pub is_cancellers : (caller old_provider new_provider : ℕ) → Status → Bool
 is_cancellers caller old_provider new_provider (CancelPending by) =
     caller == provider_of by old_provider new_provider
@@ -182,11 +191,12 @@ is_cancellers caller old_provider new_provider Canceled = false
 
 -- ---- removal from conflict, and protection
 
--- the new provider has to wait before it removes a conflict
+-- Whether the new provider removes a conflict before it has lasted its window of resolution. The
+-- old provider need not wait.
 abbrev pub is_early_removal : Windows → (now caller new_provider since : ℕ) → Bool
 is_early_removal w now caller new_provider since =
     (caller == new_provider) && nat_lt (now - since) w.conflict_resolution
 
--- a protective version that failed stays
+-- Whether the version is protected from a cancel: it is protective, and failed.
 abbrev pub is_protected : Status → (protective : Bool) → Bool
 is_protected status protective = is_failed status && protective

@@ -15,16 +15,16 @@ use Rattle.model.specs.State.{State, set_now, record_now, next_of}
 use Rattle.model.specs.Conditions.{limit}
 use Rattle.model.specs.Machine.{IsHistory, HasHistory}
 
--- ---- the rows
+-- ---- rows
 
--- a donated block's row: its donor, and the id of the last version that was made of it
+-- The row of a donated block: its donor, and the id of the newest version that was made of it.
 pub record BlockRow : Type 0 where
   pub donor : ℕ
   pub last : Option ℕ
 
--- a version's row. `held`: the number of the set of windows that held when it entered its status.
--- It has the subject in `holds` while it is in force and in `opens` while it is open, and the
--- minute at which its status ends
+-- The row of a version. `held` is the number of its set of windows, which was present when it
+-- entered its status. `deadline` is the minute when its timer expires. `holds` is the subject while
+-- the version is in force, and `opens` while it is open.
 pub record VersionRow : Type 0 where
   pub subject : Subject
   pub old_provider : ℕ
@@ -43,7 +43,7 @@ pub record VersionRow : Type 0 where
   pub holds : Option Subject
   pub opens : Option Subject
 
--- a broadcast's row. `any`: somebody acknowledged it
+-- The row of a broadcast. `any` says whether somebody acknowledged it.
 pub record BroadcastRow : Type 0 where
   pub minute : ℕ
   pub subject : Subject
@@ -52,18 +52,18 @@ pub record BroadcastRow : Type 0 where
   pub is_open : Bool
   pub any : Bool
 
--- the minute, the id of the next version that is made, and the present set of windows
+-- The clock's row: the minute, the id of the next version, and the present set of windows.
 pub record ClockRow : Type 0 where
   pub minute : ℕ
   pub next_id : ℕ
   pub present : WindowSet
 
--- a broadcast by its version's id and its attempt; a download that waits, by carrier, minute, id
--- and attempt
+-- The key of a broadcast: its version's id, and its attempt.
 pub record BroadcastKey : Type 0 where
   pub id : ℕ
   pub attempt : ℕ
 
+-- The key of a download that is pending for a carrier.
 pub record WaitKey : Type 0 where
   pub carrier : ℕ
   pub minute : ℕ
@@ -79,7 +79,7 @@ wait_cmp a b =
     (ordering_then (nat_cmp a.minute b.minute) (ordering_then (nat_cmp a.id b.id)
     (nat_cmp a.attempt b.attempt)))
 
--- eight finite maps, and the clock's row if it was written
+-- What a store contains: eight finite maps, and the clock's row if it was written.
 pub record Content : Type 0 where
   pub carriers : FinMap nat_cmp (Unit {0})
   pub lrns : FinMap nat_cmp ℕ
@@ -93,7 +93,7 @@ pub record Content : Type 0 where
 
 -- ---- what is stored of a record
 
--- the least number below n that passes a test
+-- The least number below n that passes the test.
 unfoldable pub least_below : (ℕ → Bool) → ℕ → Option ℕ
 least_below test zero = None
 least_below test (suc n) = elim (least_below test n) [
@@ -101,8 +101,8 @@ least_below test (suc n) = elim (least_below test n) [
   | None ↦ (if test n then Some n else None)
 ]
 
--- the least minute at which a status ends, if there is one, by the fields of a version or of its
--- row
+-- The earliest minute when the timer of a status has expired, if there is one, by the fields of a
+-- version or of its row.
 abbrev pub deadline_of : Windows → (due : ℕ) → (old_at new_at : Option ℕ) → (since : ℕ) → Status
     → Option ℕ
 deadline_of w due old_at new_at since status =
@@ -114,6 +114,7 @@ deadline v = deadline_of v.held.windows v.due v.old_at v.new_at v.since v.status
 abbrev pub subject_if : Bool → Subject → Option Subject
 subject_if b s = if b then Some s else None
 
+-- The row of a version of s.
 abbrev pub row_of : Subject → Version → VersionRow
 row_of s v = record {
   subject = s;
@@ -143,7 +144,7 @@ abbrev pub is_nonempty : List ℕ → Bool
 is_nonempty [] = false
 is_nonempty (c ∷ cs) = true
 
--- a broadcast is stored while it is open or someone waits for it
+-- The row of a broadcast, which is stored while it is open or pending for some carrier.
 abbrev pub stored_broadcast : Subject → Broadcast → Option BroadcastRow
 stored_broadcast s b =
     if is_open_broadcast b || is_nonempty (waiters b)
@@ -157,17 +158,18 @@ stored_broadcast s b =
     })
     else None
 
--- a download is stored while its carrier waits for it
+-- The row of a download: its subject, which is stored while the download is pending for the
+-- carrier.
 abbrev pub stored_wait : Subject → ℕ → ℕ → Broadcast → Option Subject
 stored_wait s carrier minute b = if (b.minute == minute) && is_among carrier (waiters b) then Some s
     else None
 
--- the row, if it is of the subject
+-- The row, if it is of the subject.
 abbrev pub of_subject : {R : Type 0} → Subject → (R → Subject) → Option R → Option R
 of_subject s subject None = None
 of_subject s subject (Some row) = if subject_eq (subject row) s then Some row else None
 
--- the rows of the subject are those of this record
+-- Holds if the rows of subject s are those of record r.
 pub record RowsMatch (c : Content) (s : Subject) (r : Record) : Type 0 where
   pub versions : (id : ℕ) → of_subject s (λ (v : VersionRow). v.subject) (get c.versions id)
       ≡ option_map (row_of s) (version_with id r)
@@ -185,13 +187,13 @@ pub record RowsMatch (c : Content) (s : Subject) (r : Record) : Type 0 where
         attempt = attempt;
       })) ≡ option_and_then (stored_wait s carrier minute) (broadcast_with id attempt r)
 
--- judged at each of these minutes, the last of them first
+-- The record, judged at each of these minutes, the last of the list first.
 abbrev pub judged_at : WindowSet → List ℕ → Record → Record
 judged_at present [] r = r
 judged_at present (j ∷ js) r = judge present j (judged_at present js r)
 
--- the machine made this record of the subject, from these first windows on, and it was judged at
--- some minutes since, while this set held
+-- Holds if a run of the machine that begins with these windows makes the record of the subject. The
+-- record may have been judged at some minutes since, with this set as the present one.
 pub record IsReachableRecord (w : Windows) (present : WindowSet) (s : Subject)
     (r : Record) : Type 0 where
   pub entries : List Entry
@@ -200,9 +202,9 @@ pub record IsReachableRecord (w : Windows) (present : WindowSet) (s : Subject)
   pub minutes : List ℕ
   pub is : r ≡ judged_at present minutes (replay w s entries until)
 
--- the rows of the subject show a record of the machine's that is r once each minute from 0 to now
--- is judged. What it enters in them takes the present set: all that was due
--- was settled before that was set
+-- Holds if the rows of s match an earlier record that becomes r by judging each minute from 0 to
+-- now. A run leads to that record. A version that changes on the way takes the present set of
+-- windows, since everything due earlier was settled before that set was made.
 pub record RowsCatchUp (w : Windows) (present : WindowSet) (c : Content) (now : ℕ) (s : Subject)
     (r : Record) : Type 0 where
   pub kept : Record
@@ -210,14 +212,14 @@ pub record RowsCatchUp (w : Windows) (present : WindowSet) (c : Content) (now : 
   pub reached : IsReachableRecord w present s kept
   pub catches_up : caught_up present now kept ≡ r
 
--- a block's row: its donor, and the last version that was made of it
+-- The row of a block, if it is donated: its donor, and the newest version that was made of it.
 abbrev pub stored_block : State → ℕ → Option BlockRow
 stored_block st b = option_map (λ donor. record {
   donor = donor;
   last = option_map (λ (v : Version). v.id) (last_version (record_now st (Block b)));
 }) (donor_of b st.history)
 
--- the clock's row; a store in which none was written is at the first state
+-- Holds if the clock's row is that of the state. Without a row the state is the first.
 abbrev pub ClockRowMatches : Option ClockRow → State → Type 0
 ClockRowMatches None st = (st.history ≡ []) × (st.now ≡ 0)
 ClockRowMatches (Some row) st = row ≡ record {
@@ -226,14 +228,14 @@ ClockRowMatches (Some row) st = row ≡ record {
   present = set_now st;
 }
 
--- the windows of the set of a number, if there is one. They are written with the clock's row
+-- The windows of the set with this number, if there is one. They are written with the clock's row.
 abbrev pub stored_set : Option ClockRow → State → ℕ → Option Windows
 stored_set None st number = None
 stored_set (Some row) st number =
     option_map (λ (set : WindowSet). set.windows) (set_of_number number st.windows st.history)
 
--- the content represents the state. The rows of a subject may lag behind it, and those of the
--- registry not
+-- Holds if the content represents the state. The rows of a subject may lag: the state has their
+-- record as judged up to now. The rows of the registry may not lag.
 pub record Represents (c : Content) (st : State) : Type 0 where
   pub windows : AreWindows st.windows
   pub early : st.now < limit
@@ -246,7 +248,7 @@ pub record Represents (c : Content) (st : State) : Type 0 where
   pub blocks : (k : ℕ) → get c.blocks k ≡ stored_block st k
   pub subjects : (s : Subject) → RowsCatchUp st.windows (set_now st) c st.now s (record_now st s)
 
--- before anything is written
+-- The content before anything is written.
 abbrev pub empty_content : Content
 empty_content = record {
   carriers = empty;
@@ -260,7 +262,7 @@ empty_content = record {
   clock = None;
 }
 
--- the rows of a subject are the same in both
+-- Holds if the rows of s are the same in both contents.
 pub record SameRows (s : Subject) (old new : Content) : Type 0 where
   pub versions : (id : ℕ) → of_subject s (λ (v : VersionRow). v.subject) (get new.versions id)
       ≡ of_subject s (λ (v : VersionRow). v.subject) (get old.versions id)

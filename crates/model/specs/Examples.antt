@@ -30,7 +30,7 @@ w = record {
   broadcast = 15;
 }
 
--- AAAA, BBBB and CCCC
+-- The carriers AAAA, BBBB and CCCC.
 abbrev pub a : ℕ
 a = 0x41414141
 
@@ -61,7 +61,7 @@ both_creates due = RequestFrom a (CommandRequest (NewProviderCreate n b a due 20
 abbrev pub start : State
 start = state_after (first_state w) setup
 
--- the status, its minute and the attempt of a version
+-- The status of a version, the minute when it entered it, and its attempt.
 abbrev pub standing : State → ℕ → Option (Status × ℕ × ℕ)
 standing st id = option_map (λ e. (e.version.status, e.version.since, e.version.attempt))
     (version_of_id st id)
@@ -96,7 +96,7 @@ creator_alone_120 : refused_after start (does a (NewProviderCreate n b a 100 202
 unfolding next replay_of replay_step effect judge judged_for judged_version queue tests out
 creator_alone_120 = refl
 
--- one jump over the window: canceled at its minute
+-- One jump past the end of the windows: canceled at the minute of that end.
 silent_new_provider : standing
     (state_after start (does b (OldProviderCreate n b a 300 true) ∷ ClockMoment 5 ∷ ClockMoment 900
     ∷ [])) 1
@@ -104,7 +104,7 @@ silent_new_provider : standing
 unfolding next replay_of replay_step effect judge judged_for judged_version queue tests out
 silent_new_provider = refl
 
--- sent at 200, acknowledged by one carrier at 214, then at 215
+-- Sent at 200 and acknowledged by one carrier at 214; the window ends at 215.
 abbrev pub sent_at_200 : List Input
 sent_at_200 = both_creates 200 ++ ClockMoment 200 ∷ does a (OnVersion 1 Activate) ∷ []
 
@@ -150,7 +150,7 @@ active_at_201 =
     ∷ RequestFrom b
     (AcknowledgementRequest 1 1) ∷ RequestFrom c (AcknowledgementRequest 1 1) ∷ [])
 
--- a disconnect that nobody acknowledges
+-- A disconnect that nobody acknowledges.
 abbrev pub kept : State
 kept = state_after active_at_201 (ClockMoment 300 ∷ does a (OnVersion 1 (Disconnect (Some 400)))
     ∷ ClockMoment
@@ -168,7 +168,7 @@ kept_queues : length (queue kept a) + length (queue kept b) + length (queue kept
 unfolding next replay_of replay_step effect judge judged_for judged_version queue tests out
 kept_queues = refl
 
--- a silent new provider: conflict at 130, canceled at 1130
+-- The new provider is silent: conflict at 130, canceled at 1130.
 cancel_by_old : standing
     (state_after start (both_creates 5000 ++ ClockMoment 10 ∷ does b (OnVersion 1 Cancel)
     ∷ ClockMoment 2000
@@ -218,7 +218,7 @@ block_routes = refl
 abbrev pub acks : ℕ → ℕ → List ℕ → List Input
 acks id attempt cs = map (λ k. RequestFrom k (AcknowledgementRequest id attempt)) cs
 
--- what stands in a queue: id and attempt
+-- The id and the attempt of each download in a queue.
 abbrev pub queued : State → ℕ → List (ℕ × ℕ)
 queued st k = map (λ d. (d.id, d.attempt)) (queue st k)
 
@@ -362,7 +362,7 @@ unfolding next replay_of replay_step effect judge judged_for judged_version queu
     copy_of
 removal_by_old = refl
 
--- an unauthorized create
+-- A create without authorization.
 abbrev pub unauthorized : List Input
 unauthorized = does b (OldProviderCreate n b a 100 false) ∷ ClockMoment 1 ∷ []
 
@@ -412,7 +412,7 @@ unfolding next replay_of replay_step effect judge judged_for judged_version queu
     copy_of
 new_cancels = refl
 
--- who cancelled lacks no acknowledgement of its own
+-- The provider that cancelled has no acknowledgement to make.
 acknowledgements_after_old : map
     (refused_after start (both_creates 5000 ++ ClockMoment 10 ∷ does b (OnVersion 1 Cancel) ∷ []))
     (does b (OnVersion 1 OldProviderCancellationAcknowledge) ∷ does a
@@ -477,7 +477,7 @@ unfolding next replay_of replay_step effect judge judged_for judged_version queu
     copy_of
 retained_to_600 = refl
 
--- the old provider's create, at 300, does not count
+-- The old provider's create, at 300, does not count.
 retained_from_due : map
     (λ m. standing (state_after start (does a (NewProviderCreate n b a 10 2025440000 None)
     ∷ ClockMoment
@@ -488,8 +488,8 @@ unfolding next replay_of replay_step effect judge judged_for judged_version queu
     copy_of
 retained_from_due = refl
 
--- the new provider's create, at 100, does: it is later than the due minute and than the minute
--- since which the version is pending
+-- The new provider's create, at 100, does: it is later than the due minute and than the minute when
+-- the version became pending.
 retained_from_create : map
     (λ m. standing (state_after start (does b (OldProviderCreate n b a 10 true) ∷ ClockMoment 100
     ∷ does
@@ -500,7 +500,7 @@ unfolding next replay_of replay_step effect judge judged_for judged_version queu
     copy_of
 retained_from_create = refl
 
--- and so does the minute since which it is pending: removed from conflict at 200
+-- So does the minute when it became pending: it was removed from conflict at 200.
 retained_from_since : map
     (λ m. standing
     (state_after start (both_creates 100 ++ ClockMoment 50 ∷ does b (OnVersion 1 PutInConflict)
@@ -539,7 +539,7 @@ unfolding next replay_of replay_step effect judge judged_for judged_version queu
     copy_of
 release_planned = refl
 
--- the release minute is shown while the disconnect waits for it
+-- The release minute, which is shown while the disconnect is pending.
 abbrev pub release_shown : List Input → Option ℕ
 release_shown inputs = elim (version_of_id (state_after active_at_201 inputs) 1) [
   | None ↦ None
@@ -583,12 +583,12 @@ modify_sent = does a (OnVersion 1 (ModifyRouting 2025440001 None)) ∷ []
 abbrev pub modifying : State
 modifying = state_after routed_twice modify_sent
 
--- where the version says that it is routed, and where a query is
+-- The routing of the version, and that of a query.
 abbrev pub routed : State → List (Option Routing)
 routed st = option_and_then (λ (e : SubjectVersion). e.version.routing) (version_of_id st 1)
     ∷ routing_of st n ∷ []
 
--- sent, and in force with its old routing
+-- Sent, and in force with its old routing.
 modify_sends : standing modifying 1
     ≡ Some (Sending (Modify (record { lrn = 2025440001; cic = None })), 300, 2)
 unfolding next replay_of replay_step effect judge judged_for judged_version queue tests out
@@ -610,7 +610,7 @@ unfolding next replay_of replay_step effect judge judged_for judged_version queu
     copy_of
 modify_is_busy = refl
 
--- all acknowledge
+-- All carriers acknowledge.
 abbrev pub modified_by_all : State
 modified_by_all = state_after modifying (ClockMoment 301 ∷ acks 1 2 (a ∷ b ∷ c ∷ []))
 
@@ -626,7 +626,7 @@ unfolding next replay_of replay_step effect judge judged_for judged_version queu
     copy_of
 all_are_routed = refl
 
--- one acknowledges, and the others late
+-- One carrier acknowledges in time, and the others late.
 abbrev pub modified_in_part : State
 modified_in_part =
     state_after modifying (ClockMoment 301 ∷ acks 1 2 (c ∷ []) ++ ClockMoment 315 ∷ [])
@@ -658,7 +658,7 @@ unfolding next replay_of replay_step effect judge judged_for judged_version queu
     copy_of
 part_becomes_whole = refl
 
--- nobody acknowledges, in one jump: the old routing stays
+-- Nobody acknowledges, in one jump: the old routing stays.
 abbrev pub modified_by_nobody : State
 modified_by_nobody = state_after modifying (ClockMoment 900 ∷ [])
 
@@ -680,7 +680,7 @@ unfolding next replay_of replay_step effect judge judged_for judged_version queu
     copy_of
 nobody_waits = refl
 
--- another's routing number, another's call, no such version, a block's version
+-- Another's routing number, another's version, both, and no such version.
 modify_refused : map (refusal routed_twice) (does a (OnVersion 1 (ModifyRouting 2025330000 None))
     ∷ does b (OnVersion 1 (ModifyRouting 2025440001 None)) ∷ does b
     (OnVersion 1 (ModifyRouting 2025330000 None)) ∷ does a
@@ -697,7 +697,7 @@ unfolding next replay_of replay_step effect judge judged_for judged_version queu
     copy_of
 block_not_modified = refl
 
--- a newcomer at 310: its row has the old routing, and the modify waits for it
+-- A newcomer at 310: its row has the old routing, and the modify is pending for it.
 newcomer_to_modify : out (state_after modifying (ClockMoment 310 ∷ []))
     (does npac (RegisterCarrier d))
     ≡ Registered d (record { subject = Number n; routing = to_first } ∷ [])
@@ -713,7 +713,7 @@ unfolding next replay_of replay_step effect judge judged_for judged_version queu
     copy_of
 newcomer_has_modify = refl
 
--- what a carrier is handed, and its copy before and after
+-- The actions and routings in a carrier's queue.
 abbrev pub handed : State → ℕ → List (Action × Option Routing)
 handed st k = map (λ (x : Download). (x.action, x.routing)) (queue st k)
 
@@ -731,7 +731,7 @@ unfolding next replay_of replay_step effect judge judged_for judged_version queu
     copy_of
 copies_of_modify = refl
 
--- the routing is replaced as a whole, and may be the same
+-- The routing is replaced as a whole, and may be replaced by the same one.
 modified_whole : map
     (λ routing. routed
     (state_after routed_twice (does a (OnVersion 1 (ModifyRouting 2025440000 (Some 288))) ∷ acks 1 2
@@ -744,7 +744,7 @@ unfolding next replay_of replay_step effect judge judged_for judged_version queu
     copy_of
 modified_whole = refl
 
--- a download that waits while the number is ported again
+-- A download that is pending while the number is ported again.
 abbrev pub waiting_delete : State
 waiting_delete =
     state_after active_at_201 (ClockMoment 210 ∷ does a (OnVersion 1 (Disconnect None))
@@ -816,7 +816,7 @@ published_is = refl
 
 -- ---- blocks
 
--- the lines below k
+-- The lines below k.
 abbrev pub lines_below : ℕ → List ℕ
 lines_below zero = []
 lines_below (suc k) = k ∷ lines_below k
@@ -904,7 +904,7 @@ unfolding next replay_of replay_step effect judge judged_for judged_version queu
     copy_of
 hundred = refl
 
--- ---- a carrier's copy, in states where nothing waits for it
+-- ---- a carrier's copy, in states with nothing pending for it
 
 copy_is_in_force : map (λ k. copy_of w k (Number n) kept.history) (a ∷ b ∷ c ∷ [])
     ≡ Some (record { lrn = 2025440000; cic = None }) ∷ Some (record {
@@ -948,7 +948,7 @@ cancellation_phases : phases (both_creates 5000 ++ ClockMoment 10 ∷ does b (On
 unfolding next replay_of replay_step effect judge judged_for judged_version queue tests out
 cancellation_phases = refl
 
--- a number of the block is ported to AAAA
+-- A number of the block is ported to AAAA.
 abbrev pub ported_in_block : List Input
 ported_in_block =
     does a (NewProviderCreate 2025337500 b a 0 2025440000 None) ∷ does b
@@ -977,7 +977,7 @@ administrator_is_no_carrier : map (refusal start) (does npac (RegisterCarrier np
 unfolding next replay_of replay_step effect judge judged_for judged_version queue tests out
 administrator_is_no_carrier = refl
 
--- ---- a row whose release minute is 0: to judge from minute 1 on, or from 0, is not the same
+-- ---- a row whose release minute is 0: judging from minute 1 and judging from 0 differ
 
 abbrev pub released_at_0 : Record
 released_at_0 = record {
@@ -999,10 +999,10 @@ from_0_on : entered_at (caught_up (first_set w) 1 released_at_0) ≡ 0 ∷ []
 unfolding judged_for judge judged_version
 from_0_on = refl
 
--- ---- rows that hold two versions in force catch up to a record that a run reaches: so a record
--- that rows show must be sound
+-- ---- rows with two versions in force that catch up to a reachable record: so an earlier record
+-- must be sound
 
--- version 1 deleted at 25 with one acknowledgement, version 2 active at 30
+-- Version 1 is deleted at 25 with one acknowledgement, and version 2 is active at 30.
 abbrev pub ported_again : State
 ported_again = state_after start (
     both_creates 0 ++ does a (OnVersion 1 Activate) ∷ acks 1 1 (a ∷ b ∷ c ∷ []) ++ ClockMoment 10
@@ -1012,7 +1012,7 @@ ported_again = state_after start (
     ++ acks
     2 1 (a ∷ b ∷ c ∷ []))
 
--- the same, but version 1 as it stood at 10
+-- The same record, but with version 1 as it was at 10.
 abbrev pub still_sending : Version → Version
 still_sending v = if v.id == 1 then record v { status = Sending Delete; since = 10 } else v
 
@@ -1026,7 +1026,7 @@ two_are_in_force : length (filter in_force two_in_force.versions) ≡ 2
 unfolding next replay_of replay_step effect judge judged_for judged_version queue tests out
 two_are_in_force = refl
 
--- how each version stands, and how its broadcasts closed
+-- The status and minute of each version, and the outcomes of its broadcasts.
 abbrev pub closings : Record → List (ℕ × Status × ℕ × List Outcome)
 closings r = map (λ (v : Version). (
   v.id,

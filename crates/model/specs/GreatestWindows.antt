@@ -1,5 +1,5 @@
--- Worked examples of the greatest windows, at their last minute and the one before it. Those are
--- too many minutes to be judged one by one, so a version is judged at that minute alone.
+-- Worked examples of the greatest windows, at their last minute and the one before it. Judging
+-- every minute would take too long, so each example judges one.
 use Rattle.std.specs.Prelude.{ℕ, [], ◌∷◌, map, Some, ◌≡◌, refl}
 use Rattle.model.specs.Statuses.{Status, Pending, Conflict, CancelPending, Sending, Active, Failed, DisconnectPending, Canceled}
 use Rattle.model.specs.Statuses.{Create, Delete}
@@ -68,7 +68,7 @@ released : map (λ j. at j (in_status (DisconnectPending 1000000))) (999999 ∷ 
 unfolding judged_version
 released = refl
 
--- an age below zero is not reached
+-- Before it begins, a status has no age.
 unborn : map (λ j. at j (in_status Conflict)) (0 ∷ 49 ∷ []) ≡ Conflict ∷ Conflict ∷ []
 unfolding judged_version
 unborn = refl

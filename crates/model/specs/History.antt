@@ -1,4 +1,4 @@
--- The accepted commands and acknowledgements, newest first, and what they make of each subject.
+-- The accepted requests, newest first, and the records that they make of each subject.
 use Rattle.std.specs.Prelude.{ℕ, suc, ◌+◌, Bool, true, false, ◌&&◌, ◌==◌, nat_lt, List, [], ◌∷◌, ◌++◌, map, filter, length, Option, Some, None, is_some, is_none, unwrap_or, if◌then◌else◌, ⊤, ◌<◌}
 use Rattle.std.specs.List.{list_any}
 use Rattle.numbers.specs.Digits.{number_in}
@@ -15,23 +15,24 @@ use Rattle.model.specs.Judge.{judged}
 
 -- ---- entries
 
--- what a caller did: a command, or the acknowledgement of an attempt of a version
+-- A caller's request: a command, or the acknowledgement of an attempt of a version.
 pub data Request : Type 0 where
   CommandRequest : (command : Command) → Request
   AcknowledgementRequest : (id attempt : ℕ) → Request
 
+-- An accepted request, with its minute and its caller.
 pub record Entry : Type 0 where
   pub minute : ℕ
   pub caller : ℕ
   pub request : Request
 
--- the lines of a donation are lines: three digits
+-- Holds if each line of a donation is below 1,000: three digits.
 abbrev pub AreLines : List ℕ → Type 0
 AreLines [] = ⊤
 AreLines (line ∷ lines) = (line < 1000) × AreLines lines
 
--- what the values of a request are by their types: of a donation lines, and windows of at least a
--- minute
+-- Holds if the values of a request are of their types: the lines of a donation, and windows of at
+-- least a minute. Other requests have no such values.
 abbrev pub HasValues : Request → Type 0
 HasValues (CommandRequest (Donate block used lrn cic)) = AreLines used
 HasValues (CommandRequest (RegisterCarrier spid)) = ⊤
@@ -45,75 +46,80 @@ HasValues (CommandRequest (Release block)) = ⊤
 HasValues (CommandRequest (SetWindows windows)) = AreWindows windows
 HasValues (AcknowledgementRequest id attempt) = ⊤
 
--- ---- the registry, by searching the history
+-- ---- the registry, searched in the history
 
--- what the newest entry that names it says
+-- The value, or else the other one.
 abbrev pub or_else : {A : Type 0} → Option A → Option A → Option A
 or_else None other = other
 or_else (Some x) other = Some x
 
+-- What `named` returns for the newest entry that it has a value for.
 abbrev pub search_history : {A : Type 0} → (Entry → Option A) → List Entry → Option A
 search_history named [] = None
 search_history named (e ∷ h) = or_else (named e) (search_history named h)
 
--- the carrier that an entry registers
+-- The carrier that a request registers.
 abbrev pub carrier_named : Request → Option ℕ
 carrier_named (CommandRequest (RegisterCarrier spid)) = Some spid
 carrier_named _ = None
 
--- the registered carriers, rising
+-- The carriers after a registration, ascending, without duplicates.
 abbrev pub carrier_added : Option ℕ → List ℕ → List ℕ
 carrier_added None cs = cs
 carrier_added (Some c) cs = with_number c cs
 
+-- All registered carriers, ascending, without duplicates.
 abbrev pub carriers : List Entry → List ℕ
 carriers [] = []
 carriers (e ∷ h) = carrier_added (carrier_named e.request) (carriers h)
 
--- who registered a routing number
+-- The carrier that registers this routing number, if the request does.
 abbrev pub lrn_named : ℕ → ℕ → Request → Option ℕ
 lrn_named lrn caller (CommandRequest (RegisterRoutingNumber l)) = if l == lrn then Some caller
     else None
 lrn_named lrn caller _ = None
 
+-- The carrier that registered the routing number.
 abbrev pub lrn_owner : ℕ → List Entry → Option ℕ
 lrn_owner lrn h = search_history (λ e. lrn_named lrn e.caller e.request) h
 
--- for whom a code was opened
+-- The carrier that the request opens this code for, if it does.
 abbrev pub code_named : ℕ → Request → Option ℕ
 code_named code (CommandRequest (OpenCode c spid)) = if c == code then Some spid else None
 code_named code _ = None
 
+-- The carrier that the code was opened for.
 abbrev pub code_holder : ℕ → List Entry → Option ℕ
 code_holder code h = search_history (λ e. code_named code e.request) h
 
--- who donated a block
+-- The carrier that donates this block, if the request does.
 abbrev pub donor_named : ℕ → ℕ → Request → Option ℕ
 donor_named block caller (CommandRequest (Donate b used lrn cic)) = if b == block then Some caller
     else None
 donor_named block caller _ = None
 
+-- The carrier that donated the block.
 abbrev pub donor_of : ℕ → List Entry → Option ℕ
 donor_of block h = search_history (λ e. donor_named block e.caller e.request) h
 
--- ---- the sets of windows
+-- ---- sets of windows
 
--- the windows that an entry sets
+-- The windows that a request sets.
 abbrev pub windows_named : Request → Option Windows
 windows_named (CommandRequest (SetWindows windows)) = Some windows
 windows_named _ = None
 
--- windows that are set are the next set
+-- The next set if windows are set, and this one otherwise.
 abbrev pub set_added : Option Windows → WindowSet → WindowSet
 set_added None set = set
 set_added (Some windows) set = record { number = set.number + 1; windows = windows }
 
--- the present set: the one that was set last, and before any the first
+-- The present set: the one that was set last, or the first set.
 abbrev pub present_set : Windows → List Entry → WindowSet
 present_set w [] = first_set w
 present_set w (e ∷ h) = set_added (windows_named e.request) (present_set w h)
 
--- the set of a number, if there is one
+-- The set if it has this number, and the other one otherwise.
 abbrev pub set_if : ℕ → WindowSet → Option WindowSet → Option WindowSet
 set_if number set other = if set.number == number then Some set else other
 
@@ -121,6 +127,7 @@ abbrev pub set_named : ℕ → Option Windows → WindowSet → Option WindowSet
 set_named number None last other = other
 set_named number (Some windows) last other = set_if number (set_added (Some windows) last) other
 
+-- The set with this number, if there is one.
 abbrev pub set_of_number : ℕ → Windows → List Entry → Option WindowSet
 set_of_number number w [] = set_if number (first_set w) None
 set_of_number number w (e ∷ h) =
@@ -128,8 +135,7 @@ set_of_number number w (e ∷ h) =
 
 -- ---- creates
 
--- a create of the other side is a second one: pending or conflict, the same providers, and the
--- caller's own create missing
+-- Whether a version with this status may still get a second create: it is pending or in conflict.
 abbrev pub awaits_creates : Status → Bool
 awaits_creates Pending = true
 awaits_creates Conflict = true
@@ -142,7 +148,9 @@ awaits_creates (DisconnectPending release) = false
 awaits_creates Old = false
 awaits_creates Canceled = false
 
--- over the status, the providers and the create of the caller's side, so that it serves a row too
+-- Whether a create is the second one of a version: the version may still get it, names the same
+-- providers, and lacks the create of the caller's side. It takes fields, so that it applies to a
+-- row too.
 abbrev pub lacks_create : (old_provider new_provider : ℕ) → Status → (its_old its_new : ℕ)
     → (made_at : Option ℕ) → Bool
 lacks_create old_provider new_provider status its_old its_new made_at =
@@ -157,36 +165,39 @@ abbrev pub lacks_new_create : ℕ → ℕ → Version → Bool
 lacks_new_create old_provider new_provider v =
     lacks_create old_provider new_provider v.status v.old_provider v.new_provider v.new_at
 
--- the new provider's second create
+-- The version with the new provider's create, made at this minute.
 abbrev pub with_new_create : Routing → ℕ → Version → Version
 with_new_create routing minute v = record v { new_at = Some minute; routing = Some routing }
 
 abbrev pub has_both_creates : (old_at new_at : Option ℕ) → Bool
 has_both_creates old_at new_at = is_some old_at && is_some new_at
 
--- on which side one of a version's two providers stands
+-- The side of one of a version's two providers.
 abbrev pub side_of : (provider old_provider : ℕ) → Side
 side_of provider old_provider = if provider == old_provider then OldProvider else NewProvider
 
--- ---- what an entry does to a version that is there
+-- ---- what a request does to an existing version
 
--- `present`: the set of windows that holds, by which what a version becomes will be judged
+-- `present` is the present set of windows, which judges a version that changes from then on.
 module _ (present : WindowSet) where
-  -- the old provider's second create
+  -- The version with the old provider's create, made at this minute. Without authorization it
+  -- enters conflict, and its one conflict is spent.
   abbrev pub with_old_create : Bool → ℕ → Version → Version
   with_old_create authorized minute v =
       if authorized
       then record v { old_at = Some minute }
       else record (with_status present Conflict minute v) { old_at = Some minute; spent = true }
 
-  -- a cancel of a version with both creates waits for the other provider's acknowledgement
+  -- The version after a cancel that precedes its activation. With both creates it is cancel-pending
+  -- until the other provider acknowledges; otherwise it is canceled.
   abbrev pub cancelled_before_sending : ℕ → ℕ → Version → Version
   cancelled_before_sending caller minute v =
       if has_both_creates v.old_at v.new_at
       then with_status present (CancelPending (side_of caller v.old_provider)) minute v
       else with_status present Canceled minute v
 
-  -- by the status in which the version is cancelled. In the other statuses a cancel is refused
+  -- The version after a cancel in this status. In the statuses that stay as they are a cancel is
+  -- refused.
   abbrev pub cancelled_by : Status → ℕ → ℕ → Version → Version
   cancelled_by Pending caller minute v = cancelled_before_sending caller minute v
   cancelled_by Conflict caller minute v = cancelled_before_sending caller minute v
@@ -199,7 +210,8 @@ module _ (present : WindowSet) where
   cancelled_by Old caller minute v = v
   cancelled_by Canceled caller minute v = v
 
-  -- a release that is still to come waits for its minute
+  -- The version after a disconnect. If its release minute is still to come it is
+  -- disconnect-pending; otherwise it sends a delete.
   abbrev pub disconnected : Option ℕ → List ℕ → ℕ → Version → Version
   disconnected None all_carriers minute v = next_attempt present Delete all_carriers minute v
   disconnected (Some release) all_carriers minute v =
@@ -207,7 +219,7 @@ module _ (present : WindowSet) where
       then with_status present (DisconnectPending release) minute v
       else next_attempt present Delete all_carriers minute v
 
-  -- what a command makes of the version that it names
+  -- The version after a command that names it.
   abbrev pub version_after_command : (caller minute : ℕ) → (all_carriers : List ℕ) → VersionCommand
       → Version
       → Version
@@ -227,7 +239,7 @@ module _ (present : WindowSet) where
   version_after_command caller minute all_carriers (ModifyRouting lrn cic) v =
       next_attempt present (Modify (record { lrn = lrn; cic = cic })) all_carriers minute v
 
-  -- a version of the subject s after a request
+  -- A version of subject s after a request.
   abbrev pub version_after_request : Subject → ℕ → ℕ → List ℕ → Request → Version → Version
   version_after_request s caller minute all_carriers (CommandRequest (RegisterCarrier spid)) v =
       joined_by spid v
@@ -256,18 +268,19 @@ module _ (present : WindowSet) where
   version_after_request s caller minute all_carriers (AcknowledgementRequest id attempt) v =
       of_id id (acknowledged_by present caller attempt minute) v
 
--- ---- what an entry makes
+-- ---- versions that a request makes
 
--- the used numbers of a block, each once, rising
+-- The numbers, ascending, without duplicates.
 abbrev pub rising : List ℕ → List ℕ
 rising [] = []
 rising (n ∷ ns) = with_number n (rising ns)
 
+-- The used numbers of a block, by their lines, ascending, without duplicates.
 abbrev pub used_numbers : ℕ → List ℕ → List Subject
 used_numbers block used = map (λ line. Number (number_in block line)) (rising used)
 
--- the subjects for which a request makes a version, in the order of their ids; `at` gives the
--- records before it
+-- The subjects that a request makes a version for, in the order of their ids. `at` gives each
+-- subject's record before the request.
 abbrev pub subjects_made_by : Request → (Subject → Record) → List Subject
 subjects_made_by (CommandRequest (OldProviderCreate tn old_provider new_provider due authorized))
     at =
@@ -288,7 +301,7 @@ subjects_made_by (CommandRequest (SetWindows windows)) at = []
 subjects_made_by (AcknowledgementRequest id attempt) at = []
 
 module _ (present : WindowSet) where
-  -- a version as it is made, before its status
+  -- A new version: pending, without creates, routing and broadcasts.
   abbrev pub blank_version : ℕ → ℕ → ℕ → ℕ → ℕ → Version
   blank_version id old_provider new_provider due minute = record {
     id = id;
@@ -307,8 +320,8 @@ module _ (present : WindowSet) where
     broadcasts = [];
   }
 
-  -- the version that a request makes. An assigned block has a donor. Of requests that make none
-  -- (`subjects_made_by`) the version is asked for nowhere
+  -- The version that a request makes. An assigned block has a donor. The version is never used for
+  -- a request that makes none (`subjects_made_by`).
   abbrev pub made_version : ℕ → ℕ → ℕ → List ℕ → Option ℕ → Request → Version
   made_version id caller minute all_carriers donor
       (CommandRequest (OldProviderCreate tn old_provider new_provider due authorized)) =
@@ -345,13 +358,13 @@ module _ (present : WindowSet) where
   made_version id caller minute all_carriers donor (AcknowledgementRequest its_id attempt) =
       blank_version id caller caller minute minute
 
--- the id of the version that is made for s, if one is: the subjects take ids in turn
+-- The id of the version that is made for s, if one is. The subjects take ids in turn, the first of
+-- them `id`.
 abbrev pub id_among : Subject → ℕ → List Subject → Option ℕ
 id_among s id [] = None
 id_among s id (t ∷ ts) = if subject_eq s t then Some id else id_among s (suc id) ts
 
--- the block that an assignment names; any number stands for the other requests, which have no use
--- for a donor
+-- The block that an assignment names. Other requests use no donor, so any number serves for them.
 abbrev pub assigned_block : Request → ℕ
 assigned_block (CommandRequest (Assign block holder lrn cic)) = block
 assigned_block (CommandRequest (RegisterCarrier spid)) = 0
@@ -365,24 +378,25 @@ assigned_block (CommandRequest (Release block)) = 0
 assigned_block (CommandRequest (SetWindows windows)) = 0
 assigned_block (AcknowledgementRequest id attempt) = 0
 
--- the new version in front, if one is made
+-- The versions, after the new one if one is made.
 abbrev pub with_made : Option ℕ → (ℕ → Version) → List Version → List Version
 with_made None made vs = vs
 with_made (Some id) made vs = made id ∷ vs
 
 -- ---- the replay
 
--- what stands after an entry: for which subjects the versions 1, 2, .. were made, and each
--- subject's record at each minute from the entry's on
+-- Records made from a history: the subjects that the versions 1, 2, .. were made for, and each
+-- subject's record at each minute from that of the newest entry on.
 pub record Replay : Type 0 where
   pub made : List Subject
   pub at : Subject → ℕ → Record
 
--- ids are given in turn, from 1 on
+-- The id of the next version. Ids are given in turn, from 1 on.
 abbrev pub next_after : List Subject → ℕ
 next_after made = 1 + length made
 
--- one entry's effect on the record of s, while this set of windows holds
+-- The record of s after one entry. `present` is the present set of windows before the entry; `made`
+-- is the id of the version that it makes for s, if it makes one.
 unfoldable pub effect : WindowSet → Subject → Option ℕ → Option ℕ → Entry → Record → Record
 effect present s made donor e r = record {
   carriers = carrier_added (carrier_named e.request) r.carriers;
@@ -393,8 +407,9 @@ effect present s made donor e r = record {
       r.versions);
 }
 
--- one more entry, before which this set of windows holds: the minutes after it are judged, each
--- before what comes in it, by the windows that it leaves
+-- The replay with one more entry. `present` is the present set of windows before the entry. Each
+-- minute after the entry is judged before any entry of that minute, by the set that this entry
+-- leaves.
 unfoldable pub replay_step : WindowSet → Entry → Option ℕ → Replay → Replay
 replay_step present e donor before =
     let new = subjects_made_by e.request (λ s. before.at s e.minute) in
@@ -405,28 +420,30 @@ replay_step present e donor before =
           (before.at s e.minute));
     }
 
--- the first state: no version
+-- The replay of the empty history: no version.
 abbrev pub empty_replay : Replay
 empty_replay = record { made = []; at = λ s m. nothing }
 
--- what a history means, from the first windows on
+-- The replay of a history that begins with these windows.
 unfoldable pub replay_of : Windows → List Entry → Replay
 replay_of w [] = empty_replay
 replay_of w (e ∷ h) = replay_step (present_set w h) e (donor_of (assigned_block e.request) h)
     (replay_of w h)
 
--- the record of a subject at a minute that is not before the last entry
+-- The record of a subject at a minute that is not before the newest entry's.
 abbrev pub replay : Windows → Subject → List Entry → ℕ → Record
 replay w s h m = (replay_of w h).at s m
 
--- the subjects for which versions were made, in the order of the ids
+-- The subjects that versions were made for, in the order of the ids.
 abbrev pub subjects_made : Windows → List Entry → List Subject
 subjects_made w h = (replay_of w h).made
 
+-- The id of the next version.
 abbrev pub next_id : Windows → List Entry → ℕ
 next_id w h = next_after (subjects_made w h)
 
--- the subject to which an id was given, where the first of the list has the id `from`
+-- The subject that the version with this id was made for, if the first in the list has the id
+-- `from`.
 abbrev pub subject_of_id : ℕ → ℕ → List Subject → Option Subject
 subject_of_id id from [] = None
 subject_of_id id from (s ∷ ss) = if id == from then Some s else subject_of_id id (suc from) ss

@@ -7,13 +7,13 @@ use Rattle.model.specs.Windows.{Windows, WindowSet, has_age}
 use Rattle.model.specs.Versions.{Version, Record}
 use Rattle.model.specs.Changes.{with_status, next_attempt, closed_with, outcome_at_end, changed_at}
 
--- from when the retention of a pending version counts: the latest of due, since and the new
--- provider's create
+-- The minute when the retention of a pending version begins: the latest of its due minute, the
+-- minute when it entered the status, and the minute of the new provider's create.
 abbrev pub retained_from : (due since : ℕ) → (new_at : Option ℕ) → ℕ
 retained_from due since new_at = max due (max since (unwrap_or new_at 0))
 
--- whether minute j ends what a status waits for, by the other fields of its version or of the
--- version's row
+-- Whether the timer of a status has expired at minute j, by the other fields of a version or of its
+-- row.
 abbrev pub has_expired : Windows → (j due : ℕ) → (old_at new_at : Option ℕ) → (since : ℕ) → Status
     → Bool
 has_expired w j due old_at new_at since Pending =
@@ -31,15 +31,15 @@ has_expired w j due old_at new_at since Failed = false
 has_expired w j due old_at new_at since Old = false
 has_expired w j due old_at new_at since Canceled = false
 
--- whether minute j ends what the version waits for, by its status and the windows that held when it
--- entered it
+-- Whether the timer of the version has expired at minute j, by the windows that were present when
+-- it entered its status.
 abbrev pub is_expired : ℕ → Version → Status → Bool
 is_expired j v status = has_expired v.held.windows j v.due v.old_at v.new_at v.since status
 
--- `present`: the set of windows that holds, by which what a version becomes will be judged
+-- `present` is the present set of windows, which judges a version that changes from then on.
 module _ (present : WindowSet) where
-  -- what the version becomes at that minute. One that the old provider cancelled lacks the new
-  -- one's acknowledgement, and becomes conflict
+  -- The version after its timer expired at minute j. If the old provider cancelled it, the new
+  -- provider's acknowledgement is missing and it becomes conflict.
   abbrev pub version_on_expiry : List ℕ → ℕ → Version → Status → Version
   version_on_expiry all_carriers j v Pending = with_status present Canceled j v
   version_on_expiry all_carriers j v Conflict = with_status present Canceled j v
@@ -55,24 +55,24 @@ module _ (present : WindowSet) where
   version_on_expiry all_carriers j v Old = v
   version_on_expiry all_carriers j v Canceled = v
 
-  -- one version judged at minute j
+  -- One version, judged at minute j.
   unfoldable pub judged_version : List ℕ → ℕ → Version → Version
   judged_version all_carriers j v = if is_expired j v v.status
       then version_on_expiry all_carriers j v v.status else v
 
-  -- a subject's record judged at minute j
+  -- A subject's record, judged at minute j.
   unfoldable pub judge : ℕ → Record → Record
   judge j r = record r { versions = changed_at present j (judged_version r.carriers j) r.versions }
 
-  -- judged at each of the next so many minutes after `from`
+  -- The record, judged at each of the next n minutes after `from`, in order.
   unfoldable pub judged_for : ℕ → ℕ → Record → Record
   judged_for from zero r = r
   judged_for from (suc n) r = judge (suc (from + n)) (judged_for from n r)
 
-  -- judged at each minute after `from`, up to `until`
+  -- The record, judged at each minute after `from`, up to `until`.
   abbrev pub judged : ℕ → ℕ → Record → Record
   judged from until r = judged_for from (until - from) r
 
-  -- judged at each minute from 0 up to `until`
+  -- The record, judged at each minute from 0 up to `until`.
   abbrev pub caught_up : ℕ → Record → Record
   caught_up until r = judged 0 until (judge 0 r)

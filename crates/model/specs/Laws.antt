@@ -1,4 +1,4 @@
--- Laws of the history machine, each the contract of a function.
+-- Laws of the history machine, each the contract of a function (`laws.rt`).
 use Rattle.std.specs.Prelude.{◌≡◌, ◌≢◌, ◌||◌, ℕ, suc, ◌≤◌, ◌<◌, Bool, true, false, not, is_some, List, [], ◌∷◌, ⊤, Option, Some, None, option_map, filter, length, find, option_and_then, map, ◌==◌, All, Contains}
 use Rattle.std.specs.List.{list_any}
 use Rattle.numbers.specs.Digits.{block_of}
@@ -18,49 +18,48 @@ use Rattle.model.specs.Machine.{Shown, accepted, next, out, id_of_create, each_o
 use Rattle.model.specs.Copies.{copy_handed}
 use Rattle.model.specs.Content.{Represents, empty_content}
 
--- to judge up to b and then up to c is to judge up to c
+-- Judging up to b and then up to c is judging up to c.
 abbrev pub MinutesCompose : Type 0
 MinutesCompose = (w : WindowSet) (a b c : ℕ) (r : Record) → a ≤ b → b ≤ c
     → judged w b c (judged w a b r) ≡ judged w a c r
 
--- no version's status is over at minute j
+-- Holds if no version's timer has expired at minute j.
 abbrev pub IsQuiet : ℕ → List Version → Type 0
 IsQuiet j [] = ⊤
 IsQuiet j (v ∷ vs) = (is_expired j v v.status ≡ false) × IsQuiet j vs
 
--- where nothing is over before minute d, to judge d alone leaves the record of every later minute
+-- If no timer expires before minute d, judging only d first does not change the record of minute d
+-- or of any later one. Windows are at least a minute.
 abbrev pub DeadlineSuffices : Type 0
 DeadlineSuffices =
     (w : WindowSet) → AreWindows w.windows → (d now : ℕ) (r : Record) → d ≤ now
     → ((j : ℕ) → j < d → IsQuiet j r.versions) →
     caught_up w now (judge w d r) ≡ caught_up w now r
 
--- a store in which nothing was written represents the first state
+-- The empty content represents the first state.
 abbrev pub EmptyIsFirst : Type 0
 EmptyIsFirst = (w : Windows) → AreWindows w → Represents empty_content (first_state w)
 
--- a state that a run can reach
+-- Holds if some run of the machine leads to the state.
 pub record IsReachable (st : State) : Type 0 where
   pub windows : AreWindows st.windows
   pub history : HasHistory st
 
--- at most one version of a subject in force, at most one open, and an open one only beside none or
--- an active one
+-- Holds if a subject has at most one version in force and at most one open. Beside an open one, the
+-- version in force is active.
 pub record IsOrderly (s : Subject) (r : Record) : Type 0 where
   pub one_in_force : length (filter in_force r.versions) ≤ 1
   pub one_open : length (filter (is_open s) r.versions) ≤ 1
   pub beside_active : (o v : Version) → open_version s r ≡ Some o → version_in_force r ≡ Some v
       → v.status ≡ Active
 
--- in every state that a run can reach each subject is orderly
+-- In every reachable state each subject is orderly.
 abbrev pub NoTwoActive : Type 0
 NoTwoActive = (st : State) → IsReachable st → (s : Subject) → IsOrderly s (record_now st s)
 
--- from every state that a run can reach, until a subject is asked for again, at most two minutes
--- change its record: a version
--- that is cancel-pending may become conflict and then canceled, one that is disconnect-pending is
--- sent and then closed, and no
--- other version waits beside it
+-- From every reachable state, until the next request, at most two minutes change a subject's
+-- record. A cancel-pending version may become conflict and then canceled. A disconnect-pending one
+-- is sent and then closed. Beside either, no other version has a timer that still runs.
 abbrev pub AtMostTwoFirings : Type 0
 AtMostTwoFirings =
     (st : State) → IsReachable st → (s : Subject) →
@@ -68,13 +67,13 @@ AtMostTwoFirings =
     judge (set_now st) (suc m) (judged (set_now st) st.now m (record_now st s))
     ≡ judged (set_now st) st.now m (record_now st s))
 
--- in every state that a run can reach, what is in force has a routing
+-- In every reachable state each version in force has a routing.
 abbrev pub InForceIsRouted : Type 0
 InForceIsRouted = (st : State) → IsReachable st → (s : Subject) (v : Version)
     → version_in_force (record_now st s) ≡ Some v → is_some v.routing ≡ true
 
--- whether a request is on a version, or makes one. A donation makes any number of them, and answers
--- their ids
+-- Whether a request is on a version, or makes one. A donation makes any number of versions and is
+-- answered with their ids, so it does not count.
 abbrev pub is_on_version : Request → Bool
 is_on_version (AcknowledgementRequest id attempt) = true
 is_on_version (CommandRequest (OnVersion id c)) = true
@@ -89,7 +88,7 @@ is_on_version (CommandRequest (OpenCode code spid)) = false
 is_on_version (CommandRequest (SetWindows windows)) = false
 is_on_version (CommandRequest (Donate block used lrn cic)) = false
 
--- the id of that version
+-- The id of the version that such a request is on, or makes.
 abbrev pub id_shown : State → Request → Option ℕ
 id_shown st (AcknowledgementRequest id attempt) = Some id
 id_shown st (CommandRequest (OnVersion id c)) = Some id
@@ -106,7 +105,7 @@ id_shown st (CommandRequest (OpenCode code spid)) = None
 id_shown st (CommandRequest (SetWindows windows)) = None
 id_shown st (CommandRequest (Donate block used lrn cic)) = None
 
--- the answer is the version of this id as it then stands
+-- Holds if the request is answered with the version with this id, as it is after the request.
 pub record IsShownWith (st : State) (caller : ℕ) (request : Request) (id : ℕ) : Type 0 where
   pub shown : SubjectVersion
   pub has_id : shown.version.id ≡ id
@@ -114,7 +113,8 @@ pub record IsShownWith (st : State) (caller : ℕ) (request : Request) (id : ℕ
   pub answer : out st (RequestFrom caller request)
       ≡ Shown (Some (view_of (accepted st (RequestFrom caller request)) shown))
 
--- an accepted request on a version, or one that makes one, is answered by that version
+-- In every reachable state an accepted request on a version, or one that makes one, is answered
+-- with that version.
 abbrev pub VersionIsShown : Type 0
 VersionIsShown =
     (st : State) → IsReachable st → (caller : ℕ) (request : Request) → HasValues request
@@ -122,8 +122,8 @@ VersionIsShown =
     is_on_version request ≡ true → (id : ℕ) × (id_shown st request ≡ Some id)
     × IsShownWith st caller request id
 
--- what a command on a version is refused for, by whether the caller is known and the version that
--- is found: its own tests and no others
+-- The refusal of a command on a version, from whether the caller is registered and from the version
+-- found. It uses the command's own tests and no others.
 abbrev pub version_table : State → (caller : ℕ) → VersionCommand → (known : Bool)
     → Option SubjectVersion → Option ℕ
 version_table st caller c known found = first_refusal (
@@ -132,28 +132,30 @@ version_table st caller c known found = first_refusal (
       not (holds_of (λ (e : SubjectVersion). is_number e.subject) found),
     ) ∷ version_tests (set_now st).windows st.now caller (has_open st) (owns st) c found)
 
--- in every state that a run can reach, a command on a version is refused so
+-- In every reachable state a command on a version is refused by these tests.
 abbrev pub RefusedByOwnTests : Type 0
 RefusedByOwnTests =
     (st : State) → IsReachable st → (caller id : ℕ) (c : VersionCommand) →
     refusal st (RequestFrom caller (CommandRequest (OnVersion id c))) ≡ version_table st caller c
     (is_carrier st caller) (version_of_id st id)
 
--- a refusal has the least number whose test holds, whatever is asked
+-- The refusal of any input has the least number whose test holds.
 abbrev pub LeastIsMet : Type 0
 LeastIsMet = (st : State) (input : Input) (k n : ℕ) → refusal st input ≡ Some k
     → holds_at n (tests st input) ≡ true → k ≤ n
 
--- nothing about s waits for the carrier
+-- Holds if no download about s is pending for the carrier.
 abbrev pub NothingWaits : State → ℕ → Subject → Type 0
 NothingWaits st c s = list_any (λ (d : Download). subject_eq d.subject s) (queue st c) ≡ false
 
--- where nothing about a subject waits for a carrier, its copy is what was published to it
+-- In every reachable state a registered carrier's copy of a subject is what was published to it, if
+-- no download about the subject is pending for it.
 abbrev pub CopyIsPublished : Type 0
 CopyIsPublished = (st : State) → IsReachable st → (c : ℕ) (s : Subject) → is_carrier st c ≡ true
     → NothingWaits st c s → copy_of st.windows c s st.history ≡ published st c s
 
--- active, disconnect-pending and partial-failure: in force with nothing under way
+-- Whether a version with this status is in force and not sending: active, disconnect-pending or
+-- partial-failure.
 abbrev pub is_steady : Status → Bool
 is_steady Active = true
 is_steady (DisconnectPending release) = true
@@ -166,28 +168,31 @@ is_steady Failed = false
 is_steady Old = false
 is_steady Canceled = false
 
+-- The routing of the version with such a status.
 abbrev pub steady_routing : Record → Option Routing
 steady_routing r =
     option_and_then (λ (v : Version). v.routing) (find (λ (v : Version). is_steady v.status)
     r.versions)
 
--- where nothing waits for it and no broadcast is open, its copy is the routings of these versions
+-- In every reachable state, if nothing is pending for a registered carrier and no broadcast is
+-- open, its copy is the routings of these versions.
 abbrev pub CopyIsInForce : Type 0
 CopyIsInForce = (st : State) → IsReachable st → (c : ℕ) → is_carrier st c ≡ true → queue st c ≡ []
     → any_open st ≡ false → (s : Subject)
     → copy_of st.windows c s st.history ≡ steady_routing (record_now st s)
 
--- each of these is later by minute, id and attempt
+-- Holds if each of these downloads is later than d, by minute, id and attempt.
 abbrev pub AllBehind : Download → List Download → Type 0
 AllBehind d [] = ⊤
 AllBehind d (x ∷ xs) = (is_before d x ≡ true) × AllBehind d xs
 
+-- Holds if the downloads ascend by minute, id and attempt, without duplicates.
 abbrev pub IsQueueSorted : List Download → Type 0
 IsQueueSorted [] = ⊤
 IsQueueSorted (d ∷ ds) = AllBehind d ds × IsQueueSorted ds
 
--- the download is that of a broadcast that is not withdrawn, was sent to the carrier, and that the
--- carrier has not acknowledged
+-- Holds if the download is of a broadcast that was sent to the carrier, is not withdrawn, and that
+-- the carrier has not acknowledged.
 pub record IsSentTo (st : State) (c : ℕ) (d : Download) : Type 0 where
   pub at : SubjectVersion
   pub broadcast : Broadcast
@@ -198,38 +203,37 @@ pub record IsSentTo (st : State) (c : ℕ) (d : Download) : Type 0 where
   pub recipient : is_among c broadcast.recipients ≡ true
   pub missing : is_among c broadcast.acknowledged ≡ false
 
--- in every state that a run can reach, a carrier's queue rises by minute, id and attempt, and has
--- those downloads and no others
+-- In every reachable state a carrier's queue ascends by minute, id and attempt, and has exactly
+-- those downloads.
 abbrev pub QueueIsWhatWaits : Type 0
 QueueIsWhatWaits = (st : State) → IsReachable st → (c : ℕ) → IsQueueSorted (queue st c)
     × All (IsSentTo st c) (queue st c) × ((d : Download) → IsSentTo st c d
     → Contains (queue st c) d)
 
--- in every state that a run can reach, a carrier's copy is that which is started with the rows of
--- its registration and takes each
--- download of its queue that it has acknowledged, in their order
+-- In every reachable state a carrier's copy starts with the rows of its registration. Then it takes
+-- each download of its queue that the carrier acknowledged, in order.
 abbrev pub CopyIsHanded : Type 0
 CopyIsHanded = (st : State) → IsReachable st → (c : ℕ) (s : Subject)
     → copy_of st.windows c s st.history ≡ copy_handed st.windows c st.history s
 
--- each of these is a later subject
+-- Holds if each of these subjects is later than s.
 abbrev pub AllAbove : Subject → List Subject → Type 0
 AllAbove s [] = ⊤
 AllAbove s (t ∷ ts) = (subject_lt s t ≡ true) × AllAbove s ts
 
--- each subject once, rising
+-- Holds if the subjects ascend, without duplicates.
 abbrev pub AreSubjectsSorted : List Subject → Type 0
 AreSubjectsSorted [] = ⊤
 AreSubjectsSorted (s ∷ ss) = AllAbove s ss × AreSubjectsSorted ss
 
--- the row is that of the version in force of its subject
+-- Holds if the row is that of the version in force of its subject.
 pub record IsOfForce (st : State) (r : InForce) : Type 0 where
   pub version : Version
   pub stands : version_in_force (record_now st r.subject) ≡ Some version
   pub routing : r.routing ≡ version.routing
 
--- in every state that a run can reach, what is in force is listed by subject, each subject once,
--- and is each version in force and no other
+-- In every reachable state the list of what is in force ascends by subject, without duplicates, and
+-- has exactly the versions in force.
 abbrev pub InForceIsListed : Type 0
 InForceIsListed =
     (st : State) → IsReachable st
@@ -238,7 +242,7 @@ InForceIsListed =
     × ((s : Subject) (v : Version) → version_in_force (record_now st s) ≡ Some v
     → Contains (all_in_force st) (record { subject = s; routing = v.routing }))
 
--- a list of subjects, each once, rising: the same subjects
+-- `each_once` returns the same subjects, ascending, without duplicates.
 abbrev pub EachIsOnce : Type 0
 EachIsOnce = (ss : List Subject) → AreSubjectsSorted (each_once ss)
     × ((s : Subject) → (Contains (each_once ss) s → Contains ss s)
@@ -246,17 +250,19 @@ EachIsOnce = (ss : List Subject) → AreSubjectsSorted (each_once ss)
 
 -- ---- who serves a number, and commands on its block
 
--- the carrier that serves, or nobody
+-- The carrier that serves, if one does.
 abbrev pub server_of : Server → Option ℕ
 server_of (ByVersion c) = Some c
 server_of (ByBlock c) = Some c
 server_of InPool = None
 server_of (ByCode holder) = holder
 
+-- Holds if the same carrier serves the number in both states, or no carrier does.
 abbrev pub KeepsService : State → State → ℕ → Type 0
 KeepsService old new n = server_of (serving new n) ≡ server_of (serving old n)
 
--- no donation changes who serves a number that it names as used, or that has a version in force
+-- In every reachable state a donation does not change who serves a number that it names as used, or
+-- that has a version in force.
 abbrev pub DonationKeepsService : Type 0
 DonationKeepsService =
     (st : State) → IsReachable st → (caller block : ℕ) (used : List ℕ) (lrn : ℕ) (cic : Option ℕ)
@@ -266,13 +272,14 @@ DonationKeepsService =
     (version_in_force (record_now st (Number n)))) ≡ true →
     KeepsService st (next st (RequestFrom caller (CommandRequest (Donate block used lrn cic)))) n
 
--- a number that neither an assignment nor a release may take from its carrier: it has a version in
--- force, or a protective one that is open
+-- Whether neither an assignment nor a release may take the number from its carrier: it has a
+-- version in force, or a protective one that is open.
 abbrev pub is_retained : State → ℕ → Bool
 is_retained st n =
     is_some (version_in_force (record_now st (Number n))) || holds_of
     (λ (v : Version). v.protective) (open_version (Number n) (record_now st (Number n)))
 
+-- In every reachable state an assignment does not change who serves such a number.
 abbrev pub AssignmentKeepsService : Type 0
 AssignmentKeepsService =
     (st : State) → IsReachable st → (caller block holder lrn : ℕ) (cic : Option ℕ)
@@ -281,6 +288,7 @@ AssignmentKeepsService =
     → KeepsService st (next st (RequestFrom caller (CommandRequest (Assign block holder lrn cic))))
     n
 
+-- In every reachable state a release does not change who serves such a number.
 abbrev pub ReleaseKeepsService : Type 0
 ReleaseKeepsService =
     (st : State) → IsReachable st → (caller block : ℕ)
@@ -288,7 +296,8 @@ ReleaseKeepsService =
     (n : ℕ) → is_retained st n ≡ true
     → KeepsService st (next st (RequestFrom caller (CommandRequest (Release block)))) n
 
--- a block with a version in force holds no number whose protective version is open
+-- In every reachable state no number of a block with a version in force has a protective version
+-- that is open.
 abbrev pub NoPortUnderBlock : Type 0
 NoPortUnderBlock =
     (st : State) → IsReachable st → (n : ℕ)

@@ -1,4 +1,4 @@
--- The history machine: what it answers, and what it becomes.
+-- The history machine: its answers, and its next states.
 use Rattle.std.specs.Prelude.{ℕ, Bool, suc, zero, List, [], ◌∷◌, map, take, length, Option, Some, None, is_some, option_map, option_and_then, if◌then◌else◌, ◌≡◌, ◌≤◌, ⊤}
 use Rattle.numbers.specs.Digits.{code_of}
 use Rattle.numbers.specs.Subjects.{subject_eq, subject_lt, Subject, Number, Block}
@@ -10,12 +10,12 @@ use Rattle.model.specs.History.{Entry, CommandRequest, AcknowledgementRequest, c
 use Rattle.model.specs.State.{State, Download, InForce, View, set_now, record_now, version_of_id, routing_of, all_in_force, queue, view_of, next_of}
 use Rattle.model.specs.Refusals.{Input, ClockMoment, RequestFrom, QuestionFrom, Knows, Fetch, ShowVersion, Query, AllInForce, Waiting, Ids, second_of, refusal}
 
--- a query's answer: the code is not opened, or where calls are routed
+-- The answer to a query: the code is not opened, or the routing of calls to the number.
 pub data Answer : Type 0 where
   Closed : Answer
   Opened : (routing : Option Routing) → Answer
 
--- what the machine answers
+-- The machine's answer to an input.
 pub data Reply : Type 0 where
   Refused : (number : ℕ) → Reply
   Moved : (now : ℕ) → Reply
@@ -34,8 +34,8 @@ pub data Reply : Type 0 where
 
 -- ---- the next state
 
--- an accepted command or acknowledgement stands in front of the history, and a clock moment sets
--- the minute
+-- The state after an input that is not refused. A request becomes the newest entry of the history,
+-- a clock moment sets the minute, and a question changes nothing.
 abbrev pub accepted : State → Input → State
 accepted st (ClockMoment m) = record st { now = m }
 accepted st (RequestFrom caller request) = record st {
@@ -47,30 +47,33 @@ abbrev pub unless_refused : Option ℕ → State → State → State
 unless_refused None then_state st = then_state
 unless_refused (Some k) then_state st = st
 
+-- The machine's state after an input.
 unfoldable pub next : State → Input → State
 next st input = unless_refused (refusal st input) (accepted st input) st
 
 -- ---- the answer
 
--- the version of an id as it stands
+-- The view of the version with this id.
 abbrev pub shown : State → ℕ → Reply
 shown st id = Shown (option_map (view_of st) (version_of_id st id))
 
--- the version of an id that was found
+-- The view of the version with the id, if an id was found.
 abbrev pub shown_found : State → Option ℕ → Reply
 shown_found st id = Shown (option_map (view_of st) (option_and_then (version_of_id st) id))
 
--- the id that a create acts on: the open version's that it answers to, or the next
+-- The id of the version that a create makes or completes: that of the version whose second create
+-- it is, or else the next id.
 abbrev pub id_of_create : State → (tn : ℕ) → (lacks : Version → Bool) → ℕ
 id_of_create st tn lacks =
     elim (second_of st tn lacks) [ Some v ↦ v.id | None ↦ next_of st ]
 
--- `many` ids from `id` on
+-- `many` ids, from `id` on.
 abbrev pub ids_from : ℕ → ℕ → List ℕ
 ids_from id zero = []
 ids_from id (suc many) = id ∷ ids_from (suc id) many
 
--- what a command answers: st as it was, and new as it is afterwards
+-- The answer to a command that is not refused. `st` is the state before the command, `new` the
+-- state after it.
 abbrev pub reply_of : State → State → ℕ → Command → Reply
 reply_of st new caller (RegisterCarrier spid) = Registered spid (all_in_force st)
 reply_of st new caller (RegisterRoutingNumber lrn) = LrnAdded lrn caller
@@ -89,16 +92,19 @@ reply_of st new caller (OldProviderCreate tn old_provider new_provider due autho
 reply_of st new caller (NewProviderCreate tn old_provider new_provider due lrn cic) =
     shown new (id_of_create st tn (lacks_new_create old_provider new_provider))
 
--- subjects each once, rising
+-- The ascending list with s inserted, unless it already has s.
 abbrev pub with_subject : Subject → List Subject → List Subject
 with_subject s [] = s ∷ []
 with_subject s (t ∷ ts) = if subject_lt s t then s ∷ t ∷ ts else (if subject_eq s t then t ∷ ts
     else t ∷ with_subject s ts)
 
+-- The subjects, ascending, without duplicates.
 abbrev pub each_once : List Subject → List Subject
 each_once [] = []
 each_once (s ∷ ss) = with_subject s (each_once ss)
 
+-- The answer to an input that is not refused. `st` is the state before the input, `new` the state
+-- after it.
 abbrev pub answer_of : State → State → Input → Reply
 answer_of st new (ClockMoment m) = Moved m
 answer_of st new (RequestFrom caller (CommandRequest c)) = reply_of st new caller c
@@ -120,21 +126,24 @@ abbrev pub refused_or : Option ℕ → Reply → Reply
 refused_or (Some k) reply = Refused k
 refused_or None reply = reply
 
+-- The machine's answer to an input.
 unfoldable pub out : State → Input → Reply
 out st input = refused_or (refusal st input) (answer_of st (accepted st input) input)
 
 -- ---- runs
 
--- the state after a list of inputs, and the answers
+-- The state after a list of inputs.
 abbrev pub state_after : State → List Input → State
 state_after st [] = st
 state_after st (i ∷ is) = state_after (next st i) is
 
+-- The answers to a list of inputs.
 abbrev pub answers_to : State → List Input → List Reply
 answers_to st [] = []
 answers_to st (i ∷ is) = out st i ∷ answers_to (next st i) is
 
--- each entry was accepted at its place, no minute falls, and values are those of their types
+-- Holds if each entry was accepted at its place in the history, with values of their types. No
+-- minute is less than an earlier one.
 abbrev pub IsHistory : Windows → List Entry → ℕ → Type 0
 IsHistory w [] now = ⊤
 IsHistory w (e ∷ h) now =
@@ -143,6 +152,6 @@ IsHistory w (e ∷ h) now =
     (RequestFrom e.caller e.request)
     ≡ None) × IsHistory w h e.minute
 
--- a state that runs reach from the first
+-- Holds if some run leads from the first state to this one.
 abbrev pub HasHistory : State → Type 0
 HasHistory st = IsHistory st.windows st.history st.now

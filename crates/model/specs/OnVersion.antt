@@ -1,4 +1,4 @@
--- What a command on a version is refused for, over the version that it names.
+-- The tests that refuse a command on a version, over the version that it names.
 use Rattle.std.specs.Prelude.{ℕ, Bool, true, false, not, ◌&&◌, ◌||◌, ◌==◌, List, [], ◌∷◌, Option}
 use Rattle.numbers.specs.Subjects.{Subject, Number, Block}
 use Rattle.model.specs.Commands.{VersionCommand, Activate, PutInConflict, RemoveFromConflict, Cancel, OldProviderCancellationAcknowledge, NewProviderCancellationAcknowledge, Disconnect, ModifyRouting}
@@ -8,7 +8,7 @@ use Rattle.model.specs.Conditions.{holds_of, is_cancel_pending, is_active, can_a
 use Rattle.model.specs.History.{has_both_creates}
 use Rattle.model.specs.State.{SubjectVersion}
 
--- of the version that was found, if one was
+-- Whether a version was found, and passes the test.
 abbrev pub of_found : (Version → Bool) → Option SubjectVersion → Bool
 of_found test found = holds_of (λ (e : SubjectVersion). test e.version) found
 
@@ -16,12 +16,12 @@ abbrev pub is_number : Subject → Bool
 is_number (Number n) = true
 is_number (Block b) = false
 
--- `w`: the present windows, by which alone it is judged whether a conflict comes too late; ages are
--- judged by those that the version holds. `opened`: whether a subject has an open version; `owns`:
--- whether a routing number is the carrier's
+-- `w` is the present windows, which judge only whether a conflict comes too late; ages are judged
+-- by the windows that the version holds. `opened` says whether a subject has an open version, and
+-- `owns` whether a routing number is the carrier's.
 module _ (w : Windows) (now caller : ℕ) (opened : Subject → Bool) (owns : (lrn carrier : ℕ)
     → Bool) where
-  -- the tests of the command beside those that all of these have (`own_tests`, `Refusals`)
+  -- The tests of each command, besides those that all of them have (`own_tests`, `Refusals`).
   abbrev pub version_tests : VersionCommand → Option SubjectVersion → List (ℕ × Bool)
   version_tests Activate e =
       (11, of_found (λ v. not (caller == v.new_provider)) e)

@@ -1,5 +1,4 @@
--- Worked examples of which refusal comes first, of limits and of jumps, computed from the
--- definitions.
+-- Worked examples of the order of refusals, of limits and of jumps, computed from the definitions.
 use Rattle.std.specs.Prelude.{ℕ, zero, suc, ◌+◌, true, List, [], ◌∷◌, ◌++◌, map, Some, None, ◌≡◌, refl}
 use Rattle.model.specs.Commands.{RegisterCarrier, OldProviderCreate, Activate, PutInConflict, RemoveFromConflict, Cancel, OldProviderCancellationAcknowledge, NewProviderCancellationAcknowledge, Disconnect, Donate, Release, OnVersion}
 use Rattle.model.specs.Statuses.{Pending, Canceled}
@@ -10,9 +9,9 @@ use Rattle.model.specs.Refusals.{Input, ClockMoment, RequestFrom, refusal, npac,
 use Rattle.model.specs.Machine.{Donated, next, out, state_after, ids_from}
 use Rattle.model.specs.Examples.{a, b, c, n, start, both_creates, standing, does, refused_after, acks, active_at_201, released, waiting_delete, lines_below}
 
--- ---- who may not is told so before what the status does not allow
+-- ---- that the caller may not precedes that the status does not allow it
 
--- an active version
+-- An active version, and callers that may not.
 not_yours_before_wrong_status : map (refusal active_at_201) (does b (OnVersion 1 Activate) ∷ does a
     (OnVersion 1 PutInConflict) ∷ does c (OnVersion 1 RemoveFromConflict) ∷ does c
     (OnVersion 1 Cancel) ∷ does a (OnVersion 1 OldProviderCancellationAcknowledge) ∷ does b
@@ -21,7 +20,7 @@ not_yours_before_wrong_status : map (refusal active_at_201) (does b (OnVersion 1
 unfolding next replay_of replay_step effect judge judged_for judged_version queue tests out
 not_yours_before_wrong_status = refl
 
--- the same by those who may
+-- An active version, and callers that may.
 wrong_status_of_active : map (refusal active_at_201) (does a (OnVersion 1 Activate) ∷ does b
     (OnVersion 1 PutInConflict) ∷ does b (OnVersion 1 RemoveFromConflict) ∷ does a
     (OnVersion 1 Cancel) ∷ does b (OnVersion 1 OldProviderCancellationAcknowledge) ∷ does a
@@ -30,7 +29,7 @@ wrong_status_of_active : map (refusal active_at_201) (does a (OnVersion 1 Activa
 unfolding next replay_of replay_step effect judge judged_for judged_version queue tests out
 wrong_status_of_active = refl
 
--- a canceled version, and a block that was released
+-- A canceled version, and a block that was released.
 disconnect_of_canceled : map (refused_after start (does b (OldProviderCreate n b a 0 true) ∷ does b
     (OnVersion 1 Cancel) ∷ [])) (does b (OnVersion 1 (Disconnect None)) ∷ does a
     (OnVersion 1 (Disconnect None)) ∷ []) ≡ Some 11 ∷ Some 13 ∷ []
@@ -44,7 +43,7 @@ release_of_old = refl
 
 -- ---- acknowledgements
 
--- what was acknowledged waits no more
+-- A download that was acknowledged is not pending.
 both_again : map (refused_after waiting_delete (acks 1 2 (b ∷ []) ++ acks 2 1 (b ∷ [])))
     (RequestFrom b (AcknowledgementRequest 1 2) ∷ RequestFrom b (AcknowledgementRequest 2 1) ∷ [])
     ≡ Some 25 ∷ Some 25 ∷ []
@@ -53,18 +52,18 @@ both_again = refl
 
 -- ---- limits
 
--- the ids of a hundred lines
+-- The ids of a hundred lines.
 hundred_ids : out start (does b (Donate 2025337 (lines_below 100) 2025330000 None))
     ≡ Donated 2025337 (ids_from 1 100)
 unfolding next replay_of replay_step effect judge judged_for judged_version queue tests out
 hundred_ids = refl
 
--- so many carriers more
+-- The registrations of k more carriers.
 abbrev pub carriers_from : ℕ → List Input
 carriers_from zero = []
 carriers_from (suc k) = does npac (RegisterCarrier (1000 + k)) ∷ carriers_from k
 
--- the hundred-and-first
+-- The hundredth carrier is registered, and the hundred-and-first refused.
 hundred_carriers : map (λ k. refused_after start (carriers_from k) (does npac (RegisterCarrier 7)))
     (96 ∷ 97 ∷ []) ≡ None ∷ Some 28 ∷ []
 unfolding next replay_of replay_step effect judge judged_for judged_version queue tests out
@@ -72,7 +71,7 @@ hundred_carriers = refl
 
 -- ---- jumps, small and large
 
--- the last minute of both concurrence windows
+-- The last minute of both concurrence windows, and the minute of their end.
 silent_until : map
     (λ m. standing (state_after start (does b (OldProviderCreate n b a 300 true) ∷ ClockMoment m
     ∷ []))
@@ -80,7 +79,7 @@ silent_until : map
 unfolding next replay_of replay_step effect judge judged_for judged_version queue tests out
 silent_until = refl
 
--- a cancellation and the conflict that it ends in, in steps
+-- A cancellation and the conflict that it ends in, in steps.
 cancel_in_steps : standing
     (state_after start (both_creates 5000 ++ ClockMoment 10 ∷ does b (OnVersion 1 Cancel)
     ∷ ClockMoment 130

@@ -1,5 +1,4 @@
--- What is asked of the register, and which refusal it meets: the least number whose condition
--- holds.
+-- The inputs of the register, and the refusal of each: the least number whose test holds.
 use Rattle.std.specs.Prelude.{ℕ, ◌+◌, Bool, true, false, not, ◌&&◌, ◌||◌, ◌==◌, nat_lt, nat_le, List, [], ◌∷◌, ◌++◌, map, filter, find, length, Option, Some, None, is_some, is_none, option_map, if◌then◌else◌}
 use Rattle.std.specs.List.{list_any}
 use Rattle.numbers.specs.Digits.{code_of, block_of, block_code_of}
@@ -11,6 +10,9 @@ use Rattle.model.specs.History.{Request, CommandRequest, AcknowledgementRequest,
 use Rattle.model.specs.OnVersion.{version_tests, is_number}
 use Rattle.model.specs.State.{State, SubjectVersion, Download, Server, InPool, record_now, is_carrier, all_versions, version_of_id, serving, is_served_by, queue, is_before, set_now, next_of}
 
+-- A caller's question. It is about the caller: whether it is known, its first n downloads, or the
+-- subjects of its pending ones. Or it asks for a version, a number's routing, a number's ids, or
+-- all rows in force.
 pub data Question : Type 0 where
   Knows : Question
   Fetch : (n : ℕ) → Question
@@ -20,42 +22,42 @@ pub data Question : Type 0 where
   Waiting : Question
   Ids : (tn : ℕ) → Question
 
--- a clock moment, a caller's command or acknowledgement, or a question (two of which have no
--- caller; any stands there)
+-- The machine's input: a clock moment, a caller's request, or a caller's question. `AllInForce` and
+-- `Ids` do not depend on the caller.
 pub data Input : Type 0 where
   ClockMoment : (minute : ℕ) → Input
   RequestFrom : (caller : ℕ) (request : Request) → Input
   QuestionFrom : (caller : ℕ) (question : Question) → Input
 
--- the administrator's four letters, as a number
+-- The administrator, whose SPID is the four letters `NPAC`, as a number.
 abbrev pub npac : ℕ
 npac = 0x4E504143
 
--- ---- words for the tests
+-- ---- parts of the tests
 
--- one of these is no registered carrier
+-- Whether one of these carriers is not registered.
 abbrev pub one_is_unknown : State → List ℕ → Bool
 one_is_unknown st spids = list_any (λ s. not (is_carrier st s)) spids
 
--- neither a registered carrier nor the administrator
+-- Whether the caller is neither a registered carrier nor the administrator.
 abbrev pub is_stranger : State → ℕ → Bool
 is_stranger st caller = not (is_carrier st caller) && not (caller == npac)
 
--- whether a routing number is the carrier's
+-- Whether the carrier registered the routing number.
 abbrev pub owns : State → (lrn carrier : ℕ) → Bool
 owns st lrn carrier = is_the carrier (lrn_owner lrn st.history)
 
--- nobody serves the number
+-- Whether the number is in the pool, where nobody serves it.
 abbrev pub is_in_pool : Server → Bool
 is_in_pool InPool = true
 is_in_pool _ = false
 
--- the version that a second create answers to
+-- The version whose second create this is.
 abbrev pub second_of : State → (tn : ℕ) → (lacks : Version → Bool) → Option Version
 second_of st tn lacks = find lacks (record_now st (Number tn)).versions
 
--- the statuses of a number's open version, of its version in force and of its block's leave no room
--- for a first create
+-- Whether the number has no room for a first create, by its open version, its version in force, and
+-- its block's version in force.
 abbrev pub number_is_busy : State → ℕ → Bool
 number_is_busy st n =
     has_no_room (option_map (λ (v : Version). v.status)
@@ -63,16 +65,16 @@ number_is_busy st n =
     (option_map (λ (v : Version). v.status) (version_in_force (record_now st (Number n))))
     (option_map (λ (v : Version). v.status) (version_in_force (record_now st (Block (block_of n)))))
 
--- whether a subject has an open version
+-- Whether the subject has an open version.
 abbrev pub has_open : State → Subject → Bool
 has_open st s = is_some (open_version s (record_now st s))
 
--- the numbers of a block, as far as they are spoken of
+-- Whether the subject is a number of the block.
 abbrev pub is_in_block : ℕ → Subject → Bool
 is_in_block b (Number n) = block_of n == b
 is_in_block b (Block c) = false
 
--- the numbers of a block that are named as used, or have a version in force
+-- The numbers of a block that are named as used or have a version in force.
 abbrev pub contaminated_numbers : State → ℕ → List ℕ → List Subject
 contaminated_numbers st block used =
     used_numbers block used
@@ -80,46 +82,46 @@ contaminated_numbers st block used =
     (list_any (subject_eq s) (used_numbers block used)))
     (map (λ (e : SubjectVersion). e.subject) (filter (λ e. in_force e.version) (all_versions st)))
 
--- a number of the block with an open version and none in force: it is being ported
+-- Whether a number of the block is being ported: it has an open version and none in force.
 abbrev pub has_open_port : State → ℕ → Bool
 has_open_port st block =
     list_any (λ (e : SubjectVersion). is_in_block block e.subject && is_open e.subject e.version
     && is_none (version_in_force (record_now st e.subject))) (all_versions st)
 
--- so many versions more would have an id past the last
+-- Whether this many more versions would pass the last id.
 abbrev pub ids_are_out : State → ℕ → Bool
 ids_are_out st versions = nat_lt limit (next_of st + versions)
 
--- ---- what a command is refused for
+-- ---- tests of a command
 
--- the tests of each command, by number; every other number is none of its refusals. The first that
--- holds is the least that does: they stand in the order of their numbers, but that of a modify's
--- routing number (7), which holds of a number's version alone, where 10 does not
+-- The tests of each command with their numbers. A command has no other refusals. The first test
+-- that holds has the least number of those that hold. Numbers ascend, except 7 of a modify, which
+-- comes after 10: test 7 holds only of a number's version, and test 10 does not hold of one.
 --
---  1  a carrier that is named, or the caller, is not registered
+--  1  the caller, or a carrier that is named, is not registered
 --  2  the caller is not the administrator
 --  3  the code is not opened
 --  4  the carrier is registered already, or is the administrator
 --  5  the code is opened already
 --  6  the routing number is registered already
---  7  the routing number is not one of the carrier that is to be routed to
---  8  nobody serves the number
---  9  the old provider does not serve the number, or is the new one
+--  7  the carrier that is to be routed to did not register the routing number
+--  8  the number is in the pool
+--  9  the old provider does not serve the number, or is the new provider
 -- 10  no such version, or a block's; the block is not donated, or to be released and never assigned
--- 11  the caller is not the one who may
--- 12  there is no room for a first create; an open version is beside a disconnect or a modify
+-- 11  the caller is not the provider that may do this
+-- 12  there is no room for a first create; a disconnect or a modify finds an open version
 -- 13  the version's status does not allow it
--- 14  a first create, or a disconnect's release, is in the past
+-- 14  the due minute of a first create, or the release minute of a disconnect, is past
 -- 15  a second create has another due minute
--- 16  an activation lacks the creates that it needs, a removal one of both
--- 17  a pending version is activated before it is due
--- 18  the version was in conflict already
+-- 16  an activation lacks a create that it needs, or a removal from conflict one of the two
+-- 17  a pending version is activated before its due minute
+-- 18  the old provider has put the version in conflict before
 -- 19  a conflict is too near to the due minute
 -- 20  the new provider removes a conflict before it may
--- 21  a failed protective version stays
--- 22  too many numbers of the block are in use
+-- 21  a failed protective version is cancelled
+-- 22  more than a hundred numbers of the block are in use
 -- 23  a number of the block is being ported
--- 24  the block is donated already, or assigned
+-- 24  the block is donated already, or assigned already
 -- 28  a hundred carriers, a thousand sets of windows, or an id or an attempt past the last
 module _ (st : State) (caller : ℕ) where
   abbrev pub own_tests : Command → List (ℕ × Bool)
@@ -195,38 +197,38 @@ module _ (st : State) (caller : ℕ) where
       ∷ (23, has_open_port st block)
       ∷ (28, holds_of (λ (v : Version). has_no_attempt_left v.attempt) last) ∷ []
 
--- ---- what an acknowledgement, a question and a clock moment are
+-- ---- tests of an acknowledgement, a question and a clock moment
 
--- 10 of an acknowledgement or a question: no version has the id
+-- Test 10 of an acknowledgement or a question: no version has the id.
 abbrev pub no_version : State → ℕ → Bool
 no_version st id = is_none (version_of_id st id)
 
 abbrev pub is_download : ℕ → ℕ → Download → Bool
 is_download id attempt d = (d.id == id) && (d.attempt == attempt)
 
--- no such download stands in the queue
+-- Whether the queue does not have this download.
 abbrev pub is_not_among : List Download → ℕ → ℕ → Bool
 is_not_among downloads id attempt = not (list_any (is_download id attempt) downloads)
 
--- an earlier download of its subject stands in the queue
+-- Whether the queue has this download and an earlier one of its subject.
 abbrev pub is_preceded : List Download → ℕ → ℕ → Bool
 is_preceded downloads id attempt =
     list_any (λ d. is_download id attempt d && list_any (λ e. subject_eq e.subject d.subject
     && is_before e d) downloads) downloads
 
--- 25: no such download waits for the caller
+-- Test 25: no such download is pending for the caller.
 abbrev pub not_queued : State → ℕ → ℕ → ℕ → Bool
 not_queued st caller id attempt = is_not_among (queue st caller) id attempt
 
--- 26: an earlier download of the same subject waits for the caller
+-- Test 26: an earlier download of the same subject is pending for the caller.
 abbrev pub out_of_order : State → ℕ → ℕ → ℕ → Bool
 out_of_order st caller id attempt = is_preceded (queue st caller) id attempt
 
--- 27: the clock goes back
+-- Test 27: the clock would go back.
 abbrev pub clock_back : State → ℕ → Bool
 clock_back st m = nat_lt m st.now
 
--- the tests of an input
+-- The tests of an input, with their numbers.
 unfoldable pub tests : State → Input → List (ℕ × Bool)
 tests st (ClockMoment m) = (27, clock_back st m) ∷ []
 tests st (RequestFrom caller (CommandRequest c)) = own_tests st caller c
@@ -242,16 +244,16 @@ tests st (QuestionFrom caller AllInForce) = []
 tests st (QuestionFrom caller Waiting) = (1, not (is_carrier st caller)) ∷ []
 tests st (QuestionFrom caller (Ids tn)) = []
 
--- whether the test of this number holds, where there is one
+-- Whether the test with this number holds, if there is one.
 abbrev pub holds_at : ℕ → List (ℕ × Bool) → Bool
 holds_at number [] = false
 holds_at number (t ∷ ts) = if t.0 == number then t.1 else holds_at number ts
 
--- the number of the first test that holds
+-- The number of the first test that holds.
 abbrev pub first_refusal : List (ℕ × Bool) → Option ℕ
 first_refusal [] = None
 first_refusal (t ∷ ts) = if t.1 then Some t.0 else first_refusal ts
 
--- the refusal of an input, or none
+-- The refusal of an input, if it is refused.
 abbrev pub refusal : State → Input → Option ℕ
 refusal st input = first_refusal (tests st input)

@@ -1,4 +1,5 @@
--- Worked examples of who serves a number and where calls are routed, computed from the definitions.
+-- Worked examples of who serves a number and of the routing of calls, computed from the
+-- definitions.
 use Rattle.std.specs.Prelude.{true, [], ◌∷◌, ◌++◌, map, Some, None, ◌≡◌, refl}
 use Rattle.numbers.specs.Subjects.{Number}
 use Rattle.model.specs.Commands.{OldProviderCreate, NewProviderCreate, Activate, Donate, Assign, Release, RegisterCarrier, OnVersion}
@@ -13,13 +14,13 @@ use Rattle.model.specs.Examples.{w, a, b, c, d, n, start, both_creates, standing
 
 -- ---- queries
 
--- a number without a version; a code that is not opened
+-- A number without a version, and a code that is not opened.
 no_version : map (out start) (QuestionFrom a (Query n) ∷ QuestionFrom npac (Query 2025351234) ∷ [])
     ≡ Answered (Opened None) ∷ Answered Closed ∷ []
 unfolding next replay_of replay_step effect judge judged_for judged_version queue tests out
 no_version = refl
 
--- a routing with a carrier's code
+-- A routing with a carrier identification code.
 with_cic : out (state_after start (does a (NewProviderCreate n b a 0 2025440000 (Some 288)) ∷ does b
     (OldProviderCreate n b a 0 true) ∷ does a (OnVersion 1 Activate) ∷ acks 1 1 (a ∷ b ∷ c ∷ [])))
     (QuestionFrom a (Query n))
@@ -29,15 +30,15 @@ with_cic = refl
 
 -- ---- who serves
 
--- nobody but its code's holder serves a number that is being ported; its new provider does once it
--- is ported
+-- Only its code's holder serves a number that is being ported, and its new provider once it is
+-- ported.
 served_by_code_or_version : map (λ st. serving st n) (start ∷ state_after start (both_creates 100)
     ∷ active_at_201 ∷ []) ≡ ByCode (Some b) ∷ ByCode (Some b) ∷ ByVersion a ∷ []
 unfolding next replay_of replay_step effect judge judged_for judged_version queue tests out
 served_by_code_or_version = refl
 
--- of a donated block: the donor serves the used numbers while their versions are still sent, and
--- where that failed; the others are in the pool
+-- The donor of a block serves the used numbers while their versions are being sent and after that
+-- failed. The other numbers are in the pool.
 served_while_protected : map (serving (state_after start donated))
     (2025337001 ∷ 2025337002 ∷ 2025337003 ∷ []) ≡ ByVersion b ∷ ByVersion b ∷ InPool ∷ []
 unfolding next replay_of replay_step effect judge judged_for judged_version queue tests out
@@ -48,8 +49,8 @@ served_where_failed : map (serving (state_after start one_failed))
 unfolding next replay_of replay_step effect judge judged_for judged_version queue tests out
 served_where_failed = refl
 
--- so a create of such a number is busy, and one from another than the donor is from the wrong
--- provider
+-- So a create of such a number is busy, and one from a provider other than the donor names the
+-- wrong old provider. The rest of the block is in the pool.
 creates_of_protected : map (refused_after start one_failed)
     (does a (NewProviderCreate 2025337002 b a 20 2025440000 None) ∷ does a
     (NewProviderCreate 2025337002 c a 20 2025440000 None) ∷ does a (NewProviderCreate 2025337003 b a
@@ -57,7 +58,7 @@ creates_of_protected : map (refused_after start one_failed)
 unfolding next replay_of replay_step effect judge judged_for judged_version queue tests out
 creates_of_protected = refl
 
--- the block's holder serves the others once it is assigned, and nobody once it is released
+-- The block's holder serves the other numbers once it is assigned, and nobody once it is released.
 served_by_block : map (λ st. serving st 2025337003) (state_after start assigned ∷ released ∷ [])
     ≡ ByBlock c ∷ InPool ∷ []
 unfolding next replay_of replay_step effect judge judged_for judged_version queue tests out
@@ -65,7 +66,7 @@ served_by_block = refl
 
 -- ---- donations
 
--- the second port failed at 15, is sent again, and the block gets the next id
+-- The second port failed at 15 and is sent again; the block gets the next id.
 port_failed : standing (state_after start one_failed) 2 ≡ Some (Failed, 15, 1)
 unfolding next replay_of replay_step effect judge judged_for judged_version queue tests out
 port_failed = refl
@@ -78,7 +79,7 @@ port_again : map
 unfolding next replay_of replay_step effect judge judged_for judged_version queue tests out
 port_again = refl
 
--- no used number: the block is in the pool, and not yet assigned it cannot be released
+-- Without a used number, the block is in the pool; not yet assigned, it cannot be released.
 empty_donation : out start (does b (Donate 2025337 [] 2025330000 None)) ≡ Donated 2025337 []
 unfolding next replay_of replay_step effect judge judged_for judged_version queue tests out
 empty_donation = refl
@@ -97,7 +98,7 @@ pool_routes = refl
 
 -- ---- a carrier's copy
 
--- the newcomer at 415 has the number in its copy, from its starting rows
+-- The newcomer at 415 has the number in its copy, from its starting rows.
 newcomer_copy : copy_of w d (Number n)
     (state_after start (sent_at_400 ++ ClockMoment 415 ∷ does npac (RegisterCarrier d)
     ∷ [])).history

@@ -1,30 +1,30 @@
--- What holds of a subject's versions, newest first, in every state.
+-- What holds of a subject's versions, newest first, in every reachable state.
 use Rattle.std.specs.Prelude.{◌≡◌, Bool, true, false, List, [], ◌∷◌, ⊤}
 use Rattle.numbers.specs.Subjects.{Subject, Number, Block}
 use Rattle.model.specs.Statuses.{Status, Pending, Conflict, CancelPending, Sending, Active, PartialFailure, Failed, DisconnectPending, Old, Canceled}
 use Rattle.model.specs.Versions.{Version, in_force, is_open}
 
--- none of them is in force
+-- Holds if none of the versions is in force.
 abbrev pub NoneInForce : List Version → Type 0
 NoneInForce [] = ⊤
 NoneInForce (v ∷ vs) = (in_force v ≡ false) × NoneInForce vs
 
--- at most one of them is in force
+-- Holds if at most one of the versions is in force.
 abbrev pub OneInForce : List Version → Type 0
 OneInForce [] = ⊤
 OneInForce (v ∷ vs) = (in_force v ≡ true → NoneInForce vs) × OneInForce vs
 
--- none of them is open
+-- Holds if none of the versions is open.
 abbrev pub NoneOpen : Subject → List Version → Type 0
 NoneOpen s [] = ⊤
 NoneOpen s (v ∷ vs) = (is_open s v ≡ false) × NoneOpen s vs
 
--- each that is in force is active
+-- Holds if each version in force is active.
 abbrev pub InForceIsActive : List Version → Type 0
 InForceIsActive [] = ⊤
 InForceIsActive (v ∷ vs) = (in_force v ≡ true → v.status ≡ Active) × InForceIsActive vs
 
--- the statuses that a block's version has
+-- Whether a block's version can have this status.
 abbrev pub block_status : Status → Bool
 block_status (Sending action) = true
 block_status Active = true
@@ -45,8 +45,9 @@ abbrev pub is_block : Subject → Bool
 is_block (Number n) = false
 is_block (Block b) = true
 
--- only the newest may be open, one is in force, and beside an open one it is active; of a block's
--- versions, which have statuses of their own, only the newest is in force
+-- Holds if only the newest version may be open, at most one is in force, and beside an open one it
+-- is active. Of a block's versions only the newest may be in force, and they have only the statuses
+-- of blocks.
 abbrev pub AreSound : Subject → List Version → Type 0
 AreSound s [] = ⊤
 AreSound s (v ∷ vs) = NoneOpen s vs × OneInForce (v ∷ vs) × (is_open s v ≡ true

@@ -3,15 +3,15 @@ use Rattle.std.specs.Prelude.{ℕ, Option, Some, None}
 use Rattle.numbers.specs.Routings.{Routing}
 use Rattle.model.specs.declared.words.Side.{Side}
 
--- what a version sends. A modify has the routing that it puts, which is under way until the
--- broadcast closes
+-- What a version sends. A modify carries a routing, which may become the version's only when the
+-- broadcast closes.
 pub data Send : Type 0 where
   Create : Send
   Delete : Send
   Modify : (routing : Routing) → Send
 
--- a cancel-pending version was cancelled by one side, a sending one sends a create, a delete or a
--- modify, and a disconnect-pending one waits for its release minute
+-- The status of a version. A cancel-pending one was cancelled by one side, and a sending one sends
+-- a create, a delete or a modify. A disconnect-pending one waits for its release minute.
 pub data Status : Type 0 where
   Pending : Status
   Conflict : Status
@@ -24,7 +24,7 @@ pub data Status : Type 0 where
   Old : Status
   Canceled : Status
 
--- what a version in this status sends, if it sends
+-- What a version with this status sends, if anything.
 abbrev pub sent_by : Status → Option Send
 sent_by Pending = None
 sent_by Conflict = None

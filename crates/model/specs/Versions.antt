@@ -9,8 +9,8 @@ use Rattle.model.specs.Windows.{WindowSet}
 use Rattle.model.specs.declared.words.Outcome.{Outcome}
 use Rattle.model.specs.declared.words.Outcome.TheVariants.{Open, AllAcknowledged, SomeAcknowledged, NoneAcknowledged}
 
--- one send of a version: who has to have it, and who acknowledged it. A create and a modify have
--- the routing that they put, a delete none
+-- One broadcast of a version, with its recipients and those that acknowledged it. A create and a
+-- modify carry a routing, a delete none.
 pub record Broadcast : Type 0 where
   pub attempt : ℕ
   pub minute : ℕ
@@ -20,8 +20,10 @@ pub record Broadcast : Type 0 where
   pub acknowledged : List ℕ
   pub outcome : Outcome
 
--- a subscription version. The set of windows that held when it entered its status is that by which
--- its ages are judged. Its broadcasts stand newest first
+-- A subscription version. `old_at` and `new_at` are the minutes of the two creates, and `since` is
+-- the minute when it entered its status. `held` is the set of windows that was present then, and
+-- judges its ages. `spent` says that the old provider has put it in conflict. `broadcasts` is
+-- newest first.
 pub record Version : Type 0 where
   pub id : ℕ
   pub old_provider : ℕ
@@ -38,17 +40,17 @@ pub record Version : Type 0 where
   pub protective : Bool
   pub broadcasts : List Broadcast
 
--- all that is known of one subject: its versions, newest first, and the carriers that there are,
--- since each of them is a recipient of what is sent
+-- All that is known of one subject: its versions, newest first, and the registered carriers, all of
+-- them recipients of what is sent.
 pub record Record : Type 0 where
   pub carriers : List ℕ
   pub versions : List Version
 
--- before anything happened
+-- The record before any request.
 abbrev pub nothing : Record
 nothing = record { carriers = []; versions = [] }
 
--- ---- carriers, each once, rising
+-- ---- carriers, ascending, without duplicates
 
 abbrev pub is_among : ℕ → List ℕ → Bool
 is_among c cs = list_any (λ d. d == c) cs
@@ -69,7 +71,8 @@ is_open_outcome NoneAcknowledged = false
 abbrev pub is_open_broadcast : Broadcast → Bool
 is_open_broadcast b = is_open_outcome b.outcome
 
--- closed with no acknowledgement: it is taken back from every queue
+-- Whether a broadcast with this outcome is withdrawn from every queue: it closed with no
+-- acknowledgement.
 abbrev pub is_withdrawn_outcome : Outcome → Bool
 is_withdrawn_outcome Open = false
 is_withdrawn_outcome AllAcknowledged = false
@@ -79,11 +82,11 @@ is_withdrawn_outcome NoneAcknowledged = true
 abbrev pub is_withdrawn : Broadcast → Bool
 is_withdrawn b = is_withdrawn_outcome b.outcome
 
--- the recipients that have not acknowledged
+-- The recipients that have not acknowledged.
 abbrev pub unacknowledged : Broadcast → List ℕ
 unacknowledged b = filter (λ c. not (is_among c b.acknowledged)) b.recipients
 
--- the carriers in whose queue it stands
+-- The carriers that the broadcast is pending for.
 abbrev pub waiters : Broadcast → List ℕ
 waiters b = if is_withdrawn b then [] else unacknowledged b
 
@@ -130,12 +133,13 @@ sends_create (DisconnectPending release) = false
 sends_create Old = false
 sends_create Canceled = false
 
--- active, partial-failure, disconnect-pending, or sending a delete or a modify
+-- Whether the version is in force: active, partial-failure, disconnect-pending, or sending a delete
+-- or a modify.
 abbrev pub in_force : Version → Bool
 in_force v = in_force_status v.status
 
--- a number's version: pending, conflict, cancel-pending, failed, or sending a create. A block's:
--- only while it sends a create
+-- Whether a version with this status is open. A number's: pending, conflict, cancel-pending,
+-- failed, or sending a create. A block's: only while it sends a create.
 abbrev pub open_by : Subject → Status → Bool
 open_by (Number n) status = open_status status
 open_by (Block b) status = sends_create status
@@ -143,21 +147,23 @@ open_by (Block b) status = sends_create status
 abbrev pub is_open : Subject → Version → Bool
 is_open s v = open_by s v.status
 
--- the version in force, and the open one
+-- The version in force.
 abbrev pub version_in_force : Record → Option Version
 version_in_force r = find in_force r.versions
 
+-- The open version.
 abbrev pub open_version : Subject → Record → Option Version
 open_version s r = find (is_open s) r.versions
 
--- the version with this id
+-- The version with this id.
 abbrev pub version_with : ℕ → Record → Option Version
 version_with id r = find (λ v. v.id == id) r.versions
 
--- the version made last
+-- The first version in the list.
 abbrev pub first_of_versions : List Version → Option Version
 first_of_versions [] = None
 first_of_versions (v ∷ vs) = Some v
 
+-- The newest version.
 abbrev pub last_version : Record → Option Version
 last_version r = first_of_versions r.versions

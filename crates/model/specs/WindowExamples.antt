@@ -16,12 +16,12 @@ use Rattle.model.specs.Examples.{w, a, b, n, start, both_creates, standing, does
 abbrev pub short_concurrence : Windows
 short_concurrence = record w { initial_concurrence = 10; final_concurrence = 10 }
 
--- another number of the code
+-- Another number of the code.
 abbrev pub other : ℕ
 other = 2025331235
 
--- the new provider's create for n at 0; at 50 both windows of concurrence become 10, and then the
--- create for the other number
+-- The new provider's create for n at 0. At 50 both concurrence windows become 10, and then comes
+-- the create for the other number.
 abbrev pub two_creates : List Input
 two_creates =
     does a (NewProviderCreate n b a 100 2025440000 None) ∷ ClockMoment 50 ∷ does npac
@@ -43,7 +43,7 @@ second_concurs_by_the_second : map (λ m. refused_after start (two_creates ++ Cl
 unfolding next replay_of replay_step effect judge judged_for judged_version queue tests out
 second_concurs_by_the_second = refl
 
--- the phases of both
+-- The phase of one of the two versions at minute m.
 abbrev pub phases : ℕ → ℕ → Option (Option Phase)
 phases id m = let st : State = state_after start (two_creates ++ ClockMoment m ∷ []) in
     option_map (λ e. (view_of st e).phase) (version_of_id st id)
@@ -58,16 +58,16 @@ phases_by_the_second : map (phases 2) (59 ∷ 60 ∷ 69 ∷ 70 ∷ []) ≡ Some 
 unfolding next replay_of replay_step effect judge judged_for judged_version queue tests out
 phases_by_the_second = refl
 
--- ---- a status that minutes enter
+-- ---- a status that a version enters when its timer expires
 
--- the old provider cancels at 10, the new one is silent: conflict at 130
+-- The old provider cancels at 10 and the new one is silent: conflict at 130.
 abbrev pub cancelled_at_10 : List Input
 cancelled_at_10 = both_creates 5000 ++ ClockMoment 10 ∷ does b (OnVersion 1 Cancel) ∷ []
 
 abbrev pub short_expiration : Windows
 short_expiration = record w { conflict_expiration = 5 }
 
--- the expiration of conflicts becomes 5 at a minute, and then time goes on
+-- The expiration of conflicts becomes 5 at minute m, and then the clock moves.
 abbrev pub shortened_at : ℕ → List ℕ → Option (Status × ℕ × ℕ)
 shortened_at m ms =
     standing (state_after start (cancelled_at_10 ++ ClockMoment m ∷ does npac
@@ -79,7 +79,8 @@ unchanged : map (λ m. standing (state_after start (cancelled_at_10 ++ ClockMome
 unfolding next replay_of replay_step effect judge judged_for judged_version queue tests out
 unchanged = refl
 
--- before the conflict: it is judged by the new set. In its minute, or after it: by the first
+-- If it changes before the conflict begins, the conflict is judged by the new set. If it changes in
+-- that minute or later, the conflict is judged by the first.
 shortened_before : map (shortened_at 100) ((134 ∷ []) ∷ (135 ∷ []) ∷ (130 ∷ 134 ∷ 135 ∷ 2000 ∷ [])
     ∷ (2000 ∷ []) ∷ []) ≡ Some (Conflict, 130, 0) ∷ Some (Canceled, 135, 0) ∷ Some
     (Canceled, 135, 0) ∷ Some (Canceled, 135, 0) ∷ []
@@ -98,7 +99,7 @@ shortened_after : map (shortened_at 200) ((1129 ∷ []) ∷ (1130 ∷ []) ∷ (2
 unfolding next replay_of replay_step effect judge judged_for judged_version queue tests out
 shortened_after = refl
 
--- ---- a create that comes later leaves the set that the version holds
+-- ---- a later create leaves the set that the version holds
 
 abbrev pub short_retention : Windows
 short_retention = record w { pending_retention = 20 }
@@ -113,8 +114,7 @@ retained_by_the_first : map
 unfolding next replay_of replay_step effect judge judged_for judged_version queue tests out
 retained_by_the_first = refl
 
--- ---- the restriction of conflicts is the present set's, and the resolution that of the set at the
--- conflict
+-- ---- conflicts are restricted by the present set, and resolved by the set at the conflict
 
 abbrev pub other_conflicts : Windows
 other_conflicts = record w { conflict_restriction = 10; conflict_resolution = 20 }
@@ -146,7 +146,7 @@ by_a_carrier : map (λ c. refusal start (does c (SetWindows w))) (a ∷ 7 ∷ np
 unfolding next replay_of replay_step effect judge judged_for judged_version queue tests out
 by_a_carrier = refl
 
--- so many sets more
+-- The history with k more sets.
 abbrev pub sets_more : ℕ → List Entry
 sets_more zero = start.history
 sets_more (suc k) = record {
@@ -160,7 +160,7 @@ a_thousand_sets : map (λ k. refusal (record start { history = sets_more k })
 unfolding next replay_of replay_step effect judge judged_for judged_version queue tests out
 a_thousand_sets = refl
 
--- the sets of a history by their numbers
+-- The sets of a history by their numbers.
 sets_by_number : map (λ k. option_map (λ set. set.windows.pending_retention)
     (set_of_number k w (sets_more 2))) (0 ∷ 1 ∷ 2 ∷ 3 ∷ 4 ∷ []) ≡ None ∷ Some 500 ∷ Some 20 ∷ Some
     20 ∷ None ∷ []

@@ -1,12 +1,12 @@
-//! Why a call is refused.
+//! Refusals of a call, and their numbers.
 ghost use Rattle.std.specs.Prelude.{◌≡◌};
 ghost use Rattle.model.specs.RefusalNumbers.{number_of};
 ghost use Rattle.model.specs.declared.refusal.Refusal.TheVariants.{NoMemory};
 
 use std::alloc::{AllocError, AllocFailed};
 
-/// Why a call is refused. Where several hold, the one with the least number is answered; `Storage`
-/// and `NoMemory` may come in place of any answer.
+/// Why a call is refused. If several reasons hold, the one with the least number is answered.
+/// `Storage` and `NoMemory` may replace any answer.
 #[derive(Clone, Copy, Debug, PartialEq, Eq)]
 pub enum Refusal {
     UnknownCarrier = 1,
@@ -42,7 +42,7 @@ pub enum Refusal {
 }
 
 impl Refusal {
-    /// The number by which refusals are ordered, and which the wire carries.
+    /// Returns the number that orders refusals, and that an answer carries.
     pub fn number(self) -> u8
         ensures { result ≡ number_of self }
     {

@@ -1,4 +1,4 @@
-//! The words of the field, spoken by the code and by the definitions alike.
+//! Actions, sends, sides, statuses and outcomes of subscription versions.
 ghost use Rattle.std.specs.Prelude.{◌≡◌, option_map};
 ghost use Rattle.model.specs.Changes.{action_of};
 ghost use Rattle.model.specs.Statuses.{sent_by};
@@ -6,8 +6,7 @@ ghost use Rattle.model.specs.Abstraction.{send_of, status_of};
 
 use numbers::{Cic, Lrn, Minute, Routing};
 
-/// What a broadcast does to a carrier's copy: it puts a routing there, takes it away, or puts
-/// another one in its place.
+/// What a broadcast does to a carrier's copy: it adds a routing, removes it, or replaces it.
 #[derive(Clone, Copy, Debug, PartialEq, Eq)]
 pub enum Action {
     Create,
@@ -15,8 +14,8 @@ pub enum Action {
     Modify,
 }
 
-/// What a version sends. A modify knows the routing that it puts, which the version has only once
-/// somebody acknowledged it.
+/// What a version sends. A modify carries a routing, which becomes the version's when the broadcast
+/// closes with an acknowledgement.
 #[derive(Clone, Copy, Debug, PartialEq, Eq)]
 pub enum Send {
     Create,
@@ -25,7 +24,7 @@ pub enum Send {
 }
 
 impl Send {
-    /// What its broadcast does to a carrier's copy.
+    /// Returns what the broadcast does to a carrier's copy.
     pub fn action(self) -> Action
         ensures { result ≡ action_of (send_of self) }
     {
@@ -45,9 +44,9 @@ pub enum Side {
 }
 
 /// The ten statuses of a subscription version (NPAC requirements). A cancel-pending version knows
-/// which side cancelled it, and a disconnect-pending one the minute of its release. Sending, which
-/// is one status, has a variant for each `Send`: with a `Send` inside, and the routing of a modify
-/// in that, each status would take half as much memory again.
+/// which side cancelled it, and a disconnect-pending one its release minute. Sending is one status
+/// with a variant for each `Send`: a `Send` inside it, with the routing of a modify, would make
+/// each status half as large again.
 #[derive(Clone, Copy, Debug, PartialEq, Eq)]
 pub enum Status {
     Pending,
@@ -65,7 +64,7 @@ pub enum Status {
 }
 
 impl Status {
-    /// What a version in this status sends, if it sends.
+    /// Returns what a version with this status sends, if anything.
     pub fn sends(self) -> Option<Send>
         ensures { option_map send_of result ≡ sent_by (status_of self) }
     {
@@ -78,7 +77,7 @@ impl Status {
     }
 }
 
-/// The status of a version that sends this.
+/// Converts a send to the status of a version that sends it.
 impl From<Send> for Status {
     ghost use Rattle.std.specs.Prelude.{◌≡◌};
     ghost use Rattle.model.specs.Statuses.{Sending};
@@ -95,8 +94,8 @@ impl From<Send> for Status {
     }
 }
 
-/// How a broadcast stands: open, or closed with all, some or none of its recipients'
-/// acknowledgements.
+/// The outcome of a broadcast: open, or closed with the acknowledgements of all, some or none of
+/// its recipients.
 #[derive(Clone, Copy, Debug, PartialEq, Eq)]
 pub enum Outcome {
     Open,

@@ -1,5 +1,7 @@
-//! The clearinghouse as a program: the words, the input and the outputs of the process, handed to
-//! the library `npac`, which does all else. Its promises stand at these four.
+//! The clearinghouse as a program: passes the words, the input and the outputs of the process to
+//! the library `cli`, which does everything else.
+//!
+//! The program's contracts are those of `feed`, `parse`, `run` and `serve_next`.
 #![tactic(auto)]
 
 pub use cli::{feed, parse, run, serve_next};

@@ -1,4 +1,4 @@
--- The digits of a number: how many, what they are, and that they tell numbers apart.
+-- The digits of a number: how many, what they are, and that they determine the number.
 use Rattle.std.proofs.Common.{◌≡◌, ℕ, zero, suc, ◌+◌, ◌-◌, ◌*◌, ◌/◌, ◌%◌, ◌^◌, ◌<◌, ◌≤◌, List, [], ◌∷◌, ◌++◌, length, get_or, take, drop, refl, ap, subst, sym, ◌∙◌, arith, length-append, append_assoc, add-one, lit<}
 use Rattle.std.specs.Prelude.{All, IsUtf8}
 use Rattle.std.specs.Char.{IsAsciiDigit}
@@ -15,7 +15,7 @@ use Rattle.std.proofs.Math.ListN.{set}
 use Rattle.std.proofs.Math.Seq.{take-suc}
 use Rattle.numbers.specs.Texts.{digits_of}
 
--- there are as many digits as are asked for
+-- `digits_of width n` has `width` digits.
 pub length-digits_of : (width n : ℕ) → length (digits_of width n) ≡ width
 unfolding digits_of
 length-digits_of zero n = refl
@@ -25,7 +25,7 @@ length-digits_of (suc width) n = grind (
   length-digits_of width (n / 10),
 )
 
--- each is a digit
+-- Each is an ASCII digit.
 pub digits_of-digits : (width n : ℕ) → All IsAsciiDigit (digits_of width n)
 unfolding digits_of
 digits_of-digits zero n = All-nil IsAsciiDigit
@@ -33,11 +33,11 @@ digits_of-digits (suc width) n =
     All-push IsAsciiDigit (digits_of width (n / 10)) (48 + n % 10) (digits_of-digits width (n / 10))
     (omega arith, omega arith)
 
--- bytes below 128 are text
+-- Bytes below 128 are valid UTF-8.
 pub utf8_small : (text : List ℕ) → All (λ b. b < 128) text → IsUtf8 text
 utf8_small text small = IsUtf8-from_ascii text (IsAscii-from_all text small)
 
--- the next digit of a text
+-- Another digit of a text extends the number read so far.
 pub digits_of-more : (text : List ℕ) (i number : ℕ) → i < length text → 48 ≤ get_or text i 0
     → get_or text i 0 ≤ 57 → digits_of i number ≡ take i text
     → digits_of (i + 1) (number * 10 + (get_or text i 0 - 48)) ≡ take (i + 1) text
@@ -47,7 +47,7 @@ digits_of-more text i number within low high e =
     let last : 48 + (number * 10 + (get_or text i 0 - 48)) % 10 ≡ get_or text i 0 = omega arith in
     rw (add-one, take-suc text i 0, tenth, last, e) refl
 
--- two lists of one length that end alike
+-- Two lists of equal length that agree after a last member agree in both parts.
 snoc_same : (xs ys : List ℕ) (x y : ℕ) → length xs ≡ length ys → xs ++ x ∷ [] ≡ ys ++ y ∷ []
     → (xs ≡ ys) × (x ≡ y)
 snoc_same [] [] x y same e = (refl, cc)
@@ -59,7 +59,7 @@ snoc_same (a ∷ xs) (b ∷ ys) x y same e =
 snoc_same [] (b ∷ ys) x y same e = absurd (omega arith)
 snoc_same (a ∷ xs) [] x y same e = absurd (omega arith)
 
--- numbers below the power of ten have different digits
+-- Different numbers below the power of ten have different digits.
 pub digits_of-injective : (width m n : ℕ) → m < 10 ^ width → n < 10 ^ width
     → digits_of width m ≡ digits_of width n → m ≡ n
 unfolding digits_of
@@ -74,23 +74,23 @@ digits_of-injective (suc width) m n small_m small_n e =
     digits_of-injective width (m / 10) (n / 10) (omega arith) (omega arith) h.0 in
     omega (arith, h.1)
 
--- a bound on a number of at most eighteen digits
+-- A power of ten with an exponent of at most eighteen is at most 10^18.
 pub pow_small : (i : ℕ) → i ≤ 18 → 10 ^ i ≤ 1000000000000000000
 pow_small i h = pow-le-pow_right (lit< tt) h
 
--- a text of digits holds a digit at each place
+-- A text of digits has an ASCII digit at each place.
 pub digit_at : (text : List ℕ) (width n i : ℕ) → text ≡ digits_of width n → i < length text
     → (48 ≤ get_or text i 0) × (get_or text i 0 ≤ 57)
 digit_at text width n i e within =
     let P : List ℕ → Type 0 = λ t. i < length t → (48 ≤ get_or t i 0) × (get_or t i 0 ≤ 57) in
     subst P (sym e) (λ inside. digits_of-digits width n i 0 inside) within
 
--- one digit more stays below the next power of ten
+-- One digit more keeps a number below the next power of ten.
 pub below_more : (i number digit : ℕ) → number < 10 ^ i → digit ≤ 9
     → number * 10 + digit < 10 ^ (i + 1)
 below_more i number digit small one = omega (arith, pow_more 10 i)
 
--- the last digits of what is left go before the digits that are written already
+-- Writing the last digit of the rest into its place keeps the written number.
 pub digits_of-placed : (digits : List ℕ) (place rest : ℕ) → 0 < place → place ≤ length digits
     → digits_of (place - 1) (rest / 10) ++ drop (place - 1)
     (set digits (place - 1) (48 + rest % 10)) ≡ digits_of place rest ++ drop place digits
@@ -100,7 +100,7 @@ digits_of-placed digits (suc place) rest positive within =
     let e : suc place - 1 ≡ place = omega arith in
     rw (e, drop-set digits place (48 + rest % 10), append_assoc, add-one) refl
 
--- at the first place nothing is left before the digits
+-- At the first place, the digits written are the number's.
 pub digits_of-written : (digits : List ℕ) (place rest width number : ℕ) → place ≤ 0
     → digits_of place rest ++ drop place digits ≡ digits_of width number
     → digits ≡ digits_of width number
@@ -108,13 +108,13 @@ unfolding digits_of
 digits_of-written digits zero rest width number first e = e
 digits_of-written digits (suc place) rest width number first e = absurd (omega arith)
 
--- digits are text
+-- Digits are valid UTF-8.
 pub utf8_digits : (text : List ℕ) (width n : ℕ) → text ≡ digits_of width n → IsUtf8 text
 utf8_digits text width n e =
     subst IsUtf8 (sym e) (utf8_small (digits_of width n) (λ k d inside. let h =
     digits_of-digits width n k d inside in omega arith))
 
--- one digit more in decimal
+-- One digit more appends its character in decimal.
 one_more : (p d r : ℕ) → 0 < p → d < p → r < 10 → p * 10 ≤ 1000000000000000000
     → decimal (p * 10 + (d * 10 + r)) ≡ decimal (p + d) ++ (48 + r) ∷ []
 one_more p d r some less one small =
@@ -128,7 +128,7 @@ pub power_some : (width : ℕ) → 0 < 10 ^ width
 power_some zero = omega arith
 power_some (suc width) = omega (arith, pow-suc 10 width, power_some width)
 
--- with a 1 in front, so many digits are a number's in decimal
+-- A 1 before the last `width` digits of a number is decimal for a power of ten plus them.
 pub decimal_behind_one : (width n : ℕ) → width ≤ 18 → decimal (10 ^ width + n % 10 ^ width)
     ≡ 49 ∷ digits_of width n
 unfolding digits_of

@@ -1,4 +1,4 @@
--- Small lemmas of truth values and options.
+-- Small lemmas about truth values and lists.
 use Rattle.std.proofs.Common.{◌≡◌, ◌<◌, ◌≤◌, ℕ, nat_lt, List, [], ◌∷◌, length, Bool, T, true, false, not, ◌&&◌, ◌||◌, Option, None, Some, is_some, Ordering, Less, Equal, Greater, refl, sym, ◌∙◌, arith}
 use Rattle.std.specs.Ordering.{is_eq}
 use Rattle.std.specs.Prelude.{◌==◌, is_none, nat_le, option_map}
@@ -22,13 +22,13 @@ pub not_not : (b : Bool) → not (not b) ≡ b
 not_not true = refl
 not_not false = refl
 
--- two tests of which each says what the other says
+-- Two Bools that imply each other are equal.
 pub same_truth : (b c : Bool) → (b ≡ true → c ≡ true) → (c ≡ true → b ≡ true) → b ≡ c
 same_truth true c there back = sym (there refl)
 same_truth false true there back = back refl
 same_truth false false there back = refl
 
--- nothing comes into force that was
+-- Nothing comes into force that was in force.
 pub no_takeover : (b : Bool) → (not b && b) ≡ false
 no_takeover true = refl
 no_takeover false = refl
@@ -162,7 +162,7 @@ pub mapped_there : {A B : Type 0} (f : A → B) (o : Option A)
 mapped_there f None = refl
 mapped_there f (Some x) = refl
 
--- a list with no members
+-- A list of length 0 is empty.
 pub no_members : {A : Type 0} (xs : List A) → length xs ≡ 0 → xs ≡ []
 no_members [] e = refl
 no_members (x ∷ xs) e = cc

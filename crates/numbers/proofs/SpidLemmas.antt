@@ -7,17 +7,17 @@ use Rattle.numbers.specs.Spids.{is_spid_character, IsSpid}
 use Rattle.numbers.specs.Texts.{spid_text}
 use Rattle.numbers.proofs.DigitLemmas.{utf8_small}
 
--- a character is a byte below 128
+-- A character of a provider is a byte below 128.
 pub small_character : (c : ℕ) → is_spid_character c ≡ true → c < 128
 small_character c h = grind (arith, nat_tests)
 
--- four characters are text
+-- The four characters of a provider are valid UTF-8.
 pub utf8_spid : (n : ℕ) → IsSpid n → IsUtf8 (spid_text n)
 utf8_spid n h =
     let each = AllPass-from_list_all is_spid_character (spid_text n) h in
     utf8_small (spid_text n) (λ k d inside. small_character _ (each k d inside))
 
--- four characters make a provider
+-- Four bytes that are characters of providers make a provider.
 pub spid_made : (n a b c d : ℕ) → n ≡ a * 16777216 + b * 65536 + c * 256 + d
     → is_spid_character a ≡ true → is_spid_character b ≡ true → is_spid_character c ≡ true
     → is_spid_character d ≡ true → IsSpid n

@@ -1,4 +1,4 @@
--- The order of subjects by their keys is that of their texts.
+-- The order of subjects by key is the order of their texts.
 use Rattle.std.proofs.Common.{◌≡◌, ℕ, zero, suc, ◌+◌, ◌*◌, ◌/◌, ◌%◌, ◌^◌, ◌<◌, List, [], ◌∷◌, ◌++◌, length, refl, ap, sym, ◌∙◌, arith}
 use Rattle.std.specs.Cmp.{nat_cmp_is, ranks}
 use Rattle.std.specs.Cmp.Lexicographic.{slice_cmp}
@@ -17,7 +17,7 @@ then_assoc Less b c = refl
 then_assoc Equal b c = refl
 then_assoc Greater b c = refl
 
--- lists that begin with parts of one length
+-- Lists with prefixes of equal length compare as the prefixes, then as the rest.
 slice_cmp-append : (xs ys us vs : List ℕ) → length xs ≡ length ys
     → slice_cmp nat_cmp (xs ++ us) (ys ++ vs) ≡ ordering_then (slice_cmp nat_cmp xs ys)
     (slice_cmp nat_cmp us vs)
@@ -28,7 +28,7 @@ slice_cmp-append (x ∷ xs) (y ∷ ys) us vs same =
 slice_cmp-append [] (y ∷ ys) us vs same = absurd (omega arith)
 slice_cmp-append (x ∷ xs) [] us vs same = absurd (omega arith)
 
--- numbers compare as their tenths, and then as their last digits
+-- Numbers compare as their tenths, then as their last digits.
 by_digits : (o p : Ordering) (m n : ℕ) → MatchOrdering o (m / 10 < n / 10) (m / 10 ≡ n / 10)
     (n / 10 < m / 10) → MatchOrdering p (48 + m % 10 < 48 + n % 10) (48 + m % 10 ≡ 48 + n % 10)
     (48 + n % 10 < 48 + m % 10) → MatchOrdering (ordering_then o (ordering_then p Equal)) (m < n)
@@ -39,7 +39,7 @@ by_digits Equal Equal m n h k = omega arith
 by_digits Equal Greater m n h k = omega arith
 by_digits Greater p m n h k = omega arith
 
--- texts of one width compare as their numbers
+-- Texts of equal width compare as their numbers.
 slice_cmp-digits_of : (width m n : ℕ) → m < 10 ^ width → n < 10 ^ width
     → slice_cmp nat_cmp (digits_of width m) (digits_of width n) ≡ nat_cmp m n
 unfolding digits_of
@@ -57,12 +57,12 @@ slice_cmp-digits_of (suc width) m n small_m small_n =
     ∙ nat_cmp_is m n _ (by_digits _ _ m n (ranks (m / 10) (n / 10))
     (ranks (48 + m % 10) (48 + n % 10)))
 
--- the digits of a number begin with those of its block
+-- The digits of a number begin with those of its block.
 digits_of-block : (n : ℕ) → digits_of 10 n ≡ digits_of 7 (n / 1000) ++ digits_of 3 n
 unfolding digits_of
 digits_of-block n = let e : n / 1000 ≡ n / 10 / 10 / 10 = omega arith in rw e refl
 
--- something is greater than nothing
+-- A text with digits is greater than the empty text.
 slice_cmp-nil : (n : ℕ) → (slice_cmp nat_cmp (digits_of 3 n) [] ≡ Greater)
     × (slice_cmp nat_cmp [] (digits_of 3 n) ≡ Less)
 unfolding digits_of
@@ -71,7 +71,7 @@ slice_cmp-nil n = (refl, refl)
 same_width : (m n : ℕ) → length (digits_of 7 m) ≡ length (digits_of 7 n)
 same_width m n = length-digits_of 7 m ∙ sym (length-digits_of 7 n)
 
--- a number beside a block, and the other way round
+-- A number and a block compare as the number's block with it; on a tie the number is greater.
 number_beside_block : (n b : ℕ) → n < 10000000000 → b < 10000000
     → slice_cmp nat_cmp (digits_of 10 n) (digits_of 7 b) ≡ ordering_then (nat_cmp (n / 1000) b)
     Greater
@@ -97,7 +97,7 @@ block_beside_number b n small_b small_n =
       (slice_cmp-nil n).1,
     )
 
--- the keys stand as the numbers and the blocks do
+-- Keys compare as the numbers or the blocks do.
 number_keys : (o : Ordering) (n m : ℕ) → MatchOrdering o (n < m) (n ≡ m) (m < n)
     → MatchOrdering o (n / 1000 * 1001 + 1 + n % 1000 < m / 1000 * 1001 + 1 + m % 1000)
     (n / 1000 * 1001 + 1 + n % 1000 ≡ m / 1000 * 1001 + 1 + m % 1000)
@@ -128,7 +128,6 @@ block_number_keys Less b n h = omega arith
 block_number_keys Equal b n h = omega arith
 block_number_keys Greater b n h = omega arith
 
--- subjects stand in the order of their texts
 pub in_order_of_texts : AreInOrderOfTexts
 in_order_of_texts (Number n) (Number m) p q =
     sym (slice_cmp-digits_of 10 n m p.0 q.0 ∙ nat_cmp_is _ _ (nat_cmp n m)

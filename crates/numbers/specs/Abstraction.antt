@@ -1,4 +1,4 @@
--- What the definitions see of the values of the code.
+-- The models of subjects, routings and minutes.
 use Rattle.std.specs.Prelude.{ℕ, option_map}
 use Rattle.numbers.specs.Subjects.{Subject, Number, Block, subject_key}
 use Rattle.numbers.specs.Routings.{Routing}
@@ -18,6 +18,6 @@ routing_of r = record { lrn = r.lrn.number; cic = option_map (λ (c : Cic). c.nu
 abbrev pub minute_of : Minute → ℕ
 minute_of m = m.number
 
--- subjects of the code stand in the order of what the definitions see
+-- The key that orders subjects of the code.
 abbrev pub key_of : SubjectImpl → ℕ
 key_of s = subject_key (subject_of s)

@@ -1,18 +1,18 @@
--- The order of subjects, and when two are the same.
+-- Subjects: their order and their equality.
 use Rattle.std.specs.Prelude.{ℕ, ◌*◌, ◌+◌, Bool, false, ◌==◌, nat_lt}
 use Rattle.numbers.specs.Digits.{IsTn, IsBlock, block_of, line_of}
 
--- what is ported: a number, or a whole block
+-- What is ported: a number, or a whole block.
 pub data Subject : Type 0 where
   Number : (n : ℕ) → Subject
   Block : (n : ℕ) → Subject
 
--- a telephone number, or a block of them
+-- Holds if the subject is a valid telephone number or a valid block.
 abbrev pub IsSubject : Subject → Type 0
 IsSubject (Number n) = IsTn n
 IsSubject (Block b) = IsBlock b
 
--- subjects stand in the order of their texts: a block just before its numbers
+-- The key that orders subjects as their texts: a block just before its numbers.
 abbrev pub subject_key : Subject → ℕ
 subject_key (Number n) = block_of n * 1001 + 1 + line_of n
 subject_key (Block b) = b * 1001

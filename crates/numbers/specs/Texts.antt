@@ -4,49 +4,49 @@ use Rattle.std.specs.Cmp.Lexicographic.{slice_cmp}
 use Rattle.std.specs.Ordering.{nat_cmp}
 use Rattle.numbers.specs.Subjects.{IsSubject, subject_key, Subject, Number, Block}
 
--- the last so many decimal digits of a number, as the codes of their characters
+-- The last `width` decimal digits of n, as ASCII codes.
 unfoldable pub digits_of : ℕ → ℕ → List ℕ
 digits_of zero n = []
 digits_of (suc width) n = digits_of width (n / 10) ++ (48 + n % 10) ∷ []
 
--- ten digits
+-- The ten digits of a telephone number.
 abbrev pub tn_text : ℕ → List ℕ
 tn_text n = digits_of 10 n
 
--- six digits
+-- The six digits of a code.
 abbrev pub code_text : ℕ → List ℕ
 code_text n = digits_of 6 n
 
--- seven digits
+-- The seven digits of a block.
 abbrev pub block_text : ℕ → List ℕ
 block_text n = digits_of 7 n
 
--- three digits
+-- The three digits of a line.
 abbrev pub line_text : ℕ → List ℕ
 line_text n = digits_of 3 n
 
--- ten digits
+-- The ten digits of a routing number.
 abbrev pub lrn_text : ℕ → List ℕ
 lrn_text n = digits_of 10 n
 
--- four digits
+-- The four digits of a carrier identification code.
 abbrev pub cic_text : ℕ → List ℕ
 cic_text n = digits_of 4 n
 
--- the four bytes of the number, the highest first
+-- The four bytes of the number, the highest first.
 abbrev pub spid_text : ℕ → List ℕ
 spid_text n = n / 16777216 ∷ n / 65536 % 256 ∷ n / 256 % 256 ∷ n % 256 ∷ []
 
--- in decimal, with no leading zero but for 0 itself
+-- The minute in decimal, without leading zeros.
 abbrev pub minute_text : ℕ → List ℕ
 minute_text n = decimal n
 
--- the text of the number, or of the block
+-- The text of the number, or of the block.
 abbrev pub subject_text : Subject → List ℕ
 subject_text (Number n) = tn_text n
 subject_text (Block b) = block_text b
 
--- subjects stand in the order of the bytes of their texts
+-- Holds if the keys of subjects are ordered as the bytes of their texts.
 abbrev pub AreInOrderOfTexts : Type 0
 AreInOrderOfTexts =
     (s t : Subject) → IsSubject s → IsSubject t →

@@ -1,4 +1,4 @@
-//! A thousands-block.
+//! Thousands-blocks, the unit of number pooling.
 
 ghost use Rattle.std.specs.Prelude.{◌≡◌, ◌≢◌, ℕ, ◌+◌, ◌≤◌, ◌++◌, IfSome, IfNone, IsOk, OnOk, OnErr, string_bytes, string_len, string_capacity};
 ghost use Rattle.numbers.specs.Digits.{IsBlock, block_code_of, number_in};
@@ -10,9 +10,10 @@ use crate::line::Line;
 use crate::tn::Tn;
 use std::alloc::AllocError;
 
-/// A thousands-block, the unit in which numbers are pooled: the seven digits that its thousand
-/// telephone numbers begin with, as in the INC's thousands-block pooling guidelines. The first and
-/// the fourth are 2 to 9.
+/// A thousands-block, the unit of number pooling: the first seven digits of its thousand telephone
+/// numbers. Its first and fourth digits are 2 to 9.
+///
+/// See the INC's thousands-block pooling guidelines.
 #[derive(Clone, Copy, Debug, PartialEq, Eq, PartialOrd, Ord)]
 pub struct BlockId {
     pub number: u32,
@@ -20,7 +21,8 @@ pub struct BlockId {
 }
 
 impl BlockId {
-    /// The block that the text writes, or nothing where the text is not seven such digits.
+    /// Parses a block. Returns `None` if `text` is not seven digits, the first and the fourth 2 to
+    /// 9.
     pub fn read(text: &str) -> Option<Self>
         ensures some { IfSome result (λ value. text.now ≡ block_text value.number) }
         ensures none { IfNone result ((n : ℕ) → IsBlock n → text.now ≢ block_text n) }
@@ -35,7 +37,11 @@ impl BlockId {
         }
     }
 
-    /// Appends the seven digits, or leaves the `String` as it was.
+    /// Appends the seven digits.
+    ///
+    /// # Errors
+    ///
+    /// `AllocError` if an allocation fails; `out` is then unchanged.
     pub fn write(&self, out: &mut String) -> Result<(), AllocError>
         ensures ok { OnOk result
             (string_bytes out.new ≡ string_bytes out.old ++ block_text self.now.number) }
@@ -47,7 +53,7 @@ impl BlockId {
         write_digits::<7>(u64::from(self.number), out)
     }
 
-    /// The code that the block is of: its first six digits.
+    /// Returns the central office code of the block: its first six digits.
     pub fn code(self) -> CodeId
         ensures { result.number ≡ block_code_of self.number }
     {
@@ -56,7 +62,7 @@ impl BlockId {
         }
     }
 
-    /// The number of the block with this line.
+    /// Returns the number of the block whose last three digits are `line`.
     pub fn tn(self, line: Line) -> Tn
         ensures { result.number ≡ number_in self.number line.number }
     {

@@ -1,4 +1,4 @@
-//! A carrier identification code.
+//! Carrier identification codes.
 
 ghost use Rattle.std.specs.Prelude.{◌≡◌, ◌≢◌, ℕ, ◌+◌, ◌≤◌, ◌++◌, IfSome, IfNone, IsOk, OnOk, OnErr, string_bytes, string_len, string_capacity};
 ghost use Rattle.numbers.specs.Digits.{IsCic};
@@ -7,8 +7,9 @@ ghost use Rattle.numbers.specs.Texts.{cic_text};
 use crate::digits::{read_digits, write_digits};
 use std::alloc::AllocError;
 
-/// A carrier identification code of four digits, 0000 to 9999: the parameter `cic` of RFC 4694,
-/// without its country code.
+/// A carrier identification code: four digits, 0000 to 9999.
+///
+/// It is the parameter `cic` of RFC 4694 without its country code.
 #[derive(Clone, Copy, Debug, PartialEq, Eq, PartialOrd, Ord)]
 pub struct Cic {
     pub number: u16,
@@ -16,7 +17,7 @@ pub struct Cic {
 }
 
 impl Cic {
-    /// The carrier code that the text writes, or nothing where the text is not four such digits.
+    /// Parses a carrier identification code. Returns `None` if `text` is not four digits.
     pub fn read(text: &str) -> Option<Self>
         ensures some { IfSome result (λ value. text.now ≡ cic_text value.number) }
         ensures none { IfNone result ((n : ℕ) → IsCic n → text.now ≢ cic_text n) }
@@ -27,7 +28,11 @@ impl Cic {
         })
     }
 
-    /// Appends the four digits, or leaves the `String` as it was.
+    /// Appends the four digits.
+    ///
+    /// # Errors
+    ///
+    /// `AllocError` if an allocation fails; `out` is then unchanged.
     pub fn write(&self, out: &mut String) -> Result<(), AllocError>
         ensures ok { OnOk result
             (string_bytes out.new ≡ string_bytes out.old ++ cic_text self.now.number) }

@@ -1,4 +1,4 @@
-//! A central office code.
+//! Central office codes, the unit of number assignment.
 
 ghost use Rattle.std.specs.Prelude.{◌≡◌, ◌≢◌, ℕ, ◌+◌, ◌≤◌, ◌++◌, IfSome, IfNone, IsOk, OnOk, OnErr, string_bytes, string_len, string_capacity};
 ghost use Rattle.numbers.specs.Digits.{IsCode};
@@ -7,9 +7,11 @@ ghost use Rattle.numbers.specs.Texts.{code_text};
 use crate::digits::{read_digits, write_digits};
 use std::alloc::AllocError;
 
-/// A central office code with its area code, the unit in which numbers are assigned to a carrier:
-/// the six digits that its ten thousand telephone numbers begin with, as in the INC's central
-/// office code guidelines. The first and the fourth are 2 to 9.
+/// A central office code with its area code, the unit in the assignment of numbers to a carrier:
+/// the first six digits of its ten thousand telephone numbers. Its first and fourth digits are 2 to
+/// 9.
+///
+/// See the INC's central office code guidelines.
 #[derive(Clone, Copy, Debug, PartialEq, Eq, PartialOrd, Ord)]
 pub struct CodeId {
     pub number: u32,
@@ -17,7 +19,7 @@ pub struct CodeId {
 }
 
 impl CodeId {
-    /// The code that the text writes, or nothing where the text is not six such digits.
+    /// Parses a code. Returns `None` if `text` is not six digits, the first and the fourth 2 to 9.
     pub fn read(text: &str) -> Option<Self>
         ensures some { IfSome result (λ value. text.now ≡ code_text value.number) }
         ensures none { IfNone result ((n : ℕ) → IsCode n → text.now ≢ code_text n) }
@@ -32,7 +34,11 @@ impl CodeId {
         }
     }
 
-    /// Appends the six digits, or leaves the `String` as it was.
+    /// Appends the six digits.
+    ///
+    /// # Errors
+    ///
+    /// `AllocError` if an allocation fails; `out` is then unchanged.
     pub fn write(&self, out: &mut String) -> Result<(), AllocError>
         ensures ok { OnOk result
             (string_bytes out.new ≡ string_bytes out.old ++ code_text self.now.number) }

@@ -1,4 +1,4 @@
-//! Texts of a fixed number of decimal digits.
+//! Reads and writes texts of a fixed number of decimal digits.
 
 ghost use Rattle.std.specs.Prelude.{◌≡◌, ◌≢◌, ℕ, ◌+◌, ◌^◌, ◌<◌, ◌≤◌, ◌++◌, IfSome, IfNone, IsOk, OnOk, OnErr, IsAscii, IsUtf8, ◌∷◌, length, string_bytes, string_len, string_capacity};
 ghost use Rattle.numbers.specs.Texts.{digits_of};
@@ -6,7 +6,7 @@ ghost use Rattle.numbers.specs.Texts.{digits_of};
 use itoa::Buffer;
 use std::alloc::AllocError;
 
-/// The number that a text of so many decimal digits writes.
+/// Parses a text of exactly `width` decimal digits. Returns `None` if it is not one.
 pub fn read_digits(text: &str, width: usize) -> Option<u64>
     requires { width ≤ 18 }
     ensures some { IfSome result (λ n. (n < 10 ^ width) × (text.now ≡ digits_of width n)) }
@@ -25,7 +25,7 @@ pub fn read_digits(text: &str, width: usize) -> Option<u64>
     Some(number)
 }
 
-// So many decimal digits of a number behind a 1, which keeps the leading zeros.
+// Formats the last `N` decimal digits of `number` after a 1, which keeps the leading zeros.
 fn behind_one<const N: usize>(number: u64, buffer: &mut Buffer) -> &str
     requires { N ≤ 18 }
     ensures digits { result.now ≡ 49 ∷ digits_of N number }
@@ -35,7 +35,11 @@ fn behind_one<const N: usize>(number: u64, buffer: &mut Buffer) -> &str
     buffer.format(power + number % power)
 }
 
-/// Appends so many decimal digits of a number, with leading zeros.
+/// Appends the last `N` decimal digits of `number`, with leading zeros.
+///
+/// # Errors
+///
+/// `AllocError` if an allocation fails; `out` is then unchanged.
 pub fn write_digits<const N: usize>(number: u64, out: &mut String) -> Result<(), AllocError>
     requires { N ≤ 18 }
     ensures ok { OnOk result
@@ -50,6 +54,10 @@ pub fn write_digits<const N: usize>(number: u64, out: &mut String) -> Result<(),
 }
 
 /// Appends the bytes of a text.
+///
+/// # Errors
+///
+/// `AllocError` if an allocation fails; `out` is then unchanged.
 pub fn write_bytes(text: &[u8], out: &mut String) -> Result<(), AllocError>
     requires { IsUtf8 text.now }
     ensures ok { OnOk result (string_bytes out.new ≡ string_bytes out.old ++ text.now) }
@@ -59,6 +67,6 @@ pub fn write_bytes(text: &[u8], out: &mut String) -> Result<(), AllocError>
     ensures succeeds { string_len out.old + length text.now ≤ string_capacity out.old
         → IsOk result }
 {
-    // The premise is what makes this safe.
+    // Safe: the premise says that the bytes are UTF-8.
     out.push_str(unsafe { str::from_utf8_unchecked(text) })
 }

@@ -1,10 +1,9 @@
-//! The values of a register of ported telephone numbers, and their texts.
+//! Values of a register of ported telephone numbers, and their texts.
 //!
-//! Telephone numbers, codes, thousands-blocks, lines, routing numbers, carrier codes, providers and
-//! minutes. Each is a small whole number with its rule in a ghost field, so that a value that
-//! exists is a valid one. Each has one text: `read` answers a value exactly for the texts of its
-//! kind and takes no memory, and `write` appends that text to a `String`, or hands want of memory
-//! back with the `String` unchanged.
+//! Telephone numbers, central office codes, thousands-blocks, lines, routing numbers, carrier
+//! identification codes, providers and minutes. Each is a number with its validity rule in a ghost
+//! field, so every value is valid. Each has exactly one text: `read` parses it without allocating,
+//! and `write` appends it.
 #![tactic(auto)]
 
 mod block_id;

@@ -1,4 +1,4 @@
-//! A line within a block.
+//! Lines: the last three digits of telephone numbers.
 
 ghost use Rattle.std.specs.Prelude.{◌≡◌, ◌≢◌, ℕ, ◌+◌, ◌≤◌, ◌++◌, IfSome, IfNone, IsOk, OnOk, OnErr, string_bytes, string_len, string_capacity};
 ghost use Rattle.numbers.specs.Digits.{IsLine};
@@ -7,7 +7,7 @@ ghost use Rattle.numbers.specs.Texts.{line_text};
 use crate::digits::{read_digits, write_digits};
 use std::alloc::AllocError;
 
-/// The last three digits of a telephone number, 000 to 999, which name it within its block.
+/// The last three digits of a telephone number, 000 to 999, which identify it within its block.
 #[derive(Clone, Copy, Debug, PartialEq, Eq, PartialOrd, Ord)]
 pub struct Line {
     pub number: u16,
@@ -15,7 +15,7 @@ pub struct Line {
 }
 
 impl Line {
-    /// The line that the text writes, or nothing where the text is not three such digits.
+    /// Parses a line. Returns `None` if `text` is not three digits.
     pub fn read(text: &str) -> Option<Self>
         ensures some { IfSome result (λ value. text.now ≡ line_text value.number) }
         ensures none { IfNone result ((n : ℕ) → IsLine n → text.now ≢ line_text n) }
@@ -26,7 +26,11 @@ impl Line {
         })
     }
 
-    /// Appends the three digits, or leaves the `String` as it was.
+    /// Appends the three digits.
+    ///
+    /// # Errors
+    ///
+    /// `AllocError` if an allocation fails; `out` is then unchanged.
     pub fn write(&self, out: &mut String) -> Result<(), AllocError>
         ensures ok { OnOk result
             (string_bytes out.new ≡ string_bytes out.old ++ line_text self.now.number) }

@@ -1,4 +1,4 @@
-//! A location routing number.
+//! Location routing numbers.
 
 ghost use Rattle.std.specs.Prelude.{◌≡◌, ◌≢◌, ℕ, ◌+◌, ◌≤◌, ◌++◌, IfSome, IfNone, IsOk, OnOk, OnErr, string_bytes, string_len, string_capacity};
 ghost use Rattle.numbers.specs.Digits.{IsLrn};
@@ -7,8 +7,10 @@ ghost use Rattle.numbers.specs.Texts.{lrn_text};
 use crate::digits::{read_digits, write_digits};
 use std::alloc::AllocError;
 
-/// A location routing number: the ten digits by which calls to a ported number are routed to the
-/// switch that serves it. It is the parameter `rn` of RFC 4694, without its country code.
+/// A location routing number: ten digits that route calls for a ported number to the switch that
+/// serves it.
+///
+/// It is the parameter `rn` of RFC 4694 without its country code.
 #[derive(Clone, Copy, Debug, PartialEq, Eq, PartialOrd, Ord)]
 pub struct Lrn {
     pub number: u64,
@@ -16,7 +18,7 @@ pub struct Lrn {
 }
 
 impl Lrn {
-    /// The routing number that the text writes, or nothing where the text is not ten such digits.
+    /// Parses a location routing number. Returns `None` if `text` is not ten digits.
     pub fn read(text: &str) -> Option<Self>
         ensures some { IfSome result (λ value. text.now ≡ lrn_text value.number) }
         ensures none { IfNone result ((n : ℕ) → IsLrn n → text.now ≢ lrn_text n) }
@@ -25,7 +27,11 @@ impl Lrn {
         Some(Lrn { number })
     }
 
-    /// Appends the ten digits, or leaves the `String` as it was.
+    /// Appends the ten digits.
+    ///
+    /// # Errors
+    ///
+    /// `AllocError` if an allocation fails; `out` is then unchanged.
     pub fn write(&self, out: &mut String) -> Result<(), AllocError>
         ensures ok { OnOk result
             (string_bytes out.new ≡ string_bytes out.old ++ lrn_text self.now.number) }

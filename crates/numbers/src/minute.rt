@@ -1,4 +1,4 @@
-//! A minute of the clock.
+//! Minutes of the register's clock.
 
 ghost use Rattle.std.specs.Prelude.{◌≡◌, ◌≢◌, ℕ, ◌+◌, ◌^◌, ◌<◌, ◌≤◌, ◌++◌, ◌↔◌, IsTrue, IsSome, IfSome, IfNone, IsOk, OnOk, OnErr, decimal, string_bytes, string_len, string_capacity};
 ghost use Rattle.numbers.specs.Digits.{IsMinute};
@@ -7,7 +7,7 @@ ghost use Rattle.numbers.specs.Texts.{minute_text};
 use itoa::Buffer;
 use std::alloc::AllocError;
 
-/// A minute of the register's clock: how many whole minutes have passed since minute 0, below 2^40.
+/// A minute of the register's clock: the whole minutes since minute 0, below 2^40.
 #[derive(Clone, Copy, Debug, PartialEq, Eq, PartialOrd, Ord)]
 pub struct Minute {
     pub number: u64,
@@ -15,13 +15,13 @@ pub struct Minute {
 }
 
 impl Minute {
-    /// How many minutes there are: each is below this number.
+    /// The exclusive upper limit of minutes, 2^40.
     pub const LIMIT: u64 = 1 << 40;
 
     /// The first minute.
     pub const ZERO: Minute = Minute { number: 0 };
 
-    /// The minute of this number, or nothing where the number is not below the limit.
+    /// Returns the minute with this number. Returns `None` if `number` is not below `LIMIT`.
     pub fn new(number: u64) -> Option<Self>
         ensures valid { IsSome result ↔ (number < 2 ^ 40) }
         ensures value { IfSome result (λ minute. minute.number ≡ number) }
@@ -33,8 +33,8 @@ impl Minute {
         }
     }
 
-    /// The minute that the text writes in decimal, or nothing where the text is no such number: it
-    /// has no sign, no leading zero but for `0` itself, and is below the limit.
+    /// Parses a minute in decimal. Returns `None` if `text` has a sign, has a leading zero (other
+    /// than `0` itself), is not a number, or is not below `LIMIT`.
     pub fn read(text: &str) -> Option<Self>
         ensures some { IfSome result (λ value. text.now ≡ minute_text value.number) }
         ensures none { IfNone result ((n : ℕ) → IsMinute n → text.now ≢ minute_text n) }
@@ -47,7 +47,11 @@ impl Minute {
         }
     }
 
-    /// Appends the minute in decimal, at most thirteen digits, or leaves the `String` as it was.
+    /// Appends the minute in decimal, at most thirteen digits.
+    ///
+    /// # Errors
+    ///
+    /// `AllocError` if an allocation fails; `out` is then unchanged.
     pub fn write(&self, out: &mut String) -> Result<(), AllocError>
         ensures ok { OnOk result
             (string_bytes out.new ≡ string_bytes out.old ++ minute_text self.now.number) }
@@ -60,7 +64,7 @@ impl Minute {
     }
 }
 
-// The text is the number's own, in decimal.
+// Returns whether `text` is `number` in decimal, without sign or leading zeros.
 fn is_text_of(text: &str, number: u64) -> bool
     ensures { IsTrue result ↔ (text.now ≡ decimal number) }
 {

@@ -1,4 +1,4 @@
-//! What is ported, and where it is routed.
+//! Subjects of porting (numbers and blocks), and their routing.
 
 ghost use Rattle.std.specs.Prelude.{◌≡◌, ◌+◌, ◌≤◌, ◌++◌, IsOk, OnOk, OnErr, string_bytes, string_len, string_capacity};
 ghost use Rattle.numbers.specs.Texts.{subject_text, AreInOrderOfTexts};
@@ -8,18 +8,18 @@ use crate::{BlockId, Cic, Lrn, Tn};
 use std::alloc::AllocError;
 use std::cmp::Ordering;
 
-/// What is ported: a number, or a whole block.
+/// A subject of porting: a number, or a whole block.
 ///
-/// Its text is the ten or the seven digits, and subjects stand in the order of the bytes of their
-/// texts, so that a block stands just before its numbers.
+/// Its text is the ten digits of the number or the seven of the block. Subjects are ordered by the
+/// bytes of their texts, so a block comes just before its numbers.
 #[derive(Clone, Copy, Debug)]
 pub enum Subject {
     Number(Tn),
     Block(BlockId),
 }
 
-/// Where calls to a ported number are routed: a location routing number, and the carrier's code if
-/// there is one.
+/// The routing of calls for a ported number: a location routing number, and the carrier's
+/// identification code if it has one.
 #[derive(Clone, Copy, Debug, PartialEq, Eq)]
 pub struct Routing {
     pub lrn: Lrn,
@@ -27,7 +27,11 @@ pub struct Routing {
 }
 
 impl Subject {
-    /// Appends the ten or the seven digits, or leaves the `String` as it was.
+    /// Appends the ten digits of the number, or the seven of the block.
+    ///
+    /// # Errors
+    ///
+    /// `AllocError` if an allocation fails; `out` is then unchanged.
     pub fn write(&self, out: &mut String) -> Result<(), AllocError>
         ensures ok { OnOk result
             (string_bytes out.new ≡ string_bytes out.old ++ subject_text (subject_of self.now)) }
@@ -42,7 +46,7 @@ impl Subject {
         }
     }
 
-    // A number by which subjects stand in the order of their texts.
+    // Returns a number that orders subjects as their texts do.
     fn key(&self) -> u64
         ensures { result ≡ key_of self.now }
     {
@@ -115,7 +119,7 @@ impl PartialOrd for Subject {
     }
 }
 
-/// Two subjects compare as the bytes of their texts do.
+/// States that two subjects compare as the bytes of their texts do.
 #[tactic(auto, using(crate::proofs::SubjectOrder::in_order_of_texts))]
 pub fn subjects_in_order_of_texts()
     ensures { AreInOrderOfTexts }

@@ -1,4 +1,4 @@
-//! A service provider.
+//! Service providers.
 
 ghost use Rattle.std.specs.Prelude.{◌≡◌, ◌≢◌, ℕ, ◌+◌, ◌*◌, ◌≤◌, ◌++◌, IfSome, IfNone, IsOk, OnOk, OnErr, string_bytes, string_len, string_capacity};
 ghost use Rattle.numbers.specs.Spids.{IsSpid, is_spid_character};
@@ -7,9 +7,10 @@ ghost use Rattle.numbers.specs.Texts.{spid_text};
 use crate::digits::write_bytes;
 use std::alloc::AllocError;
 
-/// A service provider, by the identifier (SPID) under which the number portability administration
-/// center (NPAC) knows it: four characters, each A to Z or 0 to 9. They are kept as the four bytes
-/// of a number, the first the highest.
+/// A service provider, known by its identifier (SPID) at the number portability administration
+/// center (NPAC): four characters, each A to Z or 0 to 9.
+///
+/// `number` holds the four bytes, the first as the highest.
 #[derive(Clone, Copy, Debug, PartialEq, Eq, PartialOrd, Ord)]
 pub struct Spid {
     pub number: u32,
@@ -17,12 +18,12 @@ pub struct Spid {
 }
 
 impl Spid {
-    /// The administrator, who is no carrier.
+    /// The administrator, which is not a carrier.
     pub const NPAC: Spid = Spid {
         number: 0x4e50_4143,
     };
 
-    /// The provider that the text names, or nothing where the text is not four such characters.
+    /// Parses a provider. Returns `None` if `text` is not four characters, each A to Z or 0 to 9.
     pub fn read(text: &str) -> Option<Self>
         ensures some { IfSome result (λ value. text.now ≡ spid_text value.number) }
         ensures none { IfNone result ((n : ℕ) → IsSpid n → text.now ≢ spid_text n) }
@@ -38,7 +39,11 @@ impl Spid {
         }
     }
 
-    /// Appends the four characters, or leaves the `String` as it was.
+    /// Appends the four characters.
+    ///
+    /// # Errors
+    ///
+    /// `AllocError` if an allocation fails; `out` is then unchanged.
     pub fn write(&self, out: &mut String) -> Result<(), AllocError>
         ensures ok { OnOk result
             (string_bytes out.new ≡ string_bytes out.old ++ spid_text self.now.number) }
@@ -51,21 +56,21 @@ impl Spid {
     }
 }
 
-// A capital letter or a digit.
+// Returns whether `byte` is a capital letter or a digit.
 fn is_character(byte: u8) -> bool
     ensures { result ≡ is_spid_character byte }
 {
     matches!(byte, b'A'..=b'Z' | b'0'..=b'9')
 }
 
-// The number of four bytes, the highest first.
+// Returns the number made of four bytes, `a` the highest.
 fn number_of(a: u8, b: u8, c: u8, d: u8) -> u32
     ensures { result ≡ a * 16777216 + b * 65536 + c * 256 + d }
 {
     u32::from_be_bytes([a, b, c, d])
 }
 
-// The four bytes of a number, the highest first.
+// Returns the four bytes of `number`, the highest first.
 fn bytes_of(number: u32) -> [u8; 4]
     ensures { result ≡ spid_text number }
 {

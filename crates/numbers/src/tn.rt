@@ -1,4 +1,4 @@
-//! A telephone number.
+//! Telephone numbers.
 
 ghost use Rattle.std.specs.Prelude.{◌≡◌, ◌≢◌, ℕ, ◌+◌, ◌≤◌, ◌++◌, IfSome, IfNone, IsOk, OnOk, OnErr, string_bytes, string_len, string_capacity};
 ghost use Rattle.numbers.specs.Digits.{IsTn, code_of, block_of, line_of};
@@ -10,9 +10,11 @@ use crate::digits::{read_digits, write_digits};
 use crate::line::Line;
 use std::alloc::AllocError;
 
-/// A telephone number of the North American Numbering Plan: the ten digits that follow the country
-/// code 1 in an international number (ITU-T E.164). These are an area code of three digits, a
-/// central office code of three, and four more; both codes begin with 2 to 9.
+/// A telephone number of the North American Numbering Plan: the ten digits after the country code 1
+/// of an international number (ITU-T E.164).
+///
+/// It has an area code of three digits, a central office code of three, and four more digits. Both
+/// codes begin with 2 to 9.
 #[derive(Clone, Copy, Debug, PartialEq, Eq, PartialOrd, Ord)]
 pub struct Tn {
     pub number: u64,
@@ -20,8 +22,8 @@ pub struct Tn {
 }
 
 impl Tn {
-    /// The telephone number with these ten digits, or nothing where a code of it would not begin
-    /// with 2 to 9.
+    /// Returns the telephone number with these ten digits. Returns `None` if `number` has more than
+    /// ten digits, or its first or fourth digit is not 2 to 9.
     pub fn new(number: u64) -> Option<Self>
         ensures some { IfSome result (λ value. value.number ≡ number) }
         ensures none { IfNone result (¬ (IsTn number)) }
@@ -33,7 +35,8 @@ impl Tn {
         }
     }
 
-    /// The telephone number that the text writes, or nothing where the text is not ten such digits.
+    /// Parses a telephone number. Returns `None` if `text` is not ten digits, the first and the
+    /// fourth 2 to 9.
     pub fn read(text: &str) -> Option<Self>
         ensures some { IfSome result (λ value. text.now ≡ tn_text value.number) }
         ensures none { IfNone result ((n : ℕ) → IsTn n → text.now ≢ tn_text n) }
@@ -41,7 +44,11 @@ impl Tn {
         Tn::new(read_digits(text, 10)?)
     }
 
-    /// Appends the ten digits, or leaves the `String` as it was.
+    /// Appends the ten digits.
+    ///
+    /// # Errors
+    ///
+    /// `AllocError` if an allocation fails; `out` is then unchanged.
     pub fn write(&self, out: &mut String) -> Result<(), AllocError>
         ensures ok { OnOk result
             (string_bytes out.new ≡ string_bytes out.old ++ tn_text self.now.number) }
@@ -53,7 +60,7 @@ impl Tn {
         write_digits::<10>(self.number, out)
     }
 
-    /// The code that the number is of: its first six digits.
+    /// Returns the central office code of the number: its first six digits.
     pub fn code(self) -> CodeId
         ensures { result.number ≡ code_of self.number }
     {
@@ -62,7 +69,7 @@ impl Tn {
         }
     }
 
-    /// The thousands-block that the number is of: its first seven digits.
+    /// Returns the thousands-block of the number: its first seven digits.
     pub fn block(self) -> BlockId
         ensures { result.number ≡ block_of self.number }
     {
@@ -71,7 +78,7 @@ impl Tn {
         }
     }
 
-    /// The number's last three digits, by which it is known within its block.
+    /// Returns the last three digits, which identify the number within its block.
     pub fn line(self) -> Line
         ensures { result.number ≡ line_of self.number }
     {

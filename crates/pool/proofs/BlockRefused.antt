@@ -1,5 +1,5 @@
--- The refusals of a donation, an assignment and a release are those of the table, and a donation
--- makes the versions that it makes of the state.
+-- The refusals of donations, assignments and releases are those of the table, and a donation makes
+-- the versions that the model makes.
 use Rattle.std.proofs.Common.{◌≡◌, ℕ, ◌+◌, ◌<◌, Bool, true, false, cond, not, ◌&&◌, ◌||◌, List, [], ◌∷◌, length, map, Option, Some, None, refl, ap, sym, ◌∙◌}
 use Rattle.std.specs.Prelude.{◌==◌, nat_lt, filter, is_none, is_some, if◌then◌else◌}
 use Rattle.std.specs.List.{list_any}
@@ -41,7 +41,8 @@ none_seen (Some u) (Some v) sees = refl
 none_seen None (Some v) sees = absurd sees
 none_seen (Some u) None sees = absurd sees
 
--- a test that asks for neither the id, the broadcasts nor the windows
+-- A test that depends on neither the id, the broadcasts nor the windows gives the same in code and
+-- model.
 holds_seen : (test : Version → Bool)
     → ((u : VersionImpl) (id : ℕ) (bs : List Broadcast) (ws : Windows)
     → test (version_of id bs ws u) ≡ test (model_of u))
@@ -171,7 +172,7 @@ picked_in st block numbers are (n ∷ ns) lines =
     by_cases later true false e = cc
     by_cases later false true e = cc
 
--- the numbers for which a donation makes versions are those of the state
+-- The numbers that get a version by the facts are those of the state.
 pub donation_makes : (st : State) (d : Donation) (facts : BlockFacts)
     → NumbersMatch st d.block.number facts.numbers.now →
     subjects_made_by (CommandRequest (donated d)) (record_now st) ≡ made_numbers (used_by d)
@@ -193,8 +194,8 @@ some_carrier None p is = ap is_some (sym is)
 some_carrier (Some s) p is = ap is_some (sym is)
 
 module _ (st : State) (caller : ℕ) (facts : BlockFacts) where
-  -- a release by a caller who is not registered is refused with number 1, and every other as the
-  -- facts say, where they are those of the state
+  -- A release by an unregistered caller is refused with number 1; the facts of the state decide any
+  -- other.
   pub release_refused : (block : ℕ) → BlockFactsMatch st caller block (Release block) facts →
       refusal st (RequestFrom caller (CommandRequest (Release block)))
       ≡ (if holds_at 1 (own_tests st caller (Release block)) then Some 1
@@ -216,7 +217,7 @@ module _ (st : State) (caller : ℕ) (facts : BlockFacts) where
       ∷ (3, code i) ∷ (10, donor i || made i) ∷ (11, others i) ∷ (13, active i)
       ∷ (23, sym are.ports i) ∷ (28, attempts i) ∷ []))
 
-  -- the same of an assignment, whose holder has to be registered too
+  -- The same for an assignment, whose holder must be registered too.
   pub assignment_refused : (a : Assignment)
       → BlockFactsMatch st caller a.block.number (command_of a)
       facts →
@@ -237,7 +238,7 @@ module _ (st : State) (caller : ℕ) (facts : BlockFacts) where
       ∷ (2, not (caller == npac)) ∷ (3, code i) ∷ (7, lrn i) ∷ (10, donor i)
       ∷ (23, sym are.ports i) ∷ (24, taken i) ∷ (28, nat_lt limit (sym are.next_id i + 1)) ∷ []))
 
-  -- the same of a donation
+  -- The same for a donation.
   pub donation_refused : (d : Donation) → BlockFactsMatch st caller d.block.number (donated d) facts
       → NumbersMatch st d.block.number facts.numbers.now →
       refusal st (RequestFrom caller (CommandRequest (donated d)))
@@ -259,8 +260,7 @@ module _ (st : State) (caller : ℕ) (facts : BlockFacts) where
       ∷ (23, sym are.ports i) ∷ (24, donor i)
       ∷ (28, nat_lt limit (sym are.next_id i + length (made i))) ∷ []))
 
--- where the facts are those of a block of a state, what is refused as they say is refused as the
--- state says
+-- If the facts are those of a block in a state, a refusal by them is the state's.
 module _ (st : State) (caller : ℕ) (facts : BlockFacts) where
   pub release_refused_in : (block : ℕ) → IsBlockCommandIn st caller block (Release block) facts
       → (refused : Option ℕ) →

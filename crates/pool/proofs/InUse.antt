@@ -1,5 +1,4 @@
--- The numbers of a block that are in use: as they stand in a set and a list, and as the definitions
--- name them.
+-- The numbers of a block in use: those of the set and the list are those of the definitions.
 use Rattle.std.proofs.Common.{◌≡◌, ℕ, ◌+◌, Bool, true, false, cond, not, ◌&&◌, ◌||◌, List, [], ◌∷◌, length, map, refl, ap, arith}
 use Rattle.std.specs.Prelude.{filter, ◌==◌}
 use Rattle.std.specs.List.{list_any}
@@ -61,7 +60,7 @@ length-unnamed used (u ∷ us) = by_cases (length-unnamed used us) u.is_in_force
         (is_named used u.tn) (any-named u.tn.number (keys used))
     by_cases later false = later
 
--- how many numbers are contaminated, by the size of the set and the others in force
+-- The contaminated numbers are as many as the set and the other numbers in force.
 pub length-contaminated : (used : BTreeSet Tn) (us : List NumberInUse) →
     length (contaminated_numbers (numbers_in used) (in_force_numbers us)) ≡ length (keys used)
     + length (filter (is_unnamed used) us)
@@ -74,7 +73,7 @@ length-contaminated used us =
     ≡ length (filter (is_unnamed used) us) = length-unnamed used us in
     omega (arith, all, named, others)
 
--- the numbers for which versions are made, as they are picked out of the set
+-- The numbers that get a version are those picked from the set.
 pub picked : (facts : BlockFacts) (ks : List Tn)
     → made_numbers (map tn_subject ks) (in_force_numbers facts.numbers.now) ≡ map tn_subject
     (filter (is_unprotected facts) ks)

@@ -1,4 +1,4 @@
--- Protective versions with ids in turn: one more of them.
+-- Protective versions with consecutive ids: one more of them.
 use Rattle.std.proofs.Common.{◌≡◌, ℕ, suc, ◌+◌, ◌<◌, List, [], ◌∷◌, ◌++◌, length, get_or, take, map, ap, sym, ◌∙◌, subst, arith}
 use Rattle.std.proofs.lemmas.List.{take_more, map-append, length-map, length-take-le}
 use Rattle.numbers.specs.declared.tn.Tn.{Tn}
@@ -22,7 +22,7 @@ one-more w caller minute d from (t ∷ ts) (e ∷ es) s id v are at is = (
   one-more w caller minute d (suc from) ts es s id v are.2 (omega (arith, at)) is,
 )
 
--- the version of the next number of a list
+-- The version of the next number extends the list.
 pub next-made : (w : WindowSet) (caller minute : ℕ) (d : Donation) (from : ℕ) (ns : List Tn) (i : ℕ)
     (t : Tn) (id : ℕ) (v : VersionImpl) (old new : List (ℕ × VersionImpl)) →
     new ≡ old ++ (id, v) ∷ [] → i < length ns → t ≡ get_or ns i t → id ≡ from + i

@@ -1,5 +1,5 @@
--- What a donation is refused for, and makes, by the set of its used numbers and the list of those
--- that need a version.
+-- The refusals and effects of a donation, by the set of its used numbers and the list of those that
+-- need a version.
 use Rattle.std.proofs.Common.{◌≡◌, ℕ, ◌+◌, ◌≤◌, Bool, true, false, List, [], ◌∷◌, ◌++◌, length, map, Option, Some, None, refl, ap, sym, ◌∙◌, subst, arith}
 use Rattle.std.specs.Prelude.{nat_lt, filter, is_some, if◌then◌else◌, Result, Ok, Err, IfErr, IsErrAnd, ◌≢◌}
 use Rattle.std.specs.BTreeSet.{BTreeSet, keys}
@@ -43,16 +43,16 @@ passed-first (t ∷ ts) us is = by_cases (passed-first ts us) t.1 is
     by_cases later true e = cc
     by_cases later false e = later e
 
--- ---- a donation's
+-- ---- tests of a donation
 
--- the donor is refused
+-- A refusal of the donor refuses the donation.
 pub refused : (caller : ℕ) (d : Donation) (facts : BlockFacts) (n : ℕ)
     → first_refusal (donor_tests caller facts) ≡ Some n
     → donation_refusal caller d facts ≡ Some n
 refused caller d facts n is =
     refused-first (donor_tests caller facts) (block_tests (used_by d) facts) n is
 
--- the list has the numbers for which versions are made
+-- The list has the numbers that get a version.
 pub made-are : (d : Donation) (facts : BlockFacts) (used : BTreeSet Tn) (made : List Tn)
     → numbers_in used ≡ used_by d → made ≡ filter (is_unprotected facts) (keys used) →
     made_numbers (used_by d) (in_force_numbers facts.numbers.now) ≡ map tn_subject made
@@ -60,7 +60,7 @@ made-are d facts used made all is =
     ap (λ ss. made_numbers ss (in_force_numbers facts.numbers.now)) (sym all)
     ∙ picked facts (keys used) ∙ ap (map tn_subject) (sym is)
 
--- the donor is not refused: the block decides
+-- If the donor is not refused, the block decides.
 judged : (caller : ℕ) (d : Donation) (facts : BlockFacts) (used : BTreeSet Tn) (made : List Tn)
     → first_refusal (donor_tests caller facts) ≡ None → numbers_in used ≡ used_by d →
     made ≡ filter (is_unprotected facts) (keys used)
@@ -83,20 +83,20 @@ answered caller d facts used made versions refusal passed all is many answer =
     judged caller d facts used made (sym passed) all is
     ∙ ap (λ n. first_refusal (tests_by (numbers_in used) n facts)) (sym many) ∙ sym answer
 
--- a refusal that is handed on
+-- A returned refusal is the donation's.
 pub handed : {A : Type 0} (result : Result A Refusal) (was : Refusal) (o : Option ℕ)
     → IsErrAnd result (λ r. r ≡ was) → o ≡ Some (number_of was) →
     IfErr result (λ r. r ≢ NoMemory → o ≡ Some (number_of r))
 handed (Ok value) was o is e = tt
 handed (Err r) was o is e = λ other. e ∙ ap (λ x. Some (number_of x)) (sym is)
 
--- the same of a refusal that is the state's
+-- A returned refusal of the state satisfies `IsRefusedAs`.
 pub refused_as : {A : Type 0} (result : Result A Refusal) (was : Refusal) (o : Option ℕ)
     → IsErrAnd result (λ r. r ≡ was) → o ≡ Some (number_of was) → IsRefusedAs o result
 refused_as (Ok value) was o is e = absurd is
 refused_as (Err r) was o is e = λ other. e ∙ ap (λ x. Some (number_of x)) (sym is)
 
--- the ids are within the limit where the block is not refused
+-- If the block is not refused, the ids are within the limit.
 pub within : (facts : BlockFacts) (used : BTreeSet Tn) (versions : ℕ)
     → first_refusal (tests_by (numbers_in used) versions facts) ≡ None
     → facts.next_id + versions ≤ limit

@@ -1,4 +1,4 @@
--- Numbers each once, rising: the order in which they are put does not matter.
+-- Ascending numbers without duplicates do not depend on the order of insertion.
 use Rattle.std.proofs.Common.{◌≡◌, ℕ, ◌+◌, ◌*◌, ◌<◌, ◌≤◌, Bool, true, false, cond, List, [], ◌∷◌, ◌++◌, length, get_or, take, map, refl, ap, sym, ◌∙◌, arith}
 use Rattle.std.specs.Prelude.{◌==◌, nat_lt, if◌then◌else◌}
 use Rattle.std.specs.declared.cmp.Ordering.{Ordering}
@@ -16,7 +16,7 @@ use Rattle.std.proofs.lemmas.List.{take_more, take_all, map-append}
 use Rattle.pool.specs.Donations.{lines_of, tn_subject}
 use Rattle.numbers.proofs.Small.{is_less, less_is, equal_number}
 
--- ---- one number at the front of a list
+-- ---- one number into a list
 
 not-less : (c d : ℕ) → d < c → nat_lt c d ≡ false
 not-less c d more = grind (arith, nat_tests)
@@ -51,7 +51,7 @@ less-swap : (a b : ℕ) (ds : List ℕ) → a < b
 less-swap a b [] less = before a b [] less ∙ sym (behind b a [] less)
 less-swap a b (d ∷ ds) less = by_cases (less-swap a b ds less) (nat_lt b d) (b == d) refl refl
   where
-    -- where b goes behind d
+    -- The case that b goes after d.
     far : with_number a (with_number b ds) ≡ with_number b (with_number a ds) → d < b → (p q : Bool)
         → nat_lt a d ≡ p → (a == d) ≡ q →
         with_number a (d ∷ with_number b ds) ≡ with_number b (with_number a (d ∷ ds))
@@ -95,7 +95,7 @@ swap a b ds = by_cases (nat_lt a b) (a == b) refl refl
         ∙ ap (λ n. with_number b (with_number n ds)) (sym (equal_number a b f))
     by_cases false false e f = sym (less-swap b a ds (gt-of a b e f))
 
--- one more number at the end
+-- One more number at the end is inserted into the ascending list.
 pub rising-more : (ns : List ℕ) (n : ℕ) → rising (ns ++ n ∷ []) ≡ with_number n (rising ns)
 rising-more [] n = refl
 rising-more (m ∷ ms) n = ap (with_number m) (rising-more ms n) ∙ swap m n (rising ms)

@@ -1,4 +1,4 @@
--- Who serves a number by its facts is who serves it in the state.
+-- The server of a number by its facts is the server in the state.
 use Rattle.std.proofs.Common.{◌≡◌, ℕ, Bool, true, false, Option, Some, None, refl, ap, ◌∙◌}
 use Rattle.std.specs.Prelude.{is_some, option_map, if◌then◌else◌}
 use Rattle.numbers.specs.Digits.{code_of, block_of}

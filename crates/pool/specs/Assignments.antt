@@ -1,4 +1,4 @@
--- What an assignment makes, and what it is refused for.
+-- Assignments: their effects and refusals.
 use Rattle.std.specs.Prelude.{ℕ, ◌+◌, ◌≡◌, Bool, not, ◌==◌, nat_lt, List, [], ◌∷◌, Option, is_none, option_map}
 use Rattle.numbers.specs.Subjects.{Block}
 use Rattle.numbers.specs.Abstraction.{subject_of}
@@ -19,7 +19,7 @@ command_of a =
     Assign a.block.number a.holder.number a.routing.lrn.number (option_map (λ (c : Cic). c.number)
     a.routing.cic)
 
--- the least number whose condition holds of the assignment to a registered carrier
+-- The tests of an assignment to a registered carrier, ascending by number.
 abbrev pub assignment_tests : (caller : ℕ) → BlockFacts → List (ℕ × Bool)
 assignment_tests caller facts =
     (2, not (caller == npac)) ∷ (3, is_none facts.code_holder) ∷ (7, not facts.is_lrn_good)
@@ -30,7 +30,7 @@ assignment_tests caller facts =
 abbrev pub assignment_refusal : (caller : ℕ) → BlockFacts → Option ℕ
 assignment_refusal caller facts = first_refusal (assignment_tests caller facts)
 
--- the block's version as the assignment makes it. It has one broadcast, its create
+-- Holds if v is the block's version that the assignment makes. Its only broadcast is its create.
 pub record IsAssigned (present : WindowSet) (minute : ℕ) (a : Assignment) (donor : Option ℕ)
     (v : VersionImpl) : Type 0 where
   pub subject : subject_of v.subject ≡ Block a.block.number

@@ -1,4 +1,4 @@
--- What the facts of a block are, of a state.
+-- The facts of a block in a state.
 use Rattle.std.specs.Prelude.{ℕ, ◌≡◌, ◌<◌, false, not, ◌&&◌, List, map, filter, length, is_some}
 use Rattle.std.specs.List.{list_any}
 use Rattle.numbers.specs.Digits.{block_code_of, number_in}
@@ -15,7 +15,7 @@ use Rattle.pool.specs.declared.facts.BlockFacts.{BlockFacts}
 use Rattle.pool.specs.Facts.{carrier_number, has_open_port, in_force_numbers}
 use Rattle.pool.specs.Donations.{unnamed}
 
--- the facts are those of a block of the state, for this command of the caller
+-- Holds if the facts are those of a block in the state, for this command of the caller.
 pub record BlockFactsMatch (st : State) (caller block : ℕ) (c : Command)
     (facts : BlockFacts) : Type 0 where
   pub code : carrier_number facts.code_holder ≡ code_holder (block_code_of block) st.history
@@ -25,8 +25,8 @@ pub record BlockFactsMatch (st : State) (caller block : ℕ) (c : Command)
   pub ports : has_open_port facts.numbers.now ≡ has_open_port_in st block
   pub next_id : facts.next_id ≡ next_of st
 
--- those of the numbers with a version in force are the block's in the state: line by line, and as
--- many beside any used ones
+-- Holds if the numbers with a version in force are the block's in the state: the same lines, and as
+-- many besides any used ones.
 pub record NumbersMatch (st : State) (block : ℕ) (numbers : List NumberInUse) : Type 0 where
   pub lines : (line : ℕ) → line < 1000 →
       list_any (subject_eq (Number (number_in block line))) (in_force_numbers numbers)
@@ -37,8 +37,7 @@ pub record NumbersMatch (st : State) (block : ℕ) (numbers : List NumberInUse) 
       (map (λ (e : SubjectVersion). e.subject) (filter (λ e. in_force e.version)
       (all_versions st))))
 
--- the command is told of a block of the state, which is one that a run can reach, and no carrier of
--- it is unknown
+-- Holds if the command has the facts of a block in a reachable state, and names no unknown carrier.
 pub record IsBlockCommandIn (st : State) (caller block : ℕ) (c : Command)
     (facts : BlockFacts) : Type 0 where
   pub reached : IsReachable st

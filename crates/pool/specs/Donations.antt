@@ -1,4 +1,4 @@
--- What a donation makes, and what it is refused for.
+-- Donations: their effects and refusals.
 use Rattle.std.specs.Prelude.{ℕ, suc, ◌+◌, ◌≡◌, ◌≢◌, Bool, not, ◌&&◌, ◌==◌, nat_lt, List, [], ◌∷◌, ◌++◌, map, filter, length, Option, Some, None, is_none, is_some, option_map, Result, Ok, Err, ⊤}
 use Rattle.std.specs.List.{list_any}
 use Rattle.std.specs.BTreeSet.{BTreeSet, keys}
@@ -22,7 +22,7 @@ use Rattle.pool.specs.declared.facts.BlockFacts.{BlockFacts}
 use Rattle.pool.specs.Facts.{carrier_number, in_force_numbers, is_in_force, has_open_port}
 use Rattle.model.specs.Windows.{WindowSet}
 
--- ---- the donation as the definitions see it
+-- ---- the model of a donation
 
 abbrev pub lines_of : List Line → List ℕ
 lines_of lines = map (λ (l : Line). l.number) lines
@@ -32,31 +32,31 @@ command_of d =
     Donate d.block.number (lines_of d.used.now) d.routing.lrn.number
     (option_map (λ (c : Cic). c.number) d.routing.cic)
 
--- the numbers that it names, each once, rising
+-- The numbers in use of a donation, ascending, without duplicates.
 abbrev pub used_by : Donation → List Subject
 used_by d = used_numbers d.block.number (lines_of d.used.now)
 
--- the same of a set of numbers
+-- The numbers in a set.
 abbrev pub tn_subject : Tn → Subject
 tn_subject t = Number t.number
 
 abbrev pub numbers_in : BTreeSet Tn → List Subject
 numbers_in s = map tn_subject (keys s)
 
--- ---- its numbers, over the used ones and those in force
+-- ---- numbers of a block, over the used ones and those in force
 
--- the numbers in force that are not named
+-- The numbers in force that the donation does not name.
 abbrev pub unnamed : (used in_force : List Subject) → List Subject
 unnamed used in_force = filter (λ s. not (list_any (subject_eq s) used)) in_force
 
 abbrev pub contaminated_numbers : (used in_force : List Subject) → List Subject
 contaminated_numbers used in_force = used ++ unnamed used in_force
 
--- the used numbers that have no version in force, for which versions are made
+-- The used numbers that have no version in force and get one.
 abbrev pub made_numbers : (used in_force : List Subject) → List Subject
 made_numbers used in_force = filter (λ s. not (list_any (subject_eq s) in_force)) used
 
--- more than a hundred numbers of the block are in use
+-- Whether more than a hundred numbers of the block are in use.
 abbrev pub is_contaminated : (used : List Subject) → BlockFacts → Bool
 is_contaminated used facts =
     nat_lt 100 (length (contaminated_numbers used (in_force_numbers facts.numbers.now)))
@@ -66,23 +66,23 @@ is_contaminated used facts =
 abbrev pub is_named : BTreeSet Tn → Tn → Bool
 is_named used tn = list_any (λ (t : Tn). tn.number == t.number) (keys used)
 
--- in force, and not among them
+-- Whether the number is in force and not among the used ones.
 abbrev pub is_unnamed : BTreeSet Tn → NumberInUse → Bool
 is_unnamed used n = n.is_in_force && not (is_named used n.tn)
 
--- a number without a version in force
+-- Whether the number has no version in force.
 abbrev pub is_unprotected : BlockFacts → Tn → Bool
 is_unprotected facts t = not (list_any (is_in_force t.number) facts.numbers.now)
 
 -- ---- refusals
 
--- whether the caller may donate
+-- The tests of the donor.
 abbrev pub donor_tests : (caller : ℕ) → BlockFacts → List (ℕ × Bool)
 donor_tests caller facts =
     (3, is_none facts.code_holder) ∷ (7, not facts.is_lrn_good)
     ∷ (11, not (is_the caller (carrier_number facts.code_holder))) ∷ []
 
--- whether the block may be donated with these used numbers, for which so many versions are made
+-- The tests of the block, with these used numbers and `versions` new versions.
 abbrev pub tests_by : (used : List Subject) → (versions : ℕ) → BlockFacts → List (ℕ × Bool)
 tests_by used versions facts =
     (22, is_contaminated used facts) ∷ (23, has_open_port facts.numbers.now)
@@ -92,19 +92,20 @@ abbrev pub block_tests : (used : List Subject) → BlockFacts → List (ℕ × B
 block_tests used facts =
     tests_by used (length (made_numbers used (in_force_numbers facts.numbers.now))) facts
 
--- the least number whose condition holds of the donation by a registered carrier
+-- The refusal of a donation by a registered carrier: the least that holds.
 abbrev pub donation_refusal : (caller : ℕ) → Donation → BlockFacts → Option ℕ
 donation_refusal caller d facts =
     first_refusal (donor_tests caller facts ++ block_tests (used_by d) facts)
 
--- the call is refused for this, or is not where this is none. Want of memory tells nothing of it
+-- Holds if the result is this refusal, or succeeds without one. An allocation failure says
+-- nothing about it.
 abbrev pub IsRefusedAs : {A : Type 0} → Option ℕ → Result A Refusal → Type 0
 IsRefusedAs refusal (Ok value) = refusal ≡ None
 IsRefusedAs refusal (Err r) = r ≢ NoMemory → refusal ≡ Some (number_of r)
 
--- ---- what is made
+-- ---- effects
 
--- a version as the donation makes it for s. It has one broadcast, its create
+-- Holds if v is the version that the donation makes for s. Its only broadcast is its create.
 pub record IsProtective (present : WindowSet) (caller minute : ℕ) (d : Donation) (s : Subject)
     (v : VersionImpl) : Type 0 where
   pub subject : subject_of v.subject ≡ s
@@ -113,7 +114,7 @@ pub record IsProtective (present : WindowSet) (caller minute : ℕ) (d : Donatio
       (CommandRequest (command_of d)) in
       HasModel v made
 
--- a version for each of these subjects, in their order, with ids in turn
+-- Holds if there is a version for each of these subjects, in their order, with consecutive ids.
 abbrev pub AreProtective : WindowSet → (caller minute : ℕ) → Donation → (from : ℕ) → List Subject
     → List (ℕ × VersionImpl) → Type 0
 AreProtective present caller minute d from [] [] = ⊤
@@ -123,7 +124,7 @@ AreProtective present caller minute d from (s ∷ ss) (e ∷ es) =
 AreProtective present caller minute d from [] (e ∷ es) = ⊥
 AreProtective present caller minute d from (s ∷ ss) [] = ⊥
 
--- the versions that a donation makes, given what the facts say
+-- Holds if these are the versions that the donation makes, by the facts.
 abbrev pub IsPlanned : WindowSet → (caller minute : ℕ) → Donation → BlockFacts
     → List (ℕ × VersionImpl) → Type 0
 IsPlanned present caller minute d facts versions =

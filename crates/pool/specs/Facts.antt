@@ -1,4 +1,4 @@
--- What the facts of a block say of its numbers.
+-- Facts about the numbers of a block.
 use Rattle.std.specs.Prelude.{ℕ, Bool, not, ◌&&◌, ◌==◌, List, map, filter, Option, option_map}
 use Rattle.std.specs.List.{list_any}
 use Rattle.numbers.specs.Subjects.{Subject, Number}
@@ -11,15 +11,15 @@ spid_number s = s.number
 abbrev pub carrier_number : Option Spid → Option ℕ
 carrier_number = option_map spid_number
 
--- the numbers with a version in force
+-- The numbers with a version in force.
 abbrev pub in_force_numbers : List NumberInUse → List Subject
 in_force_numbers numbers = map (λ n. Number n.tn.number) (filter (λ n. n.is_in_force) numbers)
 
--- it is this number, and has a version in force
+-- Whether this is the number, with a version in force.
 abbrev pub is_in_force : ℕ → NumberInUse → Bool
 is_in_force tn n = n.is_in_force && (tn == n.tn.number)
 
--- a number that is being ported: it has an open version and none in force
+-- Whether the number is being ported: it has an open version and none in force.
 abbrev pub is_open_port : NumberInUse → Bool
 is_open_port n = n.is_open && not n.is_in_force
 

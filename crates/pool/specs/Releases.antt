@@ -1,4 +1,4 @@
--- What a release makes, and what it is refused for.
+-- Releases: their effects and refusals.
 use Rattle.std.specs.Prelude.{ℕ, ◌≡◌, Bool, not, ◌&&◌, ◌||◌, ◌==◌, List, [], ◌∷◌, Option, Some, None, is_none}
 use Rattle.version.specs.declared.version.Version.{Version as VersionImpl}
 use Rattle.version.specs.declared.command.Transition.{Transition}
@@ -12,7 +12,7 @@ use Rattle.pool.specs.declared.facts.BlockFacts.{BlockFacts}
 use Rattle.pool.specs.Facts.{has_open_port}
 use Rattle.model.specs.Windows.{WindowSet}
 
--- the caller is neither the administrator nor the version's provider
+-- Whether the caller is neither the administrator nor the version's new provider.
 abbrev pub is_others : (caller : ℕ) → VersionImpl → Bool
 is_others caller v = not (caller == npac) && not (caller == v.new_provider.number)
 
@@ -24,11 +24,11 @@ release_tests caller facts =
     ∷ (23, has_open_port facts.numbers.now)
     ∷ (28, holds_of (λ v. has_no_attempt_left (model_of v).attempt) facts.last) ∷ []
 
--- the least number whose condition holds of the release
+-- The refusal of a release: the least that holds.
 abbrev pub release_refusal : (caller : ℕ) → BlockFacts → Option ℕ
 release_refusal caller facts = first_refusal (release_tests caller facts)
 
--- the block's last version sends a delete
+-- Holds if the block's last version sends a delete.
 abbrev pub IsReleased : WindowSet → (minute : ℕ) → Option VersionImpl → Transition → Type 0
 IsReleased present minute None step = ⊥
 IsReleased present minute (Some v) step = (sends_model step.sends ≡ Some Delete)

@@ -1,4 +1,4 @@
--- Who serves a number, by what is known of it and its block.
+-- The server of a number, by the facts about it and its block.
 use Rattle.std.specs.Prelude.{ℕ, ◌≡◌, Option, Some, None, is_some, option_map, if◌then◌else◌}
 use Rattle.numbers.specs.Digits.{code_of, block_of}
 use Rattle.numbers.specs.Subjects.{Number, Block}
@@ -18,30 +18,30 @@ server_of (BlockImpl carrier) = ByBlock carrier.number
 server_of PoolImpl = InPool
 server_of (CodeImpl carrier) = ByCode (carrier_number carrier)
 
--- the carrier that a server is
+-- The carrier of a server, if it has one.
 abbrev pub carrier_of : Server → Option ℕ
 carrier_of (ByVersion c) = Some c
 carrier_of (ByBlock c) = Some c
 carrier_of InPool = None
 carrier_of (ByCode c) = c
 
--- the new provider of a version in force; else as told
+-- The new provider of a version in force, or else the given server.
 abbrev pub served_by_version : Option Version → Server → Server
 served_by_version (Some v) other = ByVersion v.new_provider
 served_by_version None other = other
 
--- a donated block's holder; else the code's
+-- The server by the block if it is donated, or else by the code.
 abbrev pub served_by_code : ServingFacts → Server
 served_by_code f = if f.is_donated then served_by_block (option_map model_of f.block_in_force)
     else ByCode (carrier_number f.code_holder)
 
--- the definitions' `serving`, over what is known
+-- The model's `serving`, over the facts.
 abbrev pub serving_of : ServingFacts → Server
 serving_of f =
     served_by_version (option_map model_of f.in_force) (protected_by (option_map model_of f.opened)
     (served_by_code f))
 
--- the facts are those of a number of the state
+-- Holds if the facts are those of a number of the state.
 pub record ServingFactsMatch (st : State) (n : ℕ) (f : ServingFacts) : Type 0 where
   pub in_force : HasModelIfAny f.in_force (version_in_force (record_now st (Number n)))
   pub opened : HasModelIfAny f.opened (open_version (Number n) (record_now st (Number n)))

@@ -1,4 +1,4 @@
-//! Assignment: the administrator gives a donated block to a carrier.
+//! Assignments: the administrator gives a donated block to a carrier.
 ghost use Rattle.std.specs.Prelude.{◌≡◌, IfOk};
 ghost use Rattle.delivery.specs.Refused.{refusal_in};
 ghost use Rattle.model.specs.History.{CommandRequest};
@@ -16,17 +16,17 @@ use numbers::{BlockId, Minute, Routing, Spid, Subject};
 use version::{ID_LIMIT, Version};
 use windows::WindowSet;
 
-/// The administrator gives a donated block to a carrier, its holder, who from then on serves those
-/// of its numbers that are not ported.
+/// An assignment of a donated block to a carrier, its holder, which then serves those of its
+/// numbers that are not ported.
 #[derive(Clone, Copy, Debug, PartialEq, Eq)]
 pub struct Assignment {
     pub block: BlockId,
     pub holder: Spid,
-    /// Where calls to the block's numbers are routed.
+    /// The routing of calls for the block's numbers.
     pub routing: Routing,
 }
 
-// Whether the block is a carrier's, on the way to one or on the way back.
+// Returns whether a carrier has the block, or is getting it or giving it back.
 fn is_taken(last: &Option<Version>) -> bool
     ensures { result ≡ holds_of (λ v. takes_block (model_of v).status) last.now }
 {
@@ -44,7 +44,7 @@ fn is_taken(last: &Option<Version>) -> bool
 }
 
 impl Assignment {
-    // The block's version from its donor, as its first broadcast begins.
+    // Returns the block's version from its donor, sending its first create.
     fn version(&self, donor: Spid, minute: Minute, present: &WindowSet) -> Version
         ensures { IsAssigned (set_of present.now) minute.number self.now (Some donor.number)
             result }
@@ -66,15 +66,18 @@ impl Assignment {
         }
     }
 
-    /// The version that the assignment commanded by `caller` makes of the block at `minute`. The
-    /// holder is a registered carrier as told, and the version takes the id `facts.next_id`.
+    /// Decides the assignment by `caller`: returns the block's version, whose id is
+    /// `facts.next_id`.
     ///
-    /// Refused with the first that holds: `NotAdmin` where the caller is not the administrator,
-    /// `UnknownCode` where the block's code is not opened, `BadLrn` where the routing number is not
-    /// the holder's, `NotFound` where the block is not donated, `OpenPorts` where a number of it is
-    /// being ported, `BlockTaken` where its last version is sending, active or a partial failure,
-    /// and `Full` where no id is left. Where the facts are those of the block in a state, that is
-    /// what the state refuses the assignment for.
+    /// The holder must be a registered carrier, which is not tested. If `facts` are those of the
+    /// block in a state, the refusal is the state's.
+    ///
+    /// # Errors
+    ///
+    /// The first that holds: `NotAdmin` if the caller is not the administrator; `UnknownCode` if
+    /// the block's code is not open; `BadLrn` if the routing number is not the holder's; `NotFound`
+    /// if the block is not donated; `OpenPorts` if one of its numbers is being ported; `BlockTaken`
+    /// if its last version is sending, active or a partial failure; `Full` if no id is left.
     pub fn made(
         &self,
         caller: Spid,

@@ -1,4 +1,4 @@
-//! Donation: a carrier gives a block back to the pool.
+//! Donations: a carrier gives a block to the pool.
 ghost use Rattle.std.specs.Prelude.{◌≡◌, ◌≢◌, ◌+◌, ◌≤◌, nat_lt, filter, length, map, None, Some, IfOk, IfErr, OnOk};
 ghost use Rattle.std.specs.BTreeSet.{keys};
 ghost use Rattle.model.specs.Conditions.{limit};
@@ -24,27 +24,28 @@ use windows::WindowSet;
 // The most numbers of a block that may be in use when it is donated.
 const MOST_IN_USE: usize = 100;
 
-/// A carrier gives a block back to the pool, and names the lines of it that are in use. By the
-/// thousands-block guidelines of the ATIS Industry Numbering Committee (INC) a block may be donated
-/// while at most ten percent of its numbers are in use, and these are first ported to the donor
+/// A donation of a block to the pool, with the lines of it that are in use.
+///
+/// By the thousands-block guidelines of the ATIS Industry Numbering Committee (INC), a block may be
+/// donated while at most ten percent of its numbers are in use. These are first ported to the donor
 /// itself.
 #[derive(Clone, Copy, Debug)]
 pub struct Donation<'a> {
     pub block: BlockId,
-    /// The lines in use, in any order. One that stands here twice counts once.
+    /// The lines in use, in any order. Duplicates count once.
     pub used: &'a [Line],
-    /// Where calls to the used numbers are routed.
+    /// The routing of calls for the used numbers.
     pub routing: Routing,
 }
 
-/// What a donation makes.
+/// The effect of a donation.
 #[derive(Debug, Drop)]
 pub struct Plan {
-    /// The protective versions with their ids, by rising number. Each sends its create.
+    /// The protective versions with their ids, ascending by number. Each sends its create.
     pub versions: Vec<(u64, Version)>,
 }
 
-// Whether the caller may donate a block of this code with this routing.
+// Checks whether the caller may donate a block of this code with this routing.
 fn check_donor(caller: Spid, facts: &BlockFacts<'_>) -> Result<(), Refusal>
     ensures { refusal_in result ≡ first_refusal (donor_tests caller.number facts.now) }
 {
@@ -60,14 +61,14 @@ fn check_donor(caller: Spid, facts: &BlockFacts<'_>) -> Result<(), Refusal>
     Ok(())
 }
 
-// Whether the number is among the used ones.
+// Returns whether the number is among the used ones.
 fn is_named(used: &BTreeSet<Tn>, tn: Tn) -> bool
     ensures { result ≡ is_named used.now tn }
 {
     used.contains(&tn)
 }
 
-// How many numbers in force are not among the used ones.
+// Returns how many numbers in force are not among the used ones.
 fn count_unnamed(used: &BTreeSet<Tn>, facts: &BlockFacts<'_>) -> usize
     ensures { result ≡ length (filter (is_unnamed used.now) facts.now.numbers.now) }
 {
@@ -78,28 +79,28 @@ fn count_unnamed(used: &BTreeSet<Tn>, facts: &BlockFacts<'_>) -> usize
         .count()
 }
 
-// More than a hundred in all.
+// Returns whether both together are more than `MOST_IN_USE`.
 fn are_too_many(named: usize, others: usize) -> bool
     ensures { result ≡ nat_lt 100 (named + others) }
 {
     named > MOST_IN_USE || others > MOST_IN_USE - named
 }
 
-// More numbers are in use than a block may be donated with.
+// Returns whether too many numbers of the block are in use for a donation.
 fn is_contaminated(used: &BTreeSet<Tn>, facts: &BlockFacts<'_>) -> bool
     ensures { result ≡ is_contaminated (numbers_in used.now) facts.now }
 {
     are_too_many(used.len(), count_unnamed(used, facts))
 }
 
-// Whether ids are wanting for so many versions.
+// Returns whether too few ids are left for `versions` new versions.
 fn is_past_the_last_id(next_id: u64, versions: usize) -> bool
     ensures { result ≡ nat_lt limit (next_id + versions) }
 {
     next_id.saturating_add(versions as u64) > ID_LIMIT
 }
 
-// The used numbers that have no version in force.
+// Returns the used numbers that have no version in force.
 fn unprotected(
     alloc: Global,
     used: &BTreeSet<Tn>,
@@ -114,7 +115,7 @@ fn unprotected(
         .collect(alloc)
 }
 
-// Whether a block with these used numbers may be donated, for which so many versions are made.
+// Checks whether a block with these used numbers may be donated, with `versions` new versions.
 fn check_block(used: &BTreeSet<Tn>, versions: usize, facts: &BlockFacts<'_>) -> Result<(), Refusal>
     ensures { refusal_in result
         ≡ first_refusal (tests_by (numbers_in used.now) versions facts.now) }
@@ -135,7 +136,7 @@ fn check_block(used: &BTreeSet<Tn>, versions: usize, facts: &BlockFacts<'_>) -> 
 }
 
 impl Donation<'_> {
-    // The used numbers.
+    // Returns the used numbers.
     fn used_numbers(&self, alloc: Global) -> Result<BTreeSet<Tn>, AllocError>
         ensures { IfOk result (λ used. numbers_in used ≡ used_by self.now) }
     {
@@ -146,7 +147,7 @@ impl Donation<'_> {
         Ok(used)
     }
 
-    // The version that keeps a used number with its donor, as its first broadcast begins.
+    // Returns the version that protects a used number for its donor, sending its first create.
     fn protective(&self, donor: Spid, tn: Tn, minute: Minute, present: &WindowSet) -> Version
         ensures { IsProtective (set_of present.now) donor.number minute.number self.now
             (Number tn.number) result }
@@ -168,7 +169,7 @@ impl Donation<'_> {
         }
     }
 
-    // The protective versions of these numbers, with ids from `first_id` on.
+    // Returns the protective versions of these numbers, with ids from `first_id` on.
     fn versions(
         &self,
         alloc: Global,
@@ -192,17 +193,20 @@ impl Donation<'_> {
         Ok(versions)
     }
 
-    /// What the donation by `caller`, a registered carrier, makes at `minute`: a protective version
-    /// for each used number without a version in force, by rising number, with ids from
-    /// `facts.next_id` on. All are made or none.
+    /// Decides the donation by `caller`, a registered carrier: returns a protective version for
+    /// each used number without a version in force, ascending by number, with ids from
+    /// `facts.next_id` on.
     ///
-    /// Refused with the first that holds: `UnknownCode` where the block's code is not opened,
-    /// `BadLrn` where the routing number is not the caller's, `NotYours` where the caller does not
-    /// hold the code, `Contaminated` where more than a hundred numbers are used or in force,
-    /// `OpenPorts` where a number is being ported, `BlockTaken` where the block is donated already,
-    /// and `Full` where no ids are left. `NoMemory` may come in place of any answer. Where the
-    /// facts are those of the block in a state, every other refusal is what the state refuses the
-    /// donation for.
+    /// If `facts` are those of the block in a state, any refusal other than `NoMemory` is the
+    /// state's.
+    ///
+    /// # Errors
+    ///
+    /// `NoMemory` if an allocation fails; otherwise the first that holds: `UnknownCode` if the
+    /// block's code is not open; `BadLrn` if the routing number is not the caller's; `NotYours` if
+    /// the caller does not hold the code; `Contaminated` if more than a hundred numbers are used or
+    /// in force; `OpenPorts` if a number is being ported; `BlockTaken` if the block is already
+    /// donated; `Full` if too few ids are left.
     pub fn plan(
         &self,
         alloc: Global,

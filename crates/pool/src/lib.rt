@@ -1,5 +1,4 @@
-//! The pooling of blocks: what a donation, an assignment and a release make, and who serves a
-//! number.
+//! Pooling of blocks: donations, assignments and releases, and which carrier serves a number.
 #![tactic(auto)]
 
 mod assignment;

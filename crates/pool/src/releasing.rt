@@ -1,4 +1,4 @@
-//! Release: a block is given back to the pool.
+//! Releases: a block is given back to the pool.
 ghost use Rattle.std.specs.Prelude.{◌≡◌, ℕ, List, IfOk};
 ghost use Rattle.delivery.specs.Refused.{refusal_in};
 ghost use Rattle.model.specs.Commands.{Release};
@@ -15,23 +15,25 @@ use numbers::{Minute, Spid};
 use version::{Transition, Version};
 use windows::WindowSet;
 
-// The caller is neither the administrator nor the version's provider.
+// Returns whether the caller is neither the administrator nor the version's new provider.
 fn is_others(version: &Version, caller: Spid) -> bool
     ensures { result ≡ is_others caller.number version.now }
 {
     caller.number != Spid::NPAC.number && caller.number != version.new_provider.number
 }
 
-/// What the release of a block by `caller`, its holder or the administrator, makes at `minute`: the
-/// block's last version sends a delete, its next attempt. When that is closed with an
-/// acknowledgement nobody serves the block's numbers that are not ported.
+/// Decides the release of a block by `caller`, its holder or the administrator: the block's last
+/// version sends a delete, its next attempt.
 ///
-/// Refused with the first that holds: `UnknownCode` where the block's code is not opened,
-/// `NotFound` where it is not donated or was never assigned, `NotYours` where the caller is neither
-/// its last version's new provider nor the administrator, `WrongStatus` where that version is not
-/// active, `OpenPorts` where a number of the block is being ported, and `Full` where no attempt is
-/// left. Where the facts are those of a block of a state, that is what the state refuses its
-/// release for.
+/// After that closes with an acknowledgement, no carrier serves the block's numbers that are not
+/// ported. If `facts` are those of a block in a state, the refusal is the state's.
+///
+/// # Errors
+///
+/// The first that holds: `UnknownCode` if the block's code is not open; `NotFound` if it is not
+/// donated or was never assigned; `NotYours` if the caller is neither its last version's new
+/// provider nor the administrator; `WrongStatus` if that version is not active; `OpenPorts` if a
+/// number of the block is being ported; `Full` if no attempt is left.
 pub fn release(
     caller: Spid,
     facts: &BlockFacts<'_>,

@@ -1,4 +1,4 @@
-//! Who serves a number.
+//! Decides which carrier serves a number.
 ghost use Rattle.std.specs.Prelude.{◌≡◌, ℕ};
 ghost use Rattle.model.specs.Conditions.{is_the};
 ghost use Rattle.model.specs.State.{is_served_by, serving, State};
@@ -8,16 +8,16 @@ ghost use Rattle.pool.specs.Serving.{carrier_of, server_of, served_by_code, serv
 use numbers::Spid;
 use version::Version;
 
-/// Who serves a number, and by what.
+/// The server of a number, and what makes it so.
 #[derive(Clone, Copy, Debug, PartialEq, Eq)]
 pub enum Server {
-    /// The new provider of the number's version: the one in force, or an open protective one.
+    /// The new provider of the number's version in force, or of its open protective one.
     Version(Spid),
     /// The holder of its block.
     Block(Spid),
-    /// Nobody: its block is donated, and no carrier's.
+    /// No carrier: its block is donated and has no holder.
     Pool,
-    /// The holder of its code, if the code is opened.
+    /// The holder of its code, if the code is open.
     Code(Option<Spid>),
 }
 
@@ -32,12 +32,12 @@ pub struct ServingFacts {
     pub is_donated: bool,
     /// The block's version in force.
     pub block_in_force: Option<Version>,
-    /// For whom the number's code is opened.
+    /// The holder of the number's code, if the code is open.
     pub code_holder: Option<Spid>,
 }
 
 impl Server {
-    /// The carrier that serves, if one does.
+    /// Returns the carrier that serves the number, if one does.
     pub fn carrier(&self) -> Option<Spid>
         ensures carrier { carrier_number result ≡ carrier_of (server_of self.now) }
         ensures serves { (c : ℕ)
@@ -51,7 +51,7 @@ impl Server {
     }
 }
 
-// By the block or the code.
+// Returns the server by the number's block or code.
 fn by_block(facts: &ServingFacts) -> Server
     ensures { server_of result ≡ served_by_code facts.now }
 {
@@ -64,9 +64,12 @@ fn by_block(facts: &ServingFacts) -> Server
     }
 }
 
-/// Who serves a number: the new provider of its version in force; else of its open version, where
-/// that is protective; else, where its block is donated, the block's holder, or nobody; else the
-/// holder of its code.
+/// Returns the server of a number, by the first of these that applies:
+///
+/// - the new provider of its version in force;
+/// - the new provider of its open version, if that is protective;
+/// - the holder of its block, or none, if the block is donated;
+/// - the holder of its code, or none.
 pub fn serving(facts: &ServingFacts) -> Server
     ensures server { server_of result ≡ serving_of facts.now }
     ensures state { (st : State) (n : ℕ)
@@ -75,7 +78,7 @@ pub fn serving(facts: &ServingFacts) -> Server
     by_version(facts)
 }
 
-// By a version of the number, or as its block and its code say.
+// Returns the server by a version of the number, or by its block or code.
 fn by_version(facts: &ServingFacts) -> Server
     ensures { server_of result ≡ serving_of facts.now }
 {

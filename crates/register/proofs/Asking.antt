@@ -1,4 +1,4 @@
--- Questions, and what is found by a column.
+-- Questions, and versions found by a column.
 pub mod Alone
 pub mod Columns
 pub mod IdsFound

@@ -1,4 +1,4 @@
--- What waits for a carrier, and its acknowledgements.
+-- A carrier's queue, and its acknowledgements.
 pub mod Acknowledged
 pub mod Answering
 pub mod Awaited

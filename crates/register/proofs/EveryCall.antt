@@ -1,4 +1,4 @@
--- What holds of every call: its subjects are settled first, and what it owes at each of its ends.
+-- Lemmas for every call: settling its subjects first, and its contract at each exit.
 pub mod Before
 pub mod Composed
 pub mod Deciding

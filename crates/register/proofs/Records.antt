@@ -1,4 +1,4 @@
--- What a request makes of records, and of the rows that show them.
+-- The records after a request, and the rows that match them.
 pub mod MadeSent
 pub mod Pooled
 pub mod Sent

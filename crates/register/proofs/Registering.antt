@@ -1,4 +1,4 @@
--- Carriers, routing numbers, codes, the windows and the clock.
+-- Carriers, routing numbers, codes, windows and the clock.
 pub mod ClockMoved
 pub mod Joined
 pub mod JoinedWaits

@@ -1,4 +1,4 @@
--- What stands of a block, of a content.
+-- The state of a block, and the facts that commands on blocks need.
 use Rattle.std.specs.Prelude.{◌≡◌, ◌⊎◌, ℕ, Bool, true, false, nat_lt, Option, Some, None, is_some, option_map, ⊤}
 use Rattle.std.specs.FinMap.{get}
 use Rattle.numbers.specs.Digits.{block_code_of}
@@ -16,12 +16,12 @@ use Rattle.settle.specs.Abstraction.{version_row_of, block_row_of, spid_of}
 use Rattle.pool.specs.declared.facts.BlockFacts.{BlockFacts}
 use Rattle.register.specs.declared.blocks.BlockRead.{BlockRead}
 
--- the id of the version that was made last of a block, by the block's row
+-- The id of the version that was made last of a block, by the block's row.
 abbrev pub last_id : Option BlockRowImpl → Option ℕ
 last_id None = None
 last_id (Some row) = row.last
 
--- the version with this id, where one is named
+-- Holds if the version is the one with this id, or if there is neither.
 abbrev pub IsLast : Content → Option ℕ → Option (ℕ × VersionImpl) → Type 0
 IsLast c None None = ⊤
 IsLast c (Some id) (Some e) = (e.0 ≡ id) × (row : Inside)
@@ -29,31 +29,34 @@ IsLast c (Some id) (Some e) = (e.0 ≡ id) × (row : Inside)
 IsLast c None (Some e) = ⊥
 IsLast c (Some id) None = ⊥
 
--- where an id is named, a row has it
+-- Holds if no id is given, or a row has it.
 abbrev pub IsRowThere : Content → Option ℕ → Type 0
 IsRowThere c None = ⊤
 IsRowThere c (Some id) = is_some (get c.versions id) ≡ true
 
--- what was read of the block
+-- Holds if `read` is the state of the block.
 pub record IsBlockRead (c : Content) (block : ℕ) (read : BlockRead) : Type 0 where
   pub code : option_map spid_of read.code_holder ≡ get c.codes (block_code_of block)
   pub row : option_map block_row_of read.row ≡ get c.blocks block
   pub last : IsLast c (last_id read.row) read.last
   pub numbers : AreInBlock c block read.numbers.items
 
--- the carriers of the command are known, this is the clock's row, and this was read of the block
+-- Holds if the carriers of the command are known, and these are the clock's row and the state of
+-- the block.
 pub record IsBlockFound (c : Content) (is_known : Bool) (block : ℕ) (clock : ClockRow)
     (read : BlockRead) : Type 0 where
   pub known : is_known ≡ true
   pub clock_is : c.clock ≡ Some clock
   pub is_read : IsBlockRead c block read
 
--- they are not known; or it is no refusal of the machine's
+-- Holds if the refusal is `UnknownCarrier` and the carriers are not known, or it is no refusal of
+-- the machine's.
 abbrev pub IsBlockLookupRefused : (is_known : Bool) → Refusal → Type 0
 IsBlockLookupRefused is_known r = ((r ≡ UnknownCarrier) × (is_known ≡ false))
     ⊎ (nat_lt (number_of r) 29 ≡ false)
 
--- the routing number, if one is named, is that of the carrier to whom calls will be routed
+-- Whether the routing number, if the command names one, belongs to the carrier that calls are to be
+-- routed to.
 abbrev pub is_routing_good : Content → (caller : ℕ) → Command → Bool
 is_routing_good c caller (Donate block used lrn cic) = is_the caller (get c.lrns lrn)
 is_routing_good c caller (Assign block holder lrn cic) = is_the holder (get c.lrns lrn)
@@ -67,7 +70,7 @@ is_routing_good c caller (NewProviderCreate tn old_provider new_provider due lrn
     is_the new_provider (get c.lrns lrn)
 is_routing_good c caller (OnVersion id command) = true
 
--- the facts of the block are what was read, and these two
+-- Holds if the facts of the block are what was read, with these two values.
 pub record AreBlockFacts (read : BlockRead) (is_lrn_good : Bool) (next : ℕ)
     (facts : BlockFacts) : Type 0 where
   pub code : facts.code_holder ≡ read.code_holder

@@ -1,4 +1,4 @@
--- What a command on a version is told of its subject.
+-- The facts of other rows that a command on a version needs.
 use Rattle.std.specs.Prelude.{◌≡◌, ⊤, ℕ, Option, is_some}
 use Rattle.std.specs.FinMap.{get}
 use Rattle.version.specs.declared.command.CommandFacts.{CommandFacts}
@@ -9,8 +9,8 @@ use Rattle.model.specs.Commands.{VersionCommand, Activate, PutInConflict, Remove
 use Rattle.settle.specs.Reads.{IsOpen}
 use Rattle.settle.specs.declared.rows.NumberedRow.{NumberedRow}
 
--- a disconnect and a modify ask whether the subject has an open version, a modify whether the
--- routing number is the provider's
+-- Holds if the facts are those of the content. A disconnect and a modify need to know whether the
+-- subject has an open version, a modify also whether the routing number is the provider's.
 abbrev pub AreCommandFacts : Content → VersionCommand → Subject → (provider : ℕ) → CommandFacts
     → Type 0
 AreCommandFacts c Activate s provider told = ⊤

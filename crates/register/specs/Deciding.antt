@@ -1,4 +1,4 @@
--- What a request comes to before anything is written.
+-- The decision of a request, before anything is written.
 use Rattle.std.specs.Prelude.{Some, Result, IfOk, IfErr}
 use Rattle.model.specs.Content.{Content}
 use Rattle.model.specs.RefusalNumbers.{number_of}
@@ -9,12 +9,12 @@ use Rattle.requests.specs.Calls.{refused_with, reply_of}
 use Rattle.requests.specs.declared.call.Reply.{Reply}
 use Rattle.register.specs.Settling.{SimulatesSettledStep}
 
--- of the content that stands: as the machine refuses it, or for want of memory or of the device
+-- Holds if the machine refuses so, or the refusal is for a failed device or allocation.
 abbrev pub Refuses : Content → Input → Refusal → Type 0
 Refuses c input refusal = SimulatesSettledStep c c input (refused_with (number_of refusal))
 
--- Of the content that stands: refused, it is refused so. Accepted, each content
--- that the changes make of it is the machine's next state, and the reply is the machine's.
+-- Holds if a refusal is one of `Refuses`, and an accepted request has the machine's reply and
+-- changes that lead to the machine's next state.
 pub record Decides (c : Content) (input : Input) (changes : Changes)
     (result : Result Reply Refusal) : Type 0 where
   pub refused : IfErr result (Refuses c input)

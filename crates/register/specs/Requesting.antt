@@ -1,4 +1,4 @@
--- What is requested of a register, as the definitions see it.
+-- The models of requests to a register.
 use Rattle.model.specs.History.{Request as RequestModel, CommandRequest, AcknowledgementRequest}
 use Rattle.requests.specs.Calls.{command_of}
 use Rattle.register.specs.declared.request.Request.{Request}

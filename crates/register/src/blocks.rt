@@ -1,4 +1,4 @@
-//! What stands of a block.
+//! Reads the state of a block and its numbers, for commands on blocks.
 ghost use Rattle.settle.specs.StoreContract.{IsAnswer, IsAvailable, IsReadOnly, ReportsStorage};
 ghost use Rattle.settle.specs.Abstraction.{clock_row_of};
 ghost use Rattle.std.specs.Prelude.{◌≡◌, Err, IfOk, OnOk, IfErr, option_map};
@@ -13,18 +13,18 @@ use version::{NumberInUse, Version};
 /// What the registry and the rows say of a block.
 #[derive(Drop)]
 pub struct BlockRead {
-    /// For whom the block's code is opened.
+    /// The carrier for which the block's code is open.
     pub code_holder: Option<Spid>,
-    /// The block's row, where it is donated.
+    /// The block's row, if the block is donated.
     pub row: Option<BlockRow>,
-    /// The id of the version that was made last of it, and the version.
+    /// The version that was made last of the block, with its id.
     pub last: Option<(u64, Version)>,
-    /// Its numbers with a version in force or an open one.
+    /// The block's numbers that have a version in force or an open one.
     pub numbers: Vec<NumberInUse>,
 }
 
 impl BlockRead {
-    // Who donated the block.
+    // Returns the donor of the block.
     fn donor(&self) -> Option<Spid>
         ensures { result ≡ option_map (λ row. row.donor) self.now.row }
     {
@@ -34,7 +34,7 @@ impl BlockRead {
         }
     }
 
-    // The version that was made last of it.
+    // Returns the version that was made last of the block.
     fn last(&self) -> Option<Version>
         ensures { result ≡ option_map (λ e. e.1) self.now.last }
     {
@@ -44,7 +44,7 @@ impl BlockRead {
         }
     }
 
-    /// What a command on the block is told.
+    /// Returns the facts that a command on the block needs.
     pub fn facts(&self, is_lrn_good: bool, next_id: u64) -> BlockFacts<'_>
         ensures { AreBlockFacts self.now is_lrn_good next_id result }
     {
@@ -59,7 +59,7 @@ impl BlockRead {
     }
 }
 
-// The version with this id, where one is named.
+// Returns the version with this id, if an id is given.
 fn last_made<S: Store>(store: &mut S, id: Option<u64>) -> Result<Option<(u64, Version)>, StoreFault>
     ensures value { S.IsUsable store.new → IfOk result (IsLast (S.content store.old) id) }
     ensures read_only { IsReadOnly S.IsUsable S.HasHonestDevice S.IsCrashState S.content S.failed
@@ -76,7 +76,7 @@ fn last_made<S: Store>(store: &mut S, id: Option<u64>) -> Result<Option<(u64, Ve
     Ok(Some((id, row.version)))
 }
 
-// The id of the version that was made last of a block.
+// Returns the id of the version that was made last of a block.
 fn last_id(row: Option<BlockRow>) -> Option<u64>
     ensures { result ≡ last_id row }
 {
@@ -86,7 +86,7 @@ fn last_id(row: Option<BlockRow>) -> Option<u64>
     }
 }
 
-/// Reads what stands of a block.
+/// Reads the state of a block.
 pub fn read_block<S: Store>(store: &mut S, block: BlockId) -> Result<BlockRead, StoreFault>
     ensures value { S.IsUsable store.new
         → IfOk result (IsBlockRead (S.content store.old) block.number) }
@@ -107,16 +107,18 @@ pub fn read_block<S: Store>(store: &mut S, block: BlockId) -> Result<BlockRead, 
     })
 }
 
-/// A block that a caller names, and the minute, windows and next id under which it stands.
+/// A block that a caller names, with the clock's row.
 #[derive(Drop)]
 pub struct BlockFound {
     pub clock: ClockRow,
     pub read: BlockRead,
 }
 
-/// Reads the block that a caller names, where the carriers of the command are known.
+/// Reads the block that a caller names.
 ///
-/// Refused with `UnknownCarrier` where they are not.
+/// # Errors
+///
+/// `UnknownCarrier` if `is_known` is false: a carrier of the command is not known.
 pub fn find_block<S: Store>(
     store: &mut S,
     is_known: bool,

@@ -1,4 +1,4 @@
-//! A request whose subjects are settled.
+//! Decides requests whose subjects are settled, and commits their changes.
 ghost use Rattle.settle.specs.StoreContract.{IsAvailable, AddsOnlyCrashStates, PreservesStore, IsReadOnly};
 ghost use Rattle.std.specs.Prelude.{◌≡◌, Err, OnOk};
 ghost use Rattle.model.specs.History.{CommandRequest};
@@ -24,7 +24,7 @@ use requests::{Command, Reply};
 use settle::{Changes, Store};
 use std::alloc::Global;
 
-// What the command comes to. Nothing is written.
+// Decides the command: returns the reply and stages the changes. Commits nothing.
 fn decide_command<S: Store>(
     alloc: Global,
     store: &mut S,
@@ -74,7 +74,7 @@ fn decide_command<S: Store>(
     }
 }
 
-// What the request comes to. Nothing is written.
+// Decides the request: returns the reply and stages the changes. Commits nothing.
 fn decide<S: Store>(
     alloc: Global,
     store: &mut S,
@@ -98,8 +98,8 @@ fn decide<S: Store>(
     }
 }
 
-/// Carries out a request whose subjects are settled: what it comes to is decided by what stands,
-/// and written in one commit.
+/// Executes a request whose subjects are settled: decides it, then commits its changes in one
+/// commit.
 pub fn execute<S: Store>(
     alloc: Global,
     store: &mut S,

@@ -1,4 +1,4 @@
-//! What stands of a number and of its block.
+//! Reads the current versions of a number and of its block.
 ghost use Rattle.settle.specs.StoreContract.{IsAnswer, IsReadOnly};
 ghost use Rattle.std.specs.Prelude.{Err, ◌≡◌, ◌≤◌, IfOk, option_map};
 ghost use Rattle.numbers.specs.Digits.{block_of};
@@ -12,11 +12,11 @@ use pool::ServingFacts;
 use settle::{Store, StoreFault};
 use version::Version;
 
-/// What stands of a number and of its block.
+/// The versions of a number and of its block that are in force or open.
 #[derive(Clone, Copy, Debug)]
 pub struct CurrentVersions {
     pub in_force: Option<Version>,
-    /// The id of the open version, and the version.
+    /// The open version with its id.
     pub opened: Option<(u64, Version)>,
     pub block_in_force: Option<Version>,
 }
@@ -46,7 +46,7 @@ fn opened<S: Store>(store: &mut S, subject: Subject) -> Result<Option<(u64, Vers
 }
 
 impl CurrentVersions {
-    /// Reads the rows of a number and its block.
+    /// Reads the current versions of a number and of its block.
     pub fn read<S: Store>(store: &mut S, tn: Tn) -> Result<CurrentVersions, StoreFault>
         ensures in_force { S.IsUsable store.new
             → IfOk result (λ row. IsVersionInForce (S.content store.old) (Number tn.number)
@@ -68,7 +68,7 @@ impl CurrentVersions {
         })
     }
 
-    /// Whether the block's version in force sends a delete.
+    /// Returns whether the block's version in force sends a delete.
     pub fn is_block_released(&self) -> bool
         ensures { result ≡ is_released self.now.block_in_force }
     {
@@ -79,7 +79,7 @@ impl CurrentVersions {
     }
 }
 
-// The version without its id.
+// Returns the version without its id.
 fn version_of(opened: Option<(u64, Version)>) -> Option<Version>
     ensures { result ≡ option_map (λ e. e.1) opened }
 {
@@ -89,7 +89,7 @@ fn version_of(opened: Option<(u64, Version)>) -> Option<Version>
     }
 }
 
-/// What tells who serves a number.
+/// Reads the facts that decide who serves a number.
 pub fn serving_facts<S: Store>(
     store: &mut S,
     tn: Tn,

@@ -1,4 +1,4 @@
-//! The version that a caller names.
+//! Looks up the version that a caller names.
 ghost use Rattle.settle.specs.StoreContract.{IsAnswer, IsAvailable, IsReadOnly};
 ghost use Rattle.std.specs.Prelude.{◌≡◌, Err, IfOk, IfErr, OnOk, is_some};
 ghost use Rattle.std.specs.FinMap.{get};
@@ -12,7 +12,7 @@ use numbers::{Lrn, Spid};
 use settle::{ClockRow, Store, StoreFault, VersionRow};
 use windows::Windows;
 
-/// A version that a caller names, and the minute and windows under which it stands.
+/// A version that a caller names, with the clock's row.
 #[derive(Drop)]
 pub struct LookedUp {
     pub clock: ClockRow,
@@ -21,10 +21,12 @@ pub struct LookedUp {
     pub held: Windows,
 }
 
-/// Looks up the version that a caller names: first the caller, then the version.
+/// Looks up the version that a caller names.
 ///
-/// Refused with `UnknownCarrier` where the caller is not known, and `NotFound` where no version has
-/// the id.
+/// # Errors
+///
+/// `UnknownCarrier` if `is_known` is false: the caller is not known. Then `NotFound` if no version
+/// has the id.
 pub fn look_up<S: Store>(store: &mut S, is_known: bool, id: u64) -> Result<LookedUp, Refusal>
     ensures found { S.IsUsable store.new
         → IfOk result
@@ -50,9 +52,11 @@ pub fn look_up<S: Store>(store: &mut S, is_known: bool, id: u64) -> Result<Looke
     Ok(LookedUp { clock, row, held })
 }
 
-/// Looks up the version that a carrier names: first whether it is registered, then the version.
+/// Looks up the version that a carrier names.
 ///
-/// Refused as `look_up` is.
+/// # Errors
+///
+/// `UnknownCarrier` if the carrier is not registered, then `NotFound` if no version has the id.
 pub fn look_up_for<S: Store>(store: &mut S, carrier: Spid, id: u64) -> Result<LookedUp, Refusal>
     ensures found { S.IsUsable store.new
         → IfOk result (λ found. IsLookedUp (S.content store.old)
@@ -65,14 +69,14 @@ pub fn look_up_for<S: Store>(store: &mut S, carrier: Spid, id: u64) -> Result<Lo
         store.old store.new
         (IsAvailable result) (S.IsUsable store.new × HasHeldSet (S.content store.old) id
         × (result ≡ Err Refusal.Storage)) }
-    // a store that is shut answers none
+    // A shut store answers no look-up.
     ensures open { OnOk result (S.HasHonestDevice store.new → S.IsUsable store.new) }
 {
     let is_carrier = store.carrier(carrier)?;
     look_up(store, is_carrier, id)
 }
 
-/// The windows of the set that a version holds: the present one's, or those of an earlier set.
+/// Returns the windows of the set that a version holds: the present set, or an earlier one.
 pub fn held_windows<S: Store>(
     store: &mut S,
     clock: &ClockRow,
@@ -96,7 +100,7 @@ pub fn held_windows<S: Store>(
     }
 }
 
-/// Whether the routing number is registered, and the carrier's.
+/// Returns whether the routing number is registered and the carrier's.
 pub fn is_lrn_of<S: Store>(store: &mut S, lrn: Lrn, carrier: Spid) -> Result<bool, StoreFault>
     ensures value { S.IsUsable store.new
         → IfOk result (λ good. good

@@ -1,4 +1,4 @@
-//! Commands on blocks.
+//! Decides commands on blocks.
 ghost use Rattle.settle.specs.StoreContract.{IsAnswer, IsAvailable, IsReadOnly, ReportsStorage};
 ghost use Rattle.std.specs.Prelude.{◌≡◌, ◌+◌, ◌≤◌, ◌==◌, ◌||◌, ℕ, Err, Some, IfOk, OnOk, map, length, is_some, vec_len};
 ghost use Rattle.std.specs.FinMap.{get, keys};
@@ -29,7 +29,7 @@ use settle::{
 use std::alloc::{AllocError, Global};
 use version::Version;
 
-// The clock's row once the ids of these are taken.
+// Returns the move of the clock's row past the ids of these versions.
 fn past_ids(clock: &ClockRow, made: &[(u64, Version)]) -> ClockMove
     ensures { clock.now.next_id + length made.now ≤ limit
         → clock_move_of result
@@ -44,8 +44,8 @@ fn past_ids(clock: &ClockRow, made: &[(u64, Version)]) -> ClockMove
     }
 }
 
-// Puts the rows of versions that begin to send as they are made, the block's row, and the clock's
-// with the ids that they take.
+// Stages the rows of versions that begin to send as they are made, the block's row, and the clock's
+// row past their ids.
 fn put_made<S: Store>(
     alloc: Global,
     store: &mut S,
@@ -84,14 +84,14 @@ fn put_made<S: Store>(
     Ok(())
 }
 
-// The ids of versions.
+// Returns the ids of the versions.
 fn ids_of(alloc: Global, made: &[(u64, Version)]) -> Result<Vec<u64>, AllocError>
     ensures { IfOk result (λ ids. ids.items ≡ map (λ (e : ℕ × VersionImpl). e.0) made.now) }
 {
     made.iter().map(|entry| entry.0).collect(alloc)
 }
 
-// Whether the caller of a release is known: a registered carrier, or the administrator.
+// Returns whether the caller of a release is a registered carrier or the administrator.
 fn may_release<S: Store>(store: &mut S, caller: Spid) -> Result<bool, StoreFault>
     ensures value { S.IsUsable store.new → IfOk result (λ known. known
         ≡ ((caller.number == npac) || is_some (get (S.content store.old).carriers caller.number))) }
@@ -104,8 +104,8 @@ fn may_release<S: Store>(store: &mut S, caller: Spid) -> Result<bool, StoreFault
     store.carrier(caller)
 }
 
-/// A carrier gives a block back to the pool. The reply has the ids of the versions that protect the
-/// used numbers, by rising number.
+/// Decides a donation: a carrier gives a block to the pool. The reply has the ids of the versions
+/// that protect the used numbers, ordered by number. Stages the changes, and commits nothing.
 #[tactic(auto, using(crate::proofs::EveryCall::Deciding::decides_fault))]
 pub fn donate<S: Store>(
     alloc: Global,
@@ -150,8 +150,8 @@ pub fn donate<S: Store>(
     })
 }
 
-/// The administrator gives a donated block to a carrier. The reply shows the block's version, which
-/// sends its create.
+/// Decides an assignment: the administrator gives a donated block to a carrier. The reply shows the
+/// block's version, which sends its create. Stages the changes, and commits nothing.
 #[tactic(auto, using(crate::proofs::EveryCall::Deciding::decides_fault))]
 pub fn assign<S: Store>(
     alloc: Global,
@@ -193,8 +193,9 @@ pub fn assign<S: Store>(
     Ok(Reply::Shown(VersionView::of(id, &version, clock.minute, &clock.present.windows)))
 }
 
-/// The holder of a block, or the administrator, gives it back to the pool. The reply shows the
-/// block's version, which sends its delete.
+/// Decides a release: the holder of a block, or the administrator, gives it back to the pool. The
+/// reply shows the block's version, which sends its delete. Stages the changes, and commits
+/// nothing.
 #[tactic(auto, using(crate::proofs::EveryCall::Deciding::decides_fault))]
 pub fn release<S: Store>(
     alloc: Global,

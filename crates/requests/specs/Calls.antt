@@ -1,4 +1,4 @@
--- What the definitions see of calls, replies and refusals.
+-- The models of calls, replies and refusals.
 use Rattle.std.specs.Prelude.{ℕ, nat_lt, map, Option, Some, None, option_map, if◌then◌else◌}
 use Rattle.std.specs.Prelude.{Result, Ok, Err}
 use Rattle.numbers.specs.Abstraction.{subject_of}
@@ -27,7 +27,7 @@ use Rattle.requests.specs.declared.view.VersionView.{VersionView}
 use Rattle.requests.specs.declared.view.Answer.{Answer as AnswerImpl}
 use Rattle.requests.specs.declared.view.Answer.TheVariants.{Closed as ClosedImpl, Open as OpenCodeAnswer}
 
--- a command as the definitions see it
+-- The model of a command.
 abbrev pub command_of : CommandImpl → Command
 command_of (RegisterCarrierImpl spid) = RegisterCarrier spid.number
 command_of (RegisterRoutingNumberImpl lrn) = RegisterRoutingNumber lrn.number
@@ -41,9 +41,9 @@ command_of (AssignImpl assignment) = assignment_of assignment
 command_of (ReleaseImpl block) = Release block.number
 command_of (SetWindowsImpl windows) = SetWindows (windows_of windows)
 
--- ---- what is asked, but for its caller
+-- ---- calls without their callers
 
--- a command or an acknowledgement, a question, or that the clock moves to a minute
+-- A call: a command or an acknowledgement, a question, or a minute that the clock moves to.
 pub data ModelCall : Type 0 where
   RequestCall : (request : Request) → ModelCall
   QuestionCall : (question : Question) → ModelCall
@@ -57,15 +57,15 @@ called_of (NumberCall tn) = QuestionCall (Ids tn.number)
 called_of (DownloadsCall count) = QuestionCall (Fetch count)
 called_of (ClockCall minute) = MomentCall minute.number
 
--- the machine's input
+-- The machine's input.
 abbrev pub input_of : (caller : ℕ) → ModelCall → Input
 input_of caller (RequestCall request) = RequestFrom caller request
 input_of caller (QuestionCall question) = QuestionFrom caller question
 input_of caller (MomentCall minute) = ClockMoment minute
 
--- ---- what is answered
+-- ---- replies
 
--- a version as it is shown
+-- The model of a view of a version.
 abbrev pub view_of : VersionView → View
 view_of v = record {
   id = v.id;
@@ -85,7 +85,7 @@ abbrev pub answer_of : AnswerImpl → Answer
 answer_of ClosedImpl = Closed
 answer_of (OpenCodeAnswer routing) = Opened (routings_of routing)
 
--- what a call answered
+-- The model of a reply.
 abbrev pub reply_of : ReplyImpl → Reply
 reply_of (RegisteredImpl spid rows) = Registered spid.number (map in_force_of rows.items)
 reply_of (RoutingNumberRegisteredImpl lrn spid) = LrnAdded lrn.number spid.number
@@ -97,12 +97,12 @@ reply_of (FetchedImpl downloads) = Fetched (map download_of downloads.items)
 reply_of (MovedImpl minute) = Moved minute.number
 reply_of (WindowsSetImpl now number) = WindowsSet now.number number
 
--- the machine's refusals are those below 29: the device's (29) and want of memory (30) are no
--- answers of its
+-- The machine's reply with this refusal, if its number is below 29. The device's refusal (29) and
+-- an allocation failure (30) are not the machine's.
 abbrev pub refused_with : ℕ → Option Reply
 refused_with k = if nat_lt k 29 then Some (Refused k) else None
 
--- the machine's reply, if what the call answered is one
+-- The machine's reply, if the result is one.
 abbrev pub replied : {A : Type 0} → (A → Reply) → Result A Refusal → Option Reply
 replied seen (Ok value) = Some (seen value)
 replied seen (Err refusal) = refused_with (number_of refusal)

@@ -1,4 +1,4 @@
-//! What may be asked, and what is replied.
+//! Calls of a register, and its replies.
 use crate::view::{Ids, VersionView};
 use delivery::{Download, RoutedRow};
 use numbers::{BlockId, CodeId, Line, Lrn, Minute, Routing, Spid, Tn};
@@ -6,83 +6,83 @@ use pool::Assignment;
 use version::{Create, VersionCommand};
 use windows::Windows;
 
-/// What is asked of a register, but for its caller.
+/// A call of a register, without its caller.
 #[derive(Debug, Drop)]
 pub enum Call {
     Command(Command),
-    /// A carrier acknowledges an attempt of a version.
+    /// A carrier's acknowledgement of an attempt of a version.
     Acknowledge { id: u64, attempt: u64 },
-    /// The version with an id.
+    /// A query for the version with an id.
     Version { id: u64 },
-    /// The ids of a number's versions.
+    /// A query for the ids of a number's versions.
     Number { tn: Tn },
-    /// A carrier's first downloads, so many.
+    /// A query for the first `count` downloads of a carrier's queue.
     Downloads { count: usize },
-    /// The clock moves to a minute.
+    /// A move of the clock to a minute.
     Clock { minute: Minute },
 }
 
 /// A caller's command.
 #[derive(Debug, Drop)]
 pub enum Command {
-    /// The administrator registers a carrier.
+    /// The registration of a carrier, by the administrator.
     RegisterCarrier {
         spid: Spid,
     },
-    /// A carrier registers a routing number of its own.
+    /// The registration of a routing number, by its carrier.
     RegisterRoutingNumber {
         lrn: Lrn,
     },
-    /// The administrator opens a code for its holder.
+    /// The opening of a code for its holder, by the administrator.
     OpenCode {
         code: CodeId,
         spid: Spid,
     },
-    /// A provider creates a port.
+    /// A provider's create of a port.
     Create(Create),
-    /// A provider commands a version.
+    /// A provider's command on a version.
     OnVersion {
         id: u64,
         command: VersionCommand,
     },
-    /// A carrier gives a block back to the pool, with the lines of it that are in use.
+    /// The donation of a block to the pool by a carrier, with the lines of it that are in use.
     Donate {
         block: BlockId,
         used: Vec<Line>,
-        /// Where calls to the used numbers are routed.
+        /// The routing of calls for the used numbers.
         routing: Routing,
     },
-    /// The administrator gives a donated block to a carrier.
+    /// The assignment of a donated block to a carrier, by the administrator.
     Assign(Assignment),
-    /// The holder of a block or the administrator gives it back to the pool.
+    /// The return of a block to the pool, by its holder or the administrator.
     Release {
         block: BlockId,
     },
-    /// The administrator sets the windows anew.
+    /// A new set of windows, from the administrator.
     SetWindows {
         windows: Windows,
     },
 }
 
-/// What an accepted call answers.
+/// The reply to an accepted call.
 #[derive(Debug, Drop)]
 pub enum Reply {
-    /// The carrier, and its starting rows: everything in force, by subject.
+    /// The carrier, and its first rows: everything in force, ordered by subject.
     Registered { spid: Spid, rows: Vec<RoutedRow> },
-    /// The routing number, and whose it is.
+    /// The routing number, and its carrier.
     RoutingNumberRegistered { lrn: Lrn, spid: Spid },
     /// The code, and its holder.
     CodeOpened { code: CodeId, spid: Spid },
-    /// The version, as it stands after the call.
+    /// The version after the call.
     Shown(VersionView),
-    /// The donated block, and the ids of the versions of its used numbers, by rising number.
+    /// The donated block, and the ids of the versions of its used numbers, ascending by number.
     Donated { block: BlockId, ids: Vec<u64> },
     /// The ids of a number's versions.
     Found(Ids),
     /// The first downloads of the caller's queue.
     Fetched(Vec<Download>),
-    /// The present minute.
+    /// The current minute.
     Moved(Minute),
-    /// The present minute, and the number of the set of windows.
+    /// The current minute, and the number of the new set of windows.
     WindowsSet { now: Minute, number: u16 },
 }

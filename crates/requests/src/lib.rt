@@ -1,4 +1,4 @@
-//! What is asked of a register, and what it answers.
+//! The calls of a register, and its replies.
 #![tactic(auto)]
 
 mod call;

@@ -1,4 +1,4 @@
-//! What callers are shown.
+//! Views of versions, and answers to queries.
 ghost use Rattle.std.specs.Prelude.{◌≡◌, List};
 ghost use Rattle.numbers.specs.Abstraction.{subject_of};
 ghost use Rattle.model.specs.State.{State, view_of as view_in};
@@ -10,7 +10,7 @@ use numbers::{Minute, Routing};
 use version::{Phase, Version};
 use windows::Windows;
 
-/// A version as it is shown.
+/// A version as shown to a caller.
 #[derive(Clone, Copy, Debug, PartialEq, Eq)]
 pub struct VersionView {
     pub id: u64,
@@ -19,7 +19,7 @@ pub struct VersionView {
 }
 
 impl VersionView {
-    /// The version as it stands at a minute. The windows are those of the set that it holds.
+    /// Returns the view of a version at `minute`. `windows` are those of the set that it holds.
     pub fn of(id: u64, version: &Version, minute: Minute, windows: &Windows) -> VersionView
         ensures { (st : State) (broadcasts : List Broadcast) → st.now ≡ minute.number
             → view_of result
@@ -36,14 +36,15 @@ impl VersionView {
     }
 }
 
-/// A query's answer: the number's code is not opened, or where its calls are routed.
+/// The answer to a query by number: its code is not open, or the routing of its calls, if it has
+/// one.
 #[derive(Clone, Copy, Debug, PartialEq, Eq)]
 pub enum Answer {
     Closed,
     Open(Option<Routing>),
 }
 
-/// The ids of a number's version in force and of its open one, where there are such.
+/// The ids of a number's version in force and of its open version, if it has them.
 #[derive(Clone, Copy, Debug, PartialEq, Eq)]
 pub struct Ids {
     pub in_force: Option<u64>,

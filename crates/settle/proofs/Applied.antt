@@ -1,4 +1,4 @@
--- Rows put one after the other, and the content after them.
+-- Rows written one after the other, and the content after them.
 use Rattle.std.proofs.Common.{◌≡◌, ℕ, Bool, cond, ◌&&◌, List, [], ◌∷◌, ◌++◌, map, Option, Some, refl, ap, sym, ◌∙◌}
 use Rattle.std.specs.Prelude.{◌==◌, flat_map, if◌then◌else◌}
 use Rattle.std.specs.declared.cmp.Ordering.{Ordering}
@@ -74,7 +74,7 @@ wait_ties a b =
     ∙ grouped (a.carrier == b.carrier) (a.minute == b.minute) (a.id == b.id)
     (a.attempt == b.attempt)
 
--- the rows of versions, broadcasts and downloads put
+-- The content with the rows of versions, broadcasts and downloads written.
 abbrev pub applied : Changes → Content → Content
 applied changes c = record c {
   versions = put_all c.versions changes.versions;
@@ -82,7 +82,8 @@ applied changes c = record c {
   waits = put_all c.waits changes.waits;
 }
 
--- a content has the rows of another with those of the changes put
+-- Holds if `new` has the versions, broadcasts and downloads of `old` with those of the changes
+-- written.
 pub record Puts (changes : Changes) (old new : Content) : Type 0 where
   pub versions : (k : ℕ) → get new.versions k ≡ put_rows ◌==◌ changes.versions k
       (get old.versions k)
@@ -98,7 +99,7 @@ applied_puts changes c = record {
   waits = λ k. get-put_all wait_total same_wait wait_ties c.waits changes.waits k;
 }
 
--- ---- many versions that begin to send, one after the other
+-- ---- versions that begin to send, one after the other
 
 module _ (w : WindowSet) (minute : ℕ) (action : Send) (all_carriers : List ℕ) where
   abbrev pub sending_one : SendingVersion → Changes
@@ -130,7 +131,7 @@ module _ (w : WindowSet) (minute : ℕ) (action : Send) (all_carriers : List ℕ
             (flat_map (begun_waits minute all_carriers) bs) k (get c.waits k));
       }
 
-  -- one step
+  -- One version's rows applied are its changes.
   pub one_changed : (b : SendingVersion) (c : Content)
       → AppliesChanges (sending_one b) c (applied (sending_one b) c)
   one_changed b c =
@@ -147,7 +148,7 @@ module _ (w : WindowSet) (minute : ℕ) (action : Send) (all_carriers : List ℕ
         clock = refl;
       }
 
--- two contents with the same rows put show the same records
+-- Two contents with the same rows written match the same records.
 pub same_shows : (changes : Changes) (old one other : Content) → Puts changes old one
     → Puts changes old other → (w : WindowSet) (s : Subject) (r : Record) → RowsMatch one s r
     → RowsMatch other s r

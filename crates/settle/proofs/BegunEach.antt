@@ -1,4 +1,4 @@
--- The broadcasts and the downloads of versions that begin to send ask for no windows.
+-- Broadcasts and downloads of versions that begin to send do not depend on windows.
 use Rattle.std.proofs.Common.{◌≡◌, ℕ, List, [], ◌∷◌, ◌++◌, map, refl, ap, ◌∙◌}
 use Rattle.std.specs.Prelude.{flat_map}
 use Rattle.model.specs.Windows.{Windows}

@@ -1,4 +1,4 @@
--- A fault of the store, and the refusal by which it is told.
+-- A fault of the store, and the refusal that reports it.
 use Rattle.std.proofs.Common.{◌≡◌, refl, sym, ◌∙◌, subst}
 use Rattle.std.specs.Prelude.{Result, Err}
 use Rattle.model.specs.declared.refusal.Refusal.{Refusal}
@@ -8,7 +8,7 @@ use Rattle.settle.specs.StoreContract.{IsAvailable}
 use Rattle.settle.specs.declared.store.StoreFault.{StoreFault}
 use Rattle.settle.specs.declared.store.StoreFault.TheVariants.{Storage as StorageFault, NoMemory as NoMemoryFault}
 
--- a call that ends for a fault of the store answers nothing
+-- A result that reports the store's fault is no answer.
 pub fault_is_none : {A : Type 0} (result : Result A Refusal) (fault : StoreFault)
     → result ≡ Err (refusal_of fault) → ¬ IsAvailable result
 fault_is_none {A = A} result fault is answered =
@@ -18,7 +18,7 @@ fault_is_none {A = A} result fault is answered =
     by_cases StorageFault none = none.0 refl
     by_cases NoMemoryFault none = none.1 refl
 
--- a call that ends for this fault of the store, and answers storage
+-- A fault that is reported as `Storage` is the storage fault.
 pub storage_by : {A : Type 0} (result : Result A Refusal) (fault : StoreFault)
     → result ≡ Err (refusal_of fault) → result ≡ Err Storage → fault ≡ StorageFault
 storage_by result StorageFault is said = refl

@@ -1,4 +1,4 @@
--- What only reads, step after step.
+-- Read-only calls one after the other.
 use Rattle.std.proofs.Common.{◌≡◌, ℕ, ◌∙◌}
 use Rattle.std.specs.Prelude.{⊤, Result, Err}
 use Rattle.std.proofs.Math.Nat.{le_trans}
@@ -14,7 +14,7 @@ use Rattle.settle.proofs.Faults.{fault_is_none, storage_by}
 
 module _ {S : Type 0} {IsUsable HasHonestDevice : S → Type 0} {IsCrashState : S → Content → Type 0}
     {content : S → Content} {failed : S → ℕ} {a b : S} where
-  -- by what is answered and said
+  -- Weakens when the call answers and when it reports storage.
   pub reads_told : {A P Answers Says : Type 0}
       → IsReadOnly IsUsable HasHonestDevice IsCrashState content failed a b A P → (Answers → A)
       → (Says → P)
@@ -33,13 +33,13 @@ module _ {S : Type 0} {IsUsable HasHonestDevice : S → Type 0} {IsCrashState : 
       → (Says → P) → IsReadOnly IsUsable HasHonestDevice IsCrashState content failed a b A Says
   reads_saying read turn = reads_told read (λ answered. answered) turn
 
-  -- a refusal that says no storage
+  -- A read-only call that answered, and a result that never reports storage.
   pub reads_refused : {A P Answers Says : Type 0}
       → IsReadOnly IsUsable HasHonestDevice IsCrashState content failed a b A P → A → (Says → ⊥)
       → IsReadOnly IsUsable HasHonestDevice IsCrashState content failed a b Answers Says
   reads_refused read found never = reads_told read (λ answered. found) (λ says. absurd (never says))
 
-  -- and then what only reads, by what is answered and said then
+  -- Two read-only calls, the first of them answered.
   pub reads_past : {d : S} {A P B Q Answers Says : Type 0} →
       IsReadOnly IsUsable HasHonestDevice IsCrashState content failed a b A P → A →
       IsReadOnly IsUsable HasHonestDevice IsCrashState content failed b d B Q → (Answers → B)
@@ -57,7 +57,7 @@ module _ {S : Type 0} {IsUsable HasHonestDevice : S → Type 0} {IsCrashState : 
     left = λ honest m may. first.left (second.honest honest) m (second.left honest m may);
   }
 
-  -- one after another, both answered
+  -- Two read-only calls, both answered.
   pub reads_on : {d : S} {A P B Q : Type 0}
       → IsReadOnly IsUsable HasHonestDevice IsCrashState content failed a b A
       P → A → IsReadOnly IsUsable HasHonestDevice IsCrashState content failed b d B Q → B →
@@ -65,7 +65,7 @@ module _ {S : Type 0} {IsUsable HasHonestDevice : S → Type 0} {IsCrashState : 
   reads_on first found second answered =
       reads_past first found second (λ it. answered) (λ never. absurd never)
 
-  -- and then a fault of the store
+  -- Two read-only calls, and then a fault of the store.
   pub reads_fault : {d : S} {A P B Q : Type 0} {X : Type 0} {c : Content} →
       IsReadOnly IsUsable HasHonestDevice IsCrashState content failed a b A P → A →
       IsReadOnly IsUsable HasHonestDevice IsCrashState content failed b d B Q →
@@ -77,7 +77,7 @@ module _ {S : Type 0} {IsUsable HasHonestDevice : S → Type 0} {IsCrashState : 
       (λ answered. absurd (fault_is_none result fault is answered))
       (λ told. says (storage_by result fault is told.says))
 
-  -- and then what only reads, whatever it says
+  -- Two read-only calls, the first of them answered, with what the second reports weakened.
   pub reads_then : {d : S} {A P B Q Says : Type 0}
       → IsReadOnly IsUsable HasHonestDevice IsCrashState content failed
       a b A P → A → IsReadOnly IsUsable HasHonestDevice IsCrashState content failed b d B Q

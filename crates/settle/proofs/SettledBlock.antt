@@ -21,7 +21,7 @@ use Rattle.version.specs.declared.in_use.NumberInUse.{NumberInUse}
 
 -- ---- the list
 
--- one of these numbers
+-- Whether the subject is one of these numbers.
 abbrev pub is_any_of : List NumberInUse → Subject → Bool
 is_any_of numbers s = list_any (λ (n : NumberInUse). subject_eq s (Number n.tn.number)) numbers
 
@@ -42,7 +42,7 @@ listed_is (x ∷ xs) block t = by_cases (subject_eq t (Number x.tn.number)) (lis
 
 module _ (c : Content) (block : ℕ) (numbers : List NumberInUse) (are : AreInBlock c block numbers)
     (st : State) where
-  -- one of them is a number of the block
+  -- Each of the numbers is of the block.
   any_inside : (t : Subject) → is_any_of numbers t ≡ true → is_in_block block t ≡ true
   any_inside t is =
       let x = any_there (λ (n : NumberInUse). subject_eq t (Number n.tn.number)) numbers is in
@@ -56,7 +56,7 @@ module _ (c : Content) (block : ℕ) (numbers : List NumberInUse) (are : AreInBl
       x numbers (contains-among numbers x there)
       (ap (λ k. subject_eq (Number n) (Number k)) is ∙ subject_eq-refl (Number n))
 
-  -- a number of it that is none of them has no version that waits for a minute
+  -- A number of the block that is not among them is settled.
   rest_settled : Represents c st → (t : Subject) → is_in_block block t ≡ true
       → is_any_of numbers t ≡ false → IsSettled c st t
   rest_settled rep (Block b) inside other = cc
@@ -71,8 +71,7 @@ module _ (c : Content) (block : ℕ) (numbers : List NumberInUse) (are : AreInBl
           let x = are.each n (equal_number (block_of n) block inside) stood in
           let never : true ≡ false = sym (listed n x.0 x.1 x.2) ∙ other in cc
 
--- over the contents before the reading of the clock and of the numbers, between them and behind
--- them
+-- The contents before the clock is read, before the numbers are, after both, and at the end.
 module _ (clock : ClockRow) (old mid read new : Content) (block : BlockId)
     (numbers : List NumberInUse) (subjects : List SubjectImpl) (is : old.clock ≡ Some clock)
     (same_mid : mid ≡ old) (same_read : read ≡ mid)
@@ -80,7 +79,7 @@ module _ (clock : ClockRow) (old mid read new : Content) (block : BlockId)
     (are : AreInBlock mid block.number numbers)
     (leaves : (s : Subject) → is_one_of subjects s ≡ false
     → ForStatesAtClock clock read (λ st. SameRows s read new)) where
-  -- what holds of those that are listed and of what was read holds of the old content too
+  -- A property for all listed or all other subjects carries over to the old content.
   of_old : (wanted : Bool) (P : Content → State → Subject → Type 0)
       → ((s : Subject) → is_one_of subjects s ≡ wanted
       → ForStatesAtClock clock read (λ st. P read st s))

@@ -1,4 +1,4 @@
--- How some subjects are settled, one after the other.
+-- Subjects settled one after the other.
 use Rattle.std.proofs.Common.{◌≡◌, Bool, true, false, ◌||◌, List, [], ◌∷◌, Some, refl, ap, sym, ◌∙◌, subst}
 use Rattle.numbers.specs.Subjects.{Subject, subject_eq}
 use Rattle.numbers.specs.Abstraction.{subject_of}
@@ -11,7 +11,7 @@ use Rattle.settle.specs.Settling.{IsSettled, PreservesAtClock, ForStatesAtClock,
 use Rattle.settle.proofs.Settled.{rows_joined, stays_settled}
 use Rattle.numbers.proofs.Small.{impossible}
 
--- the subjects up to these that are left are settled, and nothing else has changed
+-- The subjects before `rest` are settled, and no other subject's rows have changed.
 pub record HasSettled (clock : ClockRow) (subjects rest : List SubjectImpl) (old new : Content)
     (st : State) : Type 0 where
   pub represents : Represents new st
@@ -44,7 +44,7 @@ module _ (clock : ClockRow) (subjects rest : List SubjectImpl) (x : SubjectImpl)
     (kept : PreservesAtClock clock mid new)
     (leaves : (t : Subject) → subject_eq (subject_of x) t ≡ false
     → ForStatesAtClock clock mid (λ st. SameRows t mid new)) where
-  -- the next subject's rows may change, and no other's
+  -- Subjects outside the list keep their rows when the next one is fired.
   pub next_elsewhere : (t : Subject) → is_one_of subjects t ≡ false
       → ForStatesAtClock clock old (λ st. SameRows t old new)
   next_elsewhere t other st rep is =

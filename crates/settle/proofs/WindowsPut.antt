@@ -1,4 +1,4 @@
--- Where everything that was due is settled, a set of windows put is the machine's next state.
+-- When everything due is settled, a new set of windows leads to the machine's next state.
 use Rattle.std.proofs.Common.{◌≡◌, ℕ, ◌+◌, Bool, true, false, Some, None, refl, ap, sym, ◌∙◌, subst}
 use Rattle.std.specs.Prelude.{◌==◌, option_map, is_some, if◌then◌else◌}
 use Rattle.std.specs.FinMap.{get}
@@ -32,7 +32,7 @@ module _ (st : State) (old new : Content) (caller : ℕ) (windows : Windows) (cl
   }
   clock_now = subst (λ o. ClockRowMatches o st) is rep.clock
 
-  -- the clock's row has the next set
+  -- The clock's row has the new set.
   clock_new : new.clock ≡ Some (record {
     minute = st.now;
     next_id = next_id st.windows after.history;
@@ -53,7 +53,7 @@ module _ (st : State) (old new : Content) (caller : ℕ) (windows : Windows) (cl
         present = set_now after;
       } in row)) (sym (windows-next_id st caller windows))
 
-  -- and the sets have it
+  -- The sets of windows include the new one.
   sets_new : (k : ℕ) → get new.sets k ≡ option_map (λ (x : WindowSet). x.windows)
       (set_of_number k st.windows after.history)
   sets_new k =

@@ -1,4 +1,4 @@
--- What the definitions see of the rows of a store.
+-- The models of a store's rows and keys.
 use Rattle.std.specs.Prelude.{ℕ, option_map}
 use Rattle.numbers.specs.Abstraction.{subject_of, routing_of, minute_of}
 use Rattle.numbers.specs.declared.block_id.BlockId.{BlockId}
@@ -15,7 +15,7 @@ use Rattle.settle.specs.declared.rows.ClockRow.{ClockRow as ClockRowImpl}
 use Rattle.settle.specs.declared.rows.BroadcastKey.{BroadcastKey as BroadcastKeyImpl}
 use Rattle.settle.specs.declared.rows.WaitKey.{WaitKey as WaitKeyImpl}
 
--- a version's row, as a store keeps it
+-- The model of a version's row.
 abbrev pub version_row_of : Inside → VersionRow
 version_row_of r = record {
   subject = subject_of r.version.subject;

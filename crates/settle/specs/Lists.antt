@@ -1,4 +1,4 @@
--- The items of a list that is short as a rule.
+-- The items of a `Few`, in order.
 use Rattle.std.specs.Prelude.{List, []}
 use Rattle.settle.specs.declared.few.Few.{Few}
 use Rattle.settle.specs.declared.few.Few.TheVariants as few

@@ -1,4 +1,4 @@
--- What every function over a store owes, whatever else it does.
+-- The contract of every function over a store.
 use Rattle.std.specs.Prelude.{◌≡◌, ◌≢◌, ◌⊎◌, ◌≤◌, ◌+◌, ◌-◌, ◌^◌, min, ℕ, Bool, true, false, is_some, ⊤, Result, Ok, Err}
 use Rattle.model.specs.Content.{Content, Represents}
 use Rattle.model.specs.State.{State}
@@ -8,13 +8,13 @@ use Rattle.model.specs.declared.refusal.Refusal.TheVariants.{Storage as RefusedS
 use Rattle.settle.specs.declared.store.StoreFault.{StoreFault}
 use Rattle.settle.specs.declared.store.StoreFault.TheVariants.{Storage, NoMemory}
 
--- a store gave an answer, and told no fault
+-- Holds if the store returned an answer, not a fault.
 abbrev pub IsAnswer : {A : Type 0} → Result A StoreFault → Type 0
 IsAnswer (Ok a) = ⊤
 IsAnswer (Err fault) = ⊥
 
--- The count of the device's failures rises by one where storage is told, and else it stays. At its
--- greatest value it stays.
+-- Holds if the count of failures rises by one with `Storage`, and otherwise stays. At its greatest
+-- value it stays.
 abbrev pub CountsFailure : {A : Type 0} → Result A StoreFault → (old new : ℕ) → Type 0
 CountsFailure (Ok a) old new = new ≡ old
 CountsFailure (Err NoMemory) old new = new ≡ old
@@ -25,12 +25,12 @@ reports_storage (Ok a) = false
 reports_storage (Err NoMemory) = false
 reports_storage (Err Storage) = true
 
--- the count of faults rose, unless it is at its greatest value
+-- Holds if the count of faults rose, or is at its greatest value.
 abbrev pub MoreFaults : ℕ → ℕ → Type 0
 MoreFaults old new = min (old + 1) (2 ^ 64 - 1) ≤ new
 
--- No fault is forgotten, and over a device that is honest only a fault of it shuts a store: no want
--- of memory does.
+-- Holds if the count of faults does not fall and, over an honest device, only a fault shuts a
+-- store. An allocation failure does not.
 abbrev pub ShutsOnlyOnFault : {S : Type 0} → (IsUsable HasHonestDevice : S → Type 0)
     → (faults : S → ℕ)
     → (old new : S) → Type 0
@@ -38,15 +38,15 @@ ShutsOnlyOnFault IsUsable HasHonestDevice faults old new =
     (faults old ≤ faults new) × (IsUsable old → HasHonestDevice new
     → IsUsable new ⊎ MoreFaults (faults old) (faults new))
 
--- a call gave an answer, if only that it is refused for what stands; the store's faults are none
+-- Holds if the result is `Ok`, or a refusal that is not the store's fault.
 abbrev pub IsAvailable : {A : Type 0} → Result A Refusal → Type 0
 IsAvailable (Ok a) = ⊤
 IsAvailable (Err refusal) = (refusal ≢ RefusedStorage) × (refusal ≢ RefusedMemory)
 
--- A store that is usable afterwards was so before, and one that is honest afterwards was so before.
--- Where it is honest afterwards, an answer
--- leaves a usable store usable. The count of failures does not fall, and storage is said only where
--- it rose.
+-- Holds if a call keeps a store's promises: The store was usable, or honest, before the call if it
+-- is after. An answer leaves a usable store usable if the store is honest after the call. The count
+-- of failures does not fall. If `ReportsOnceSettled` holds, the count rose or was at its greatest
+-- value.
 pub record PreservesStore {S : Type 0} (IsUsable HasHonestDevice : S → Type 0) (failed : S
     → ℕ) (old new : S) (Answers ReportsOnceSettled : Type 0) : Type 0 where
   pub usable : IsUsable new → IsUsable old
@@ -55,7 +55,7 @@ pub record PreservesStore {S : Type 0} (IsUsable HasHonestDevice : S → Type 0)
   pub rises : failed old ≤ failed new
   pub storage : ReportsOnceSettled → HasDeviceFailed (failed old) (failed new)
 
--- a crash may leave nothing but what one could leave before
+-- Holds if, over an honest device, a crash may leave only what it could leave before the call.
 abbrev pub AddsNoCrashState : {S : Type 0} → (HasHonestDevice : S → Type 0)
     → (IsCrashState : S → Content → Type 0)
     → (old new : S) → Type 0
@@ -63,7 +63,7 @@ AddsNoCrashState HasHonestDevice IsCrashState old new = HasHonestDevice new → 
     → IsCrashState new m
     → IsCrashState old m
 
--- what only reads leaves the content, and to a crash no more than before
+-- Holds if the call keeps the content and adds no crash state.
 pub record IsReadOnly {S : Type 0} (IsUsable HasHonestDevice : S → Type 0) (IsCrashState : S
     → Content
     → Type 0) (content : S → Content) (failed : S
@@ -75,8 +75,8 @@ pub record IsReadOnly {S : Type 0} (IsUsable HasHonestDevice : S → Type 0) (Is
   pub storage : ReportsOnceSettled → HasDeviceFailed (failed old) (failed new)
   pub left : AddsNoCrashState HasHonestDevice IsCrashState old new
 
--- What a crash may leave of a store that is honest: what one could leave as the call began, or what
--- the call made.
+-- Holds if, over an honest device, a crash may leave only what it could leave before the call, or a
+-- content with `Made`.
 abbrev pub AddsOnlyCrashStates : {S : Type 0} → (HasHonestDevice : S → Type 0)
     → (IsCrashState : S → Content → Type 0)
     → (old new : S) → (Made : Content → Type 0) → Type 0
@@ -84,7 +84,8 @@ AddsOnlyCrashStates HasHonestDevice IsCrashState old new Made = HasHonestDevice 
     → IsCrashState new m
     → IsCrashState old m ⊎ Made m
 
--- a usable store says storage, of a content that represents a state and has the clock's row
+-- Holds if a usable store reports `Storage`, and the content before the call represents a state and
+-- has a clock's row.
 pub record ReportsStorage (Usable : Type 0) (before : Content) (Says : Type 0) : Type 0 where
   pub usable : Usable
   pub st : State

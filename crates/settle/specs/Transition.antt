@@ -1,4 +1,4 @@
--- The rows of a version that a command stepped.
+-- The changes of a command on a version.
 use Rattle.std.specs.Prelude.{ℕ, List, Option, Some, None}
 use Rattle.numbers.specs.Subjects.{Subject}
 use Rattle.model.specs.Statuses.{Send}
@@ -7,7 +7,7 @@ use Rattle.model.specs.Changes.{routing_sent}
 use Rattle.settle.specs.Changes.{Changes}
 use Rattle.settle.specs.Sending.{send_changes, version_changes}
 
--- with those of the broadcast that begins, if one does
+-- The rows of the version and, if it sends, of the broadcast that begins.
 abbrev pub transition_changes : (id : ℕ) → (minute : ℕ) → Option Send → Subject → Version
     → (all_carriers : List ℕ) → Changes
 transition_changes id minute None s v all_carriers = version_changes id s v None

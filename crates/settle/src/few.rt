@@ -1,11 +1,11 @@
-//! Lists that are short as a rule.
+//! Lists that are usually short.
 ghost use Rattle.std.specs.Prelude.{◌≡◌, ◌++◌, ◌∷◌, [], OnOk, OnErr};
 ghost use Rattle.std.specs.Option.{option_to_list};
 ghost use Rattle.settle.specs.Lists.{items_of};
 
 use std::alloc::{AllocError, Global};
 
-/// A list that takes no memory of its own while it has at most two items.
+/// A list that allocates nothing while it has at most two items.
 #[derive(Debug, Drop)]
 pub enum Few<T> {
     Empty,
@@ -15,7 +15,7 @@ pub enum Few<T> {
 }
 
 impl<T> Few<T> {
-    /// Those of the two that are there, the first of them first.
+    /// Creates a list of those of `first` and `second` that are `Some`, in this order.
     pub fn of(first: Option<T>, second: Option<T>) -> Few<T>
         ensures { items_of result ≡ option_to_list first ++ option_to_list second }
     {
@@ -31,7 +31,7 @@ impl<T> Few<T> {
         }
     }
 
-    /// The items in their order.
+    /// Returns the items in order.
     pub fn as_slice(&self) -> &[T]
         ensures { result.now ≡ items_of self.now }
     {
@@ -45,8 +45,11 @@ impl<T> Few<T> {
 }
 
 impl<T: Copy + Drop> Few<T> {
-    /// Puts an item behind the others. For want of memory, which a third item is the first to ask
-    /// for, they stay as they are.
+    /// Appends `item`. The first two items need no allocation.
+    ///
+    /// # Errors
+    ///
+    /// `AllocError` if an allocation fails; the items then stay as they are.
     pub fn push(&mut self, alloc: Global, item: T) -> Result<(), AllocError>
         ensures ok { OnOk result (items_of self.new ≡ items_of self.old ++ item ∷ []) }
         ensures err { OnErr result (items_of self.new ≡ items_of self.old) }

@@ -1,4 +1,4 @@
-//! A version that a command stepped, brought to the rows.
+//! Stages the rows of a version after a command.
 ghost use Rattle.std.specs.Prelude.{◌≡◌, Err, None, OnOk};
 ghost use Rattle.std.specs.FinMap.{keys};
 ghost use Rattle.numbers.specs.Abstraction.{subject_of};
@@ -17,7 +17,7 @@ use crate::store::{Store, StoreFault};
 use version::{Transition, Version};
 use windows::Windows;
 
-// Puts the version's row alone.
+// Stages the version's row only.
 fn put_alone(changes: &mut Changes, id: u64, version: &Version, windows: &Windows)
     requires { changes_model changes.old ≡ no_changes }
     ensures { changes_model changes.new
@@ -27,8 +27,12 @@ fn put_alone(changes: &mut Changes, id: u64, version: &Version, windows: &Window
     changes.versions = Few::One([(id, VersionRow::of(version, windows))]);
 }
 
-/// Puts the rows of a step of a version: its own, and where it sends those of its broadcast, to
-/// every carrier.
+/// Stages the rows of a transition: the version's own row and, if it sends, its broadcast and one
+/// pending download for each carrier.
+///
+/// # Errors
+///
+/// `Storage` if the device fails, `NoMemory` if an allocation fails.
 pub fn stage_transition<S: Store>(
     store: &mut S,
     changes: &mut Changes,

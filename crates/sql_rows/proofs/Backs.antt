@@ -180,7 +180,7 @@ reads_back id v low few least most fits =
       found_back id v.version.subject v.is_open,
     ) refl
 
--- ---- the rows of the other tables
+-- ---- rows of the other tables
 
 pub carrier_back : (id : Value) (c : Spid) → carrier_entry (id ∷ carrier_params c.number)
     ≡ Some (c.number, tt)

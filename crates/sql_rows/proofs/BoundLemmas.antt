@@ -1,4 +1,4 @@
--- What is bound is what was given.
+-- Bound parameters are the values given.
 use Rattle.std.proofs.Common.{◌≡◌, ℕ, List, [], ◌∷◌, map, Bool, true, false, Option, Some, None, refl, ap, ◌∙◌}
 use Rattle.sqlite_value.specs.declared.value.ValueRef.{ValueRef}
 use Rattle.sqlite.specs.Value.{owned}
@@ -67,7 +67,7 @@ sides (DisconnectPending release) = refl
 sides Old = refl
 sides Canceled = refl
 
--- what each table's statements take is bound as it is
+-- The parameters of each table's statements are bound unchanged.
 pub bound_as : (rs : List ValueRef) (row : Row) → map owned rs ≡ row → map bound_value row ≡ row
     → bound rs ≡ row
 bound_as rs row is same = bound_map rs ∙ ap (map bound_value) is ∙ same

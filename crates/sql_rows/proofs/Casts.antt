@@ -1,4 +1,4 @@
--- A row is stored as its parameters are.
+-- A row is stored as its parameters.
 use Rattle.std.proofs.Common.{◌≡◌, ℕ, ℤ, pos, [], ◌∷◌, Bool, true, false, cond, Option, Some, None, refl}
 use Rattle.sqlite.specs.declared.types.Value.{Value}
 use Rattle.sqlite.specs.declared.types.Value.TheVariants.{Null, Int}
@@ -84,7 +84,7 @@ cast_by Old = refl
 cast_by Canceled = refl
 
 module _ (db : Trees) where
-  -- the rowid that the next row of a table with no number takes
+  -- The rowid of the next row of a table without a number.
   abbrev pub next_in : ℕ → Value
   next_in tree = Int (next_rowid (db tree))
 

@@ -1,4 +1,4 @@
--- To take the rowids of the rows that pass a test out of a table is to keep the rows that fail it.
+-- Deleting the rowids of the rows that pass a test leaves the rows that fail it.
 use Rattle.std.proofs.Common.{◌≡◌, ℤ, List, [], ◌∷◌, filter, map, Bool, true, false, not, cond, ◌||◌, refl, sym, ap, subst, ◌∙◌, true≢false, IsTrue, inl, inr, Less, Equal, Greater}
 use Rattle.std.specs.List.{list_any, AllByRecursion}
 use Rattle.std.specs.List.Sorted.{IsPermutation}
@@ -58,7 +58,7 @@ int_at [] r ints at = absurd at
 int_at (x ∷ rows) r ints (inl same) = ap (λ y. is_int (rowid y)) same ∙ search ints.0
 int_at (x ∷ rows) r ints (inr at) = int_at rows r ints.1 at
 
--- the row in question has the rowid of this one
+-- Whether the row has the rowid of the other.
 abbrev meets : Row → Row → Bool
 meets r x = has_rowid (id_in (rowid x)) r
 
@@ -119,7 +119,7 @@ module _ (p : Row → Bool) where
         by_cases true e = hit r rows at e (int_at rows r ints at)
         by_cases false e = missed r rows e (λ x there passes. apart e x there passes _ refl)
 
-    -- what a DELETE leaves, whichever order its query found the rowids in
+    -- A DELETE leaves the rows that fail the test, in whichever order its query found the rowids.
     pub deleted : (found : List Row) → IsPermutation (map (λ r. column r 0 ∷ []) (filter p rows))
         found → without_all rows (ids_of found) ≡ filter (λ r. not (p r)) rows
     deleted found same =

@@ -1,4 +1,4 @@
--- What the query of the least deadline says.
+-- The query for the least deadline.
 use Rattle.std.proofs.Common.{◌≡◌, inl, inr, ℕ, pos, negsuc, List, [], ◌∷◌, map, filter, Bool, true, false, Option, Some, None, refl, sym, ap, subst, ◌∙◌, arith, true≢false, nat_lt, ◌<◌, ◌≤◌, slice_index_or, ◌+◌, take, Less, Equal, Greater}
 use Rattle.std.specs.Prelude.{option_map}
 use Rattle.std.specs.Ordering.{nat_cmp, is_lt, is_le, is_ge, int_cmp}
@@ -75,7 +75,7 @@ pub above_numbers : (m n : ℕ) → is_true (binary (Compare Ge Binary) (Int (po
 unfolding binary
 above_numbers m n = true_of _ ∙ ap is_ge (value_cmp-Int (pos m) (pos n)) ∙ above_ints m n
 
--- what says that a row is not found is no number
+-- The value of a row that is not found is below every number.
 pub never_above : (m n : ℕ) → is_true (binary (Compare Ge Binary) (Int (negsuc m)) (Int (pos n)))
     ≡ false
 unfolding binary
@@ -87,7 +87,7 @@ ge_told m n h = grind (arith, nat_tests)
 above_zero : (m : ℕ) → is_true (binary (Compare Ge Binary) (Int (pos m)) (Int (pos 0))) ≡ true
 above_zero m = above_numbers m 0 ∙ ge_told m 0 (omega arith)
 
--- the two tests of a deadline
+-- The two tests of a deadline.
 abbrev tests : ℕ → Value → List Bool
 tests n v =
     is_true (binary (Compare Ge Binary) v (Int (pos 0))) ∷ is_true
@@ -115,7 +115,7 @@ not_less : (m n : ℕ) → is_lt (value_cmp (Int (pos n)) (Int (pos m))) ≡ fal
 not_less m n h = let e : is_lt (int_cmp (pos n) (pos m)) ≡ false =
     ap is_lt (sym (value_cmp-Int (pos n) (pos m))) ∙ h in grind (arith, ints, nat_tests, e)
 
--- of two outputs, the order is that of the deadlines
+-- The order of two outputs is that of their deadlines.
 by_deadline : (a b : Output)
     → is_lt (output_cmp due_query a b) ≡ is_lt (value_cmp (column a.0 0) (column b.0 0))
 by_deadline a b = ap is_lt (then-Equal (value_cmp (column a.0 0) (column b.0 0)))
@@ -126,7 +126,7 @@ out r = (column r 18 ∷ [], shown_of r)
 lt_no : (n m : ℕ) → nat_lt n m ≡ false → m ≤ n
 lt_no n m h = grind arith
 
--- the output of a row of the table that is due
+-- Holds if the output is that of a row of the table that is due.
 abbrev IsOutput : Trees → ℕ → Output → Type 0
 IsOutput db n o = (r : Row) × Has (db 18) r × (is_due n r ≡ true) × (o ≡ out r)
 
@@ -140,13 +140,13 @@ has_output [] r at = at
 has_output (x ∷ xs) r (inl same) = inl (ap out same)
 has_output (x ∷ xs) r (inr at) = inr (has_output xs r at)
 
--- what stands in one list stands in its permutation
+-- A member of a list is a member of its permutation.
 pub has_permuted : {X : Type 0} (xs ys : List X) (x : X) → IsPermutation xs ys → Has xs x → Has ys x
 has_permuted xs ys x p at =
     all_has (λ y. Has ys y) xs x (all-permutation (λ y. Has ys y) ys xs (IsPermutation-sym xs ys p)
     (all_from (λ y. Has ys y) ys (λ y h. h))) at
 
--- the first of a sorted list is not above any
+-- The first member of a sorted list is not above any other.
 pub first_least : (lt : Output → Output → Bool) (o : IsStrictWeakOrder lt) (x : Output)
     (xs : List Output) → IsSortedBy lt (x ∷ xs) → (y : Output) → Has (x ∷ xs) y → lt y x ≡ false
 first_least lt o x xs up y at =
@@ -177,7 +177,7 @@ module _ {K : Type 0} {R : K → K → Ordering} (o : IsTotalOrder R) where
 weak : IsStrictWeakOrder (λ (a b : Output). is_lt (value_cmp (column a.0 0) (column b.0 0)))
 weak = ranks_by value_cmp_total (λ (o : Output). column o.0 0)
 
--- the query found none due, or the first of those due
+-- The answer of the query: no row if none is due, or the first of those due.
 pub data Found (db : Trees) (n : ℕ) (rows : List Row) : Type 0 where
   nothing : rows ≡ [] → filter (is_due n) (db 18) ≡ [] → Found db n rows
   first : (r : Row) → Has (db 18) r → is_due n r ≡ true → rows ≡ shown_of r ∷ []

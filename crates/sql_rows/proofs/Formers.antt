@@ -1,4 +1,4 @@
--- What stands in a file of an earlier form, as it is put into the tables of this one.
+-- The content of a file with an earlier schema, as it is put into the current tables.
 use Rattle.std.proofs.Common.{◌≡◌, ℕ, pos, map, List, [], ◌∷◌, Bool, true, false, cond, Option, Some, None, refl, sym, ap, subst, ◌∙◌}
 use Rattle.std.specs.Prelude.{option_map}
 use Rattle.std.specs.Cmp.{nat_cmp_total, tied_itself}
@@ -48,13 +48,13 @@ use Rattle.numbers.proofs.Small.{some_is}
 
 -- ---- a row that reads is bare
 
--- what is sent, if anything is
+-- What a status sends, if it sends something.
 abbrev sent_by : Status → Option Send
 sent_by (Sending send) = Some send
 sent_by s = None
 
 module _ (own put : Routing) where
-  -- the words of a status: only one of them says that something is sent
+  -- Of the words of a status, only one says that something is sent.
   sent_own : (a b c d e f g h i j : Bool) (by : Option Side) (sends : Option Send)
       (release : Option ℕ) → (sends ≡ Some (Modify put) → own ≡ put) →
       cond a (Some Pending)
@@ -124,13 +124,13 @@ bare_read held r e h =
     (bare_own e.1.routing (column r 9) (column r 10) (column r 13) (column r 16) e.1.status
     (reads_with held r e h).status)
 
--- ---- the versions
+-- ---- versions
 
 abbrev pub old_seen : OldVersion → ℕ × VersionRow
 old_seen v = (v.version.id, v.version.row)
 
 module _ (db : Trees) (shaped : IsShaped AsTable (db 5)) where
-  -- rows of one id are one row
+  -- Rows with the same id are the same row.
   once : (r s : Row) (k : ℕ) (a b : VersionRow) → Has (db 5) r → Has (db 5) s
       → old_version_entry r ≡ Some (k, a) → old_version_entry s ≡ Some (k, b) → s ≡ r
   once r s k a b at there is also =
@@ -149,13 +149,13 @@ module _ (db : Trees) (shaped : IsShaped AsTable (db 5)) where
       (plain_answer 5 (query_test (All VersionTable)) (shown_by VersionTable) (overlay db []) [] h.0
       h.1) h.2)
 
--- each is bare
+-- Each version is bare.
 pub old_bare : (db : Trees) (k : ℕ) (v : VersionRow) → get (old_versions_in (db 5)) k ≡ Some v
     → bare v ≡ v
 old_bare db k v e = let f = entry_from nat_cmp nat_cmp_total old_version_in old_shown_of same_number
     (db 5) k v e in bare_read (Some 1) (old_shown_of f.row) (k, v) f.reads
 
--- the version with an id
+-- The version with an id.
 module _ (db : Trees) where
   old_tests : (n : ℕ)
       → Tests nat_cmp old_version_entry n (passes (query_test OldVersionNumbered)
@@ -176,7 +176,7 @@ module _ (db : Trees) where
 abbrev pub clock_seen : OldClock → ℕ × ClockRow
 clock_seen c = (c.number, old_clock_of c)
 
--- it has the number 0
+-- The clock's row has the number 0.
 old_clock_key : (r : Row) (e : ℕ × ClockRow) → old_clock_entry r ≡ Some e → e.0 ≡ 0
 old_clock_key r e h =
     let a = bind_some _ (only_in (column r 0)) e h in
@@ -202,7 +202,7 @@ old_clock_is db o rows answer sole =
     (plain_answer 12 (query_test (All ClockTable)) (shown_by ClockTable) (overlay db []) [] rows
     answer) sole
 
--- ---- a table emptied keeps the shapes
+-- ---- emptying a table keeps the shapes
 
 pub old_rows : (t : OldTable) (db next : Trees) → next (tree_of (table_of_old t)) ≡ []
     → IsFrame (table_of_old t) db next → AreShaped db → AreShaped next

@@ -1,4 +1,4 @@
--- What each query by a key says of the content.
+-- The content found by each query by a key.
 use Rattle.std.proofs.Common.{◌≡◌, ℕ, pos, [], ◌∷◌, Bool, true, false, Option, Some, None, refl, sym, ap, subst, ◌∙◌, true≢false, nat_lt, ◌&&◌}
 use Rattle.std.specs.Prelude.{option_map}
 use Rattle.std.specs.Ordering.{nat_cmp}
@@ -40,7 +40,7 @@ use Rattle.sql_rows.proofs.Inversions.{reads, number_read, number_small, subject
 use Rattle.sql_rows.proofs.Backs.{subject_back}
 use Rattle.numbers.proofs.Small.{true_both}
 
--- the value of an entry
+-- The value of an entry.
 abbrev pub value_of : {K V : Type 0} → Option (K × V) → Option V
 value_of {K} {V} o = option_map (λ (e : K × V). e.1) o
 
@@ -95,7 +95,7 @@ module _ (db : Trees) where
       (db 18) h.0 o (plain_answer 18 (query_test VersionNumbered) (shown_by Version) (overlay db [])
       (Int (pos id) ∷ []) h.0 h.1) h.2
 
-  -- it has that id
+  -- The version found has that id.
   pub version_own : (id : ℕ) (e : ℕ × VersionRow)
       → IsSoleAnswer VersionNumbered version_in db (Int (pos id) ∷ []) (Some e) → e.0 ≡ id
   version_own id e h =
@@ -160,10 +160,10 @@ module _ (db : Trees) where
           (sym (true_both _ _ (number_small (column f.row 1) k.id r.id)
           (number_small (column f.row 2) k.attempt r.attempt)) ∙ great))
 
-  -- ---- a version by the column of its subject
+  -- ---- versions by subject column
 
   module _ (shaped : AreShaped db) where
-    -- rows of one id are one row
+    -- Rows with the same id are the same row.
     pub versions_once : (r s : Row) (k : ℕ) (a b : VersionRow) → Has (db 18) r → Has (db 18) s
         → version_entry r ≡ Some (k, a) → version_entry s ≡ Some (k, b) → s ≡ r
     versions_once r s k a b at there is also =
@@ -172,20 +172,20 @@ module _ (db : Trees) where
         tied_same (db 18) s r (shaped Version).0 there at (ap (value_cmp (rowid s)) (one ∙ sym two)
         ∙ tied_itself value_cmp_total (rowid s))
 
-    -- a row that reads stands in the map
+    -- A row that reads is an entry of the map.
     pub version_stands : (r : Row) (id : ℕ) (v : VersionRow) → Has (db 18) r
         → version_entry r ≡ Some (id, v) → get (bare_in db).versions id ≡ Some v
     version_stands r id v at is =
         entry_of nat_cmp nat_cmp_total version_in shown_of same_number (db 18) versions_once r id v
         at is
 
-  -- a row that reads is there for each version
+  -- Each version has a row that reads as it.
   pub version_row_of : (id : ℕ) (v : VersionRow) → get (bare_in db).versions id ≡ Some v
       → From nat_cmp nat_cmp_total version_in shown_of id (db 18) v
   version_row_of id v e = entry_from nat_cmp nat_cmp_total version_in shown_of same_number (db 18)
       id v e
 
--- a column by which a subject's row is found passes the test of that subject alone
+-- A subject column that finds its row passes the test of that subject only.
 found_passes : (place id : ℕ) (r : Row) (t : Subject) (b : Bool) (s : SubjectImpl)
     → found_in id t (column r place) ≡ Some b → subject_in (column r 2) ≡ Some t
     → subject_if b t ≡ Some (subject_of s)

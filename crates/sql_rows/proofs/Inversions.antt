@@ -1,4 +1,4 @@
--- What the columns of a row that reads hold.
+-- The columns of a row that reads.
 use Rattle.std.proofs.Common.{◌≡◌, ℕ, ℤ, pos, negsuc, Option, Some, None, Bool, true, false, cond, nat_lt, refl, sym, ap, subst, ◌∙◌, true≢false}
 use Rattle.std.specs.Prelude.{option_and_then, option_map}
 use Rattle.std.specs.Cmp.{signed_Decides}
@@ -28,7 +28,7 @@ pub map_some : {A B : Type 0} (f : A → B) (o : Option A) (b : B) → option_ma
 map_some f None b h = absurd cc
 map_some f (Some a) b h = (a, refl, cc)
 
--- the columns that statements test
+-- The columns that statements test.
 pub record Reads (r : Row) (e : ℕ × VersionRow) : Type 0 where
   pub id : number_in (column r 0) ≡ Some e.0
   pub deadline : or_null_in minute_in (column r 17) ≡ Some e.1.deadline
@@ -105,7 +105,7 @@ number_small (Real x) n h = absurd cc
 number_small (Text t) n h = absurd cc
 number_small (Blob b) n h = absurd cc
 
--- what passed a test is what was tested
+-- A value that passes a test is the value tested.
 some_kept : {m n : ℕ} (b : Bool) → cond b (Some m) None ≡ Some n → m ≡ n
 some_kept true h = cc
 some_kept false h = absurd cc
@@ -164,7 +164,7 @@ is_int_read n (Real x) h = absurd (true≢false (sym h))
 is_int_read n (Text t) h = absurd (true≢false (sym h))
 is_int_read n (Blob b) h = absurd (true≢false (sym h))
 
--- a column by which the subject's row is found holds the subject's number
+-- A subject column that finds its row holds the subject's number.
 pub found_read : (id : ℕ) (s : Subject) (v : Value) → found_in id s v ≡ Some true
     → v ≡ Int (pos (subject_number s))
 found_read id s v h = by_cases (is_int (negsuc id) v) (is_int (pos (subject_number s)) v) refl h
@@ -176,7 +176,7 @@ found_read id s v h = by_cases (is_int (negsuc id) v) (is_int (pos (subject_numb
     by_cases false true e h = is_int_read (pos (subject_number s)) v e
     by_cases false false e h = absurd cc
 
--- or what says that it is not
+-- A subject column that does not find its row holds -1 - id.
 pub unfound_read : (id : ℕ) (s : Subject) (v : Value) → found_in id s v ≡ Some false
     → v ≡ Int (negsuc id)
 unfound_read id s v h = by_cases (is_int (negsuc id) v) (is_int (pos (subject_number s)) v) refl h
@@ -188,14 +188,14 @@ unfound_read id s v h = by_cases (is_int (negsuc id) v) (is_int (pos (subject_nu
     by_cases false true e h = absurd (let f : true ≡ false = cc in true≢false f)
     by_cases false false e h = absurd cc
 
--- ---- the keys of the other tables
+-- ---- keys of the other tables
 
 pub carrier_key : (r : Row) (e : ℕ × Unit {0}) → carrier_entry r ≡ Some e
     → spid_in (column r 1) ≡ Some e.0
 carrier_key r e h = let a = map_some _ (spid_in (column r 1)) e h in
     a.1 ∙ ap (λ (x : ℕ × Unit {0}). Some x.0) a.2
 
--- a number that has to pass a test to be a key is the one that stands there
+-- A number that passes the test of a key is the one in the column.
 tested_read : (test : ℕ → Option ℕ) → ((m n : ℕ) → test m ≡ Some n → m ≡ n) → (v : Value) (n : ℕ)
     → option_and_then test (number_in v) ≡ Some n → number_in v ≡ Some n
 tested_read test same v n h = let a = bind_some test (number_in v) n h in

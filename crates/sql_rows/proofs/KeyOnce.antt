@@ -1,4 +1,4 @@
--- Rows that read as one key are one row.
+-- Rows that read with the same key are the same row.
 use Rattle.std.proofs.Common.{◌≡◌, ℕ, pos, List, [], ◌∷◌, true, false, refl, sym, ap, ◌∙◌}
 use Rattle.std.specs.List.{AllByRecursion}
 use Rattle.std.specs.Cmp.{tied_itself}
@@ -27,7 +27,7 @@ equal_itself : (how : Collation) (v : Value) → is_null v ≡ false → equal h
 unfolding binary
 equal_itself how v p = rw (p, tied_itself (collated_total how) v)
 
--- columns that are the same, and no NULL, agree
+-- Columns that are equal and not NULL agree.
 agree_from : (o : Order) (ps : List ℕ) (s r : Row) → AllByRecursion (λ p. (column s p ≡ column r p)
     × (is_null (column r p) ≡ false)) ps → agree o ps s ps r ≡ true
 agree_from o [] s r all = refl
@@ -79,7 +79,7 @@ carriers_once db obeys shaped = λ r s k a b at there is also.
     carrier_once db obeys shaped r s at there
     (agree_from plain (1 ∷ []) s r ((two ∙ sym one, ap is_null one), tt))
 
--- in a database that obeys its rules no key stands twice
+-- A database that obeys its rules has unique keys.
 pub keys_once : (db : Trees) → Obeys the_schema db → AreShaped db → HasUniqueKeys db
 keys_once db obeys shaped = record {
   carriers = carriers_once db obeys (shaped Carrier);

@@ -1,4 +1,4 @@
--- The tests of the statements are the comparisons of keys.
+-- The tests of the statements are comparisons of keys.
 use Rattle.std.proofs.Common.{◌≡◌, ℕ, pos, negsuc, List, [], ◌∷◌, Bool, true, false, Option, Some, refl, sym, ap, ◌∙◌, arith, true≢false, Less, Equal, Greater}
 use Rattle.std.specs.Prelude.{◌&&◌}
 use Rattle.std.specs.declared.cmp.Ordering.{Ordering}
@@ -54,7 +54,7 @@ texts s t = true_of _
 same_text : (s t : List ℕ) → is_eq (value_cmp (Text s) (Text t)) ≡ true → s ≡ t
 same_text s t h = exact_bytes s t (sym (value_cmp-Text s t) ∙ tied (value_cmp (Text s) (Text t)) h)
 
--- texts of providers are tested as their numbers
+-- Texts of providers compare equal as their numbers do.
 pub equal_spids : (m : ℕ) (s : Spid) → spid_in (spid_value m) ≡ Some m
     → equals (spid_value m) (spid_value s.number) ≡ is_eq (nat_cmp m s.number)
 equal_spids m s valid =
@@ -76,7 +76,7 @@ equal_spids m s valid =
 
 -- ---- the key of each table
 
--- all of these hold
+-- Whether all of these are true.
 abbrev pub both : List Bool → Bool
 both = list_all (λ (b : Bool). b)
 
@@ -93,7 +93,7 @@ four_of true true c d = two_of c d
 four_of true false c d = refl
 four_of false b c d = refl
 
--- a column of the row is tested
+-- The test of a column compares its value with the parameter.
 pub column_passes : (place : ℕ) (w v : Value) (r : Row) → column r place ≡ v
     → passes (column_is place 0 ∷ []) (w ∷ []) r ≡ equals v w
 column_passes place w v r is = ap (λ v. both (equals v w ∷ [])) is ∙ one_of (equals v w)

@@ -1,4 +1,4 @@
--- What the items of a query's answer say of the rows of its table.
+-- The items of a query's answer, and the rows of its table.
 use Rattle.std.proofs.Common.{◌≡◌, List, [], ◌∷◌, map, filter, Bool, true, Option, Some, inl, inr, refl, sym, ap, ◌∙◌}
 use Rattle.std.specs.List.Sorted.{IsPermutation}
 use Rattle.std.proofs.lemmas.List.Sorted.{IsPermutation-sym}
@@ -10,7 +10,7 @@ use Rattle.sql_rows.proofs.DueLemmas.{has_permuted}
 use Rattle.sql_rows.proofs.RowLemmas.{same_first, same_rest}
 use Rattle.numbers.proofs.Small.{some_is}
 
--- the items are the rows of the table that pass the test, as they read
+-- Holds if the items are the rows of the table that pass the test, as they read.
 pub record Lists {T X : Type 0} (seen : T → X) (entry : Row → Option X) (p : Row
     → Bool) (rows : List Row) (items : List T) : Type 0 where
   pub only : (x : T) → Has items x → (r : Row) × Has rows r × (p r ≡ true)
@@ -30,7 +30,7 @@ from_mapped f (x ∷ xs) y (inl same) = (x, inl refl, same)
 from_mapped f (x ∷ xs) y (inr at) = let more = from_mapped f xs y at in (more.0, inr more.1, more.2)
 
 module _ {T X : Type 0} (seen : T → X) (read : Row → Option X) where
-  -- a row from which an item was read
+  -- Each item was read from a row.
   pub read_from : (rows : List Row) (items : List T) → AreRead read rows (map seen items) → (x : T)
       → Has items x → (f : Row) × Has rows f × (read f ≡ Some (seen x))
   read_from [] [] e x at = absurd at
@@ -41,7 +41,7 @@ module _ {T X : Type 0} (seen : T → X) (read : Row → Option X) where
   read_from (f ∷ fs) (y ∷ ys) e x (inr at) = let more = read_from fs ys (same_rest e) x at in
       (more.0, inr more.1, more.2)
 
-  -- the item that was read from a row
+  -- Each row that reads has its item.
   pub read_as : (rows : List Row) (items : List T) → AreRead read rows (map seen items)
       → (f : Row) (e : X) → Has rows f → read f ≡ Some e → (x : T) × Has items x × (seen x ≡ e)
   read_as [] items are f e at is = absurd at

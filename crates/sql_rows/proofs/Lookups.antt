@@ -1,4 +1,4 @@
--- What the rows that pass a test say of the map that a table is read as.
+-- The rows that pass a test, and the map that their table reads as.
 use Rattle.std.proofs.Common.{◌≡◌, List, [], ◌∷◌, map, filter, Bool, true, false, cond, Option, Some, None, refl, sym, ap, subst, ◌∙◌, length, arith, inl, inr}
 use Rattle.std.specs.Prelude.{option_map}
 use Rattle.std.specs.declared.cmp.Ordering.{Ordering}
@@ -25,7 +25,7 @@ one_back row [] p = absurd (let e = length_permutation _ _ p in omega arith)
 one_back row (x ∷ []) p = sym (one_permutation x (row ∷ []) p)
 one_back row (x ∷ y ∷ xs) p = absurd (let e = length_permutation _ _ p in omega arith)
 
--- none passes
+-- If the answer is empty, no row passes.
 pub none_picked : (shown : Row → Row) (p : Row → Bool) (rows : List Row)
     → IsPermutation (map shown (filter p rows)) [] → filter p rows ≡ []
 none_picked shown p rows h = nil_of shown _ (sym (length_permutation _ _ h))
@@ -44,7 +44,7 @@ none_passes p (x ∷ rows) r none (inr at) is =
     by_cases true e more = absurd cc
     by_cases false e more = more e
 
--- one row that the query found, as it stands in the table
+-- The only row that the query found, in its table.
 pub record Only (shown : Row → Row) (p : Row → Bool) (rows : List Row) (found : Row) : Type 0 where
   pub row : Row
   pub has : Has rows row
@@ -70,7 +70,7 @@ module _ {K V : Type 0} (R : K → K → Ordering) (o : IsTotalOrder R) (read : 
   abbrev entry : Row → Option (K × V)
   entry r = read (shown r)
 
-  -- the row with a key, or none has it
+  -- The answer is the value at the key, or nothing if no row has the key.
   pub looked_up : (k : K) (p : Row → Bool) → Tests R entry k p
       → (rows found : List Row) (x : Option (K × V))
       → IsPermutation (map shown (filter p rows)) found → IsSole read found x
@@ -121,7 +121,7 @@ module _ {K V : Type 0} (R : K → K → Ordering) (o : IsTotalOrder R) (read : 
         by_cases None is h more = later (more h)
         by_cases (Some f) is h more = here f _ is refl h more
 
-    -- an entry stands in a row
+    -- Each entry has a row.
     pub entry_from : (rows : List Row) (k : K) (w : V) → get (content_of R entry rows) k ≡ Some w
         → From k rows w
     entry_from rows k w h =
@@ -150,7 +150,7 @@ module _ {K V : Type 0} (R : K → K → Ordering) (o : IsTotalOrder R) (read : 
     same_second k v w h = let pairs : ◌≡◌ {A = K × V} (k, v) (k, w) = cc in
         ap (λ (p : K × V). p.1) pairs
 
-    -- where rows that read as one key are one row, each row stands in the map
+    -- If rows with the same key are the same row, each row that reads is an entry.
     pub entry_of : (rows : List Row) → ((r s : Row) (k : K) (a b : V) → Has rows r → Has rows s
         → entry r ≡ Some (k, a) → entry s ≡ Some (k, b) → s ≡ r)
         → (r : Row) (k : K) (v : V) → Has rows r → entry r ≡ Some (k, v)

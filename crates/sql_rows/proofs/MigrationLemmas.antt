@@ -1,4 +1,4 @@
--- What the statements make of a file of an earlier form.
+-- The effects of the statements on a file with an earlier schema.
 use Rattle.std.proofs.Common.{◌≡◌, ◌⊎◌, inl, inr, ℕ, [], false, None, Ok, Err, Result, refl, sym, ap, subst, ◌∙◌}
 use Rattle.sqlite.specs.Change.{KeepsRows, created, indexed, next_tree}
 use Rattle.sqlite.specs.Command.TheVariants.{CreateIndex, CreateTable}
@@ -26,7 +26,7 @@ use Rattle.sql_rows.specs.declared.statement.Table.TheVariants as stored
 
 -- ---- texts
 
--- a table as its text alone defines it
+-- A table as defined by its text only.
 abbrev parsed : NewTable → Table
 parsed t = record (made_table t) { tree = 0 }
 
@@ -102,7 +102,7 @@ unfolding understood everything
 clear_plain former.Version = (refl, refl)
 clear_plain former.Clock = (refl, refl)
 
--- ---- what stands in a file of an earlier form is read as it is
+-- ---- the content of a file with an earlier schema reads unchanged
 
 pub old_query_is : (f : SchemaVersion) (t : RowTable) → IsTableOf t f
     → command_of (understood (schema_of f) (all_text t)) ≡ query_command (All t)
@@ -181,7 +181,7 @@ old_query_unlisted f stored.Clock is = absurd is
 
 -- ---- statements
 
--- a part that gave a value did not stop on the way
+-- A part that returned a value did not stop on the way.
 pub went : {B E R : Type 0} {b : B} {Stops : E → Type 0}
     → ((stop : E) × Stops stop × (Ok b ≡ Err stop))
     ⊎ R → R
@@ -217,7 +217,7 @@ module _ (old new : State) (count : ℕ) where
             it.others);
       }
 
-  -- the index is there, and all tables have the rows that they had
+  -- After the index is created, the schema is the current one and all tables keep their rows.
   pub indexes : old.now.schema ≡ schema_after made.Clock → Executes index_text [] old new (Ok count)
       → (new.now.schema ≡ the_schema) × KeepsRows the_schema.tables old.now.trees new.now.trees
   indexes has h =

@@ -1,4 +1,4 @@
--- No two rows have one key, by the rules of the database.
+-- No two rows have the same key, by the constraints of the database.
 use Rattle.std.proofs.Common.{◌≡◌, ◌&&◌, ◌||◌, not, ℕ, List, [], ◌∷◌, Bool, true, false, refl, sym, ap, ◌∙◌, true≢false, inl, inr, Some, Less, Equal, Greater}
 use Rattle.std.specs.List.{list_any}
 use Rattle.std.specs.Ordering.{is_ne}
@@ -28,7 +28,7 @@ tied_of Less h = absurd (true≢false h)
 tied_of Equal h = refl
 tied_of Greater h = absurd (true≢false h)
 
--- rowids that do not differ tie
+-- Rowids that do not differ are tied.
 no_differ : (a b : Value) → is_int a ≡ true → is_int b ≡ true → differ a b ≡ false
     → value_cmp a b ≡ Equal
 unfolding binary
@@ -56,7 +56,7 @@ not_then : (b : Bool) → (not b && true) ≡ true → b ≡ false
 not_then true h = absurd (true≢false (sym h))
 not_then false h = refl
 
--- rows that do not clash and have one key are one row
+-- Rows with the same key that do not clash are the same row.
 one_row : (rows : List Row) (places : List ℕ) → IsShaped Table rows → (r s : Row) → Has rows r
     → Has rows s → clashes plain places rows r ≡ false → agree plain places s places r ≡ true
     → s ≡ r

@@ -1,4 +1,4 @@
--- The orders of the keys.
+-- The orders of keys.
 use Rattle.std.proofs.Common.{◌≡◌, ℕ, ◌&&◌, true, sym, ap, ◌∙◌, arith}
 use Rattle.std.specs.Ordering.{nat_cmp, ordering_then, eq_by_cmp, is_eq}
 use Rattle.std.specs.Cmp.{tied_then}
@@ -7,7 +7,7 @@ use Rattle.model.proofs.KeyOrders.{broadcast_exact, wait_exact}
 use Rattle.model.specs.Content.{BroadcastKey, WaitKey, broadcast_cmp, wait_cmp}
 use Rattle.numbers.proofs.Small.{tied}
 
--- a tied of keys is one of each part
+-- Keys are tied if each part is.
 pub broadcast_tie : (a b : BroadcastKey)
     → eq_by_cmp broadcast_cmp a b
     ≡ (is_eq (nat_cmp a.id b.id) && is_eq (nat_cmp a.attempt b.attempt))
@@ -26,7 +26,7 @@ wait_tie a b =
     ∙ ap (λ t. is_eq (nat_cmp a.minute b.minute) && t)
     (sym (tied_then (nat_cmp a.id b.id) (nat_cmp a.attempt b.attempt))))
 
--- keys that tied are one key
+-- Tied keys are equal.
 pub same_number : (m n : ℕ) → eq_by_cmp nat_cmp m n ≡ true → m ≡ n
 same_number m n h = grind (arith, nat_tests)
 

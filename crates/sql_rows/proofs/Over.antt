@@ -1,4 +1,4 @@
--- What stands in a map whose values another map changes.
+-- Look-ups in a map with its values changed by those of another map.
 use Rattle.std.proofs.Common.{◌≡◌, ℕ, Bool, true, false, cond, List, [], ◌∷◌, map, Option, Some, None, refl, ap, sym, ◌∙◌, arith}
 use Rattle.std.specs.Prelude.{◌==◌, option_map}
 use Rattle.std.specs.Ordering.{nat_cmp, eq_by_cmp}
@@ -32,7 +32,7 @@ module _ {X Y : Type 0} (change : Option Y → X → X) where
       (entries bare)) k ∙ found more (entries bare) k ∙ ap (option_map (change (get more k)))
       (sym (get-entries bare k))
 
-  -- a row put in both is one put in what they are together
+  -- Inserting into both maps inserts into the combined map.
   pub over-put : (bare : FinMap nat_cmp X) (more next : FinMap nat_cmp Y) (k : ℕ) (x : X)
       → ((j : ℕ) → eq_by_cmp nat_cmp j k ≡ false → get next j ≡ get more j) →
       over change (insert bare k x) next ≡ insert (over change bare more) k (change (get next k) x)
@@ -53,7 +53,7 @@ module _ {X Y : Type 0} (change : Option Y → X → X) where
           ∙ ap (λ o. option_map (change o) (get bare j)) (others j e) ∙ sym (get-over bare more j)
           ∙ sym (ap (λ b. cond b (Some (change (get next k) x)) (get (over change bare more) j)) e)
 
-  -- a row taken out of both is one taken out of what they are together
+  -- Removing from both maps removes from the combined map.
   pub over-remove : (bare : FinMap nat_cmp X) (more next : FinMap nat_cmp Y) (k : ℕ)
       → ((j : ℕ) → eq_by_cmp nat_cmp j k ≡ false → get next j ≡ get more j) →
       over change (remove bare k) next ≡ remove (over change bare more) k

@@ -1,4 +1,4 @@
--- What the items of a query's answer say of the map that its table is read as.
+-- The items of a query's answer, and the map that its table reads as.
 use Rattle.std.proofs.Common.{◌≡◌, Bool, true, List, Option, Some}
 use Rattle.std.specs.declared.cmp.Ordering.{Ordering}
 use Rattle.std.specs.Ordering.{eq_by_cmp}
@@ -11,7 +11,7 @@ use Rattle.sql_rows.specs.Once.{AreKeysUnique}
 use Rattle.sql_rows.proofs.Listed.{Lists}
 use Rattle.sql_rows.proofs.Lookups.{entry_of, entry_from}
 
--- the items are the entries of the map of which P holds
+-- Holds if the items are the entries of the map that satisfy P.
 pub record Picks {T K V : Type 0} {R : K → K → Ordering} (seen : T → K × V) (m : FinMap R V) (P : K
     → V → Type 0) (items : List T) : Type 0 where
   pub only : (x : T) → Has items x → (get m (seen x).0 ≡ Some (seen x).1) × P (seen x).0 (seen x).1
@@ -20,7 +20,7 @@ pub record Picks {T K V : Type 0} {R : K → K → Ordering} (seen : T → K × 
 module _ {T K V : Type 0} {R : K → K → Ordering} (o : IsTotalOrder R) (same_key : (a b : K)
     → eq_by_cmp R a b ≡ true → a ≡ b) (read : Row → Option (K × V)) (shown : Row → Row) (seen : T
     → K × V) where
-  -- the test of a row is what P says of its entry
+  -- Holds if the test of a row decides P of its entry.
   abbrev pub Says : (Row → Bool) → (K → V → Type 0) → Type 0
   Says p P = (r : Row) (k : K) (v : V) → read (shown r) ≡ Some (k, v) → (p r ≡ true → P k v)
       × (P k v → p r ≡ true)

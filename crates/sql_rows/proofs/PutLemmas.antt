@@ -1,4 +1,4 @@
--- What a row of each table put or taken away makes of the content.
+-- The effect on the content of a row inserted into each table or deleted from it.
 use Rattle.std.proofs.Common.{◌≡◌, ℕ, pos, [], ◌∷◌, cond, Some, None, refl, sym, ap, subst, ◌∙◌, arith}
 use Rattle.std.specs.Prelude.{option_map, option_and_then}
 use Rattle.std.specs.Ordering.{nat_cmp}
@@ -33,7 +33,7 @@ use Rattle.sql_rows.proofs.Rerouted.{row-put}
 use Rattle.sql_rows.proofs.Backs.{carrier_back}
 use Rattle.sql_rows.proofs.Inversions.{bind_some, map_some}
 
--- the tables are ours, and this is their content
+-- Holds if the schema and the shapes are right, and this is the content.
 pub record Became (new : Database) (wanted : Content) : Type 0 where
   pub schema : new.schema ≡ the_schema
   pub shaped : AreShaped new.trees
@@ -214,7 +214,7 @@ module _ (old new : Database) (shaped : AreShaped old.trees) where
 
 -- ---- rows of two tables
 
--- the set's row, and then the clock's
+-- Putting the set's row and then the clock's changes both in the content.
 pub put_set_clock : (old mid new : Database) → AreShaped old.trees → (w : Windows) (c : StoredClock)
     → set_entry (stored (set_params c.present w)) ≡ Some (c.present, w)
     → clock_entry (stored (clock_params 0 c)) ≡ Some (0, c) →
@@ -240,7 +240,7 @@ put_set_clock old mid new shaped w c set_back clock_back first second =
     }
 
 module _ (old mid new : Database) (shaped : AreShaped old.trees) (n : ℕ) where
-  -- the version's row changed, and then the routing's
+  -- Holds if the map of versions, and no other table, was changed so.
   abbrev VersionLeft : (FinMap nat_cmp VersionRow → FinMap nat_cmp VersionRow) → Type 0
   VersionLeft change = Leaves Version nat_cmp version_entry change old.trees mid.trees
 
@@ -254,7 +254,7 @@ module _ (old mid new : Database) (shaped : AreShaped old.trees) (n : ℕ) where
       (Int (pos n) ∷ []) (version_tests n) (version_params n v) (λ db. version_row n v) w
       (λ db. refl) (λ db. back) old mid (λ db. version_cast db n v) shaped r
 
-  -- the tables between the two
+  -- The schema and the shapes are right between the two changes.
   pub version_between : (v : VersionRow) → version_entry (version_row n v) ≡ Some (n, bare v)
       → Replaced Version (Int (pos n) ∷ []) (version_params n v) old mid → (mid.schema ≡ the_schema)
       × AreShaped mid.trees
@@ -276,12 +276,12 @@ module _ (old mid new : Database) (shaped : AreShaped old.trees) (n : ℕ) where
   next_taken there did = taken NextRouting nat_cmp nat_cmp_total nat_cmp-IsAntisymmetric next_entry
       n (Int (pos n) ∷ []) (next_tests n) mid new there did
 
-  -- the routings are of the tree that the first change left alone
+  -- The first change leaves the routings unchanged.
   same_nexts : (change : FinMap nat_cmp VersionRow → FinMap nat_cmp VersionRow) → VersionLeft change
       → nexts_in (mid.trees 16) ≡ nexts_in (old.trees 16)
   same_nexts change l = ap nexts_in (l.frame NextRouting (λ e. omega arith))
 
-  -- what both make of the content
+  -- The content after both changes.
   together : (change : FinMap nat_cmp VersionRow → FinMap nat_cmp VersionRow)
       (turn : FinMap nat_cmp Routing → FinMap nat_cmp Routing) → VersionLeft change → NextLeft turn
       →
@@ -301,7 +301,7 @@ module _ (old mid new : Database) (shaped : AreShaped old.trees) (n : ℕ) where
         versions = over rerouted (change (versions_in (old.trees 18))) m;
       }) (second.map ∙ ap turn (same_nexts change first))
 
-  -- a version that sends a modify is put, with its routing
+  -- Putting a version that sends a modify, and its routing, inserts the version.
   pub put_modified : (v : VersionRow) (r : Routing) → next_of v.status ≡ Some r
       → version_entry (version_row n v) ≡ Some (n, bare v) → next_entry (stored (next_params n r))
       ≡ Some (n, r) →
@@ -328,7 +328,7 @@ module _ (old mid new : Database) (shaped : AreShaped old.trees) (n : ℕ) where
       put_at more r = get-insert nat_cmp_total more n r n ∙ ap (λ b. cond b (Some r) (get more n))
           ((eq_by_cmp_equiv nat_cmp_total).refl n)
 
-  -- any other is put, and no routing is left beside it
+  -- Putting any other version, and deleting its routing, inserts the version.
   pub put_plain : (v : VersionRow) → next_of v.status ≡ None
       → version_entry (version_row n v) ≡ Some (n, bare v) →
       Replaced Version (Int (pos n) ∷ []) (version_params n v) old mid
@@ -353,7 +353,7 @@ module _ (old mid new : Database) (shaped : AreShaped old.trees) (n : ℕ) where
       taken_at more = get-remove nat_cmp_total more n n ∙ ap (λ b. cond b None (get more n))
           ((eq_by_cmp_equiv nat_cmp_total).refl n)
 
-  -- a version is taken away, with the routing that it sends
+  -- Deleting a version and the routing that it sends removes the version.
   pub take_version : Removed Version (Int (pos n) ∷ []) old mid
       → Removed NextRouting (Int (pos n) ∷ []) mid new → Became new (record (content_in old.trees) {
         versions = remove (content_in old.trees).versions n;
@@ -374,7 +374,7 @@ module _ (old mid new : Database) (shaped : AreShaped old.trees) (n : ℕ) where
             apart));
       }
 
--- the clock's row has the windows of its set
+-- The clock's row has the windows of its set.
 pub clock_joins : (db : Trees) (r : ClockRow) → (content_in db).clock ≡ Some r
     → get (content_in db).sets r.present.number ≡ Some r.present.windows
 clock_joins db r e =
@@ -384,7 +384,7 @@ clock_joins db r e =
     subst (λ (c : ClockRow). get (content_in db).sets c.present.number ≡ Some c.present.windows) b.2
     b.1
 
--- a version's row as its table has it, put alone
+-- Putting only a version's row, as its table has it, changes only that table.
 pub version_left : (old new : Database) (n : ℕ) (v : VersionRow)
     → version_entry (version_row n v) ≡ Some (n, bare v)
     → Replaced Version (Int (pos n) ∷ []) (version_params n v) old new →

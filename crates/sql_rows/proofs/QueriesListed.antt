@@ -1,4 +1,4 @@
--- What each query for a list says of the content.
+-- The content listed by each query for a list.
 use Rattle.std.proofs.Common.{◌≡◌, ℕ, pos, negsuc, [], ◌∷◌, List, map, Bool, true, false, Option, Some, None, refl, sym, ap, subst, ◌∙◌, true≢false, arith, nat_lt, ◌≤◌, ◌&&◌}
 use Rattle.std.specs.Prelude.{if◌then◌else◌}
 use Rattle.std.specs.Ordering.{nat_cmp, is_eq, is_ge, is_le}
@@ -90,7 +90,7 @@ of_says id attempt r k v is =
       λ h. test ∙ true_both _ _ (same_told k.id id h.0) (same_told k.attempt attempt h.1),
     )
 
--- the number of a subject that was read is its own
+-- A subject that was read is determined by its number.
 same_subject : (v : Value) (t : Subject) (s : SubjectImpl) → subject_in v ≡ Some t
     → subject_number t ≡ subject_number (subject_of s) → t ≡ subject_of s
 same_subject v t s is same =
@@ -148,7 +148,7 @@ open_says r k v is =
     ∙ bool_told n.0 v.is_open n.2 in
     (λ e. sym test ∙ e, λ e. test ∙ e)
 
--- ---- the lists
+-- ---- lists
 
 module _ (db : Trees) (once : HasUniqueKeys db) where
   pub carriers_picked : (items : List Spid)
@@ -203,12 +203,12 @@ module _ (db : Trees) (once : HasUniqueKeys db) where
       (plain_answer 8 (query_test BroadcastsByOpen) (shown_by Broadcast) (overlay db [])
       (Int (pos 1) ∷ []) h.0 h.1) h.2)
 
--- ---- versions by a column of their subject
+-- ---- versions by subject column
 
 ge_said : (m n : ℕ) → is_ge (nat_cmp m n) ≡ true → n ≤ m
 ge_said m n h = grind (arith, nat_tests)
 
--- the value is a number from low to high
+-- Whether the value is a number from low to high.
 abbrev within : (low high : ℕ) → Value → Bool
 within low high v =
     both (is_true (binary (Compare Ge Binary) v (Int (pos low))) ∷ is_true
@@ -223,7 +223,7 @@ number_within : (low high n : ℕ)
     → within low high (Int (pos n)) ≡ (is_ge (nat_cmp n low) && is_le (nat_cmp n high))
 number_within low high n = rw (above_numbers n low, below_numbers n high) (two_of _ _)
 
--- the subject, if there is one, is from low to high
+-- Holds if there is a subject, from low to high.
 abbrev pub IsAmong : (low high : ℕ) → Option Subject → Type 0
 IsAmong low high None = ⊥
 IsAmong low high (Some t) = (low ≤ subject_number t) × (subject_number t ≤ high)

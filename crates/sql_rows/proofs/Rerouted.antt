@@ -1,4 +1,4 @@
--- A version's row of two tables: bare, and the routing that it sends.
+-- A version's row in two tables: bare, and the routing that it sends.
 use Rattle.std.proofs.Common.{◌≡◌, ◌≢◌, ◌≤◌, ◌<◌, ℕ, false, nat_lt, Option, Some, None, refl, ap, sym, subst, ◌∙◌}
 use Rattle.std.specs.Prelude.{option_map}
 use Rattle.std.specs.Ordering.{nat_cmp, eq_by_cmp}
@@ -33,11 +33,11 @@ rerouted_as own (DisconnectPending release) = refl
 rerouted_as own Old = refl
 rerouted_as own Canceled = refl
 
--- the two together are the row
+-- The two together are the row.
 pub rerouted-bare : (v : VersionRow) → rerouted (next_of v.status) (bare v) ≡ v
 rerouted-bare v = ap (λ s. record v { status = s }) (rerouted_as v.routing v.status)
 
--- a row that is put in both is one that is put in what they are together
+-- A row put into both tables is put into the combined map.
 pub row-put : (rows : FinMap nat_cmp VersionRow) (more next : FinMap nat_cmp Routing) (id : ℕ)
     (v : VersionRow) → get next id ≡ next_of v.status →
     ((j : ℕ) → eq_by_cmp nat_cmp j id ≡ false → get next j ≡ get more j)
@@ -46,7 +46,7 @@ row-put rows more next id v put others = over-put rerouted rows more next id (ba
     ∙ ap (λ n. insert (over rerouted rows more) id (rerouted n (bare v))) put
     ∙ ap (insert (over rerouted rows more) id) (rerouted-bare v)
 
--- what a lookup asks of a row, the routing that it sends left aside, it may ask of the bare one
+-- A function of a row that ignores the routing it sends has the same value on the bare row.
 module _ {B : Type 0} (f : VersionRow → B) (same : (n : Option Routing) (v : VersionRow)
     → f (rerouted n v) ≡ f v) where
   seen : (n : Option Routing) (o : Option VersionRow) → option_map f (option_map (rerouted n) o)
@@ -54,14 +54,14 @@ module _ {B : Type 0} (f : VersionRow → B) (same : (n : Option Routing) (v : V
   seen n None = refl
   seen n (Some v) = ap Some (same n v)
 
--- ---- from the tables as they stand to the content
+-- ---- from the tables to the content
 
 module _ (rows : FinMap nat_cmp VersionRow) (more : FinMap nat_cmp Routing) where
   pub stands-over : (id : ℕ) (v : VersionRow) → get rows id ≡ Some v
       → get (over rerouted rows more) id ≡ Some (rerouted (get more id) v)
   stands-over id v e = get-over rerouted rows more id ∙ ap (option_map (rerouted (get more id))) e
 
-  -- what each bare row has, whatever it sends, each row has
+  -- A property of each bare row, whatever it sends, is one of each row.
   pub all-over : (P : ℕ → VersionRow → Type 0) → ((id : ℕ) (n : Option Routing) (v : VersionRow)
       → P id v → P id (rerouted n v)) → ((id : ℕ) (v : VersionRow) → get rows id ≡ Some v → P id v)
       →
@@ -113,7 +113,7 @@ module _ (db : Trees) where
   none_due now none = all-over (versions_in (db 18)) (nexts_in (db 16)) (λ id v. (e : ℕ)
       → v.deadline ≡ Some e → now < e) (λ id n v p. p) none
 
-  -- whatever was found
+  -- The version in force by the bare tables is the one by the content.
   pub in_force_whole : (s : Subject) (bare row : Option NumberedRow) → IsFoundAs db bare row
       → IsInForce (bare_in db) s bare → IsInForce (content_in db) s row
   in_force_whole s None None h none = none_in_force s none
@@ -135,7 +135,7 @@ module _ (db : Trees) where
   due_whole now None (Some w) h none = absurd h
   due_whole now (Some v) None h one = absurd h
 
-  -- a row by its id
+  -- The version by its id in the bare tables is the one in the content.
   pub version_whole : (id : ℕ) (bare row : Option NumberedRow) → IsFoundAs db bare row
       → get (bare_in db).versions id ≡ option_map (λ (v : NumberedRow). v.row) bare
       → ((v : NumberedRow) → bare ≡ Some v → v.id ≡ id)
@@ -149,7 +149,7 @@ module _ (db : Trees) where
   version_whole id None (Some w) h e own = absurd h
   version_whole id (Some v) None h e own = absurd h
 
--- ---- what a routing found makes of a row
+-- ---- a row with the routing found
 
 no_next : (s : Status) → rerouted_status None s ≡ s
 no_next (Sending Create) = refl
@@ -187,13 +187,13 @@ pub rerouted-put : (put own : Routing) (v : VersionRow) → next_of v.status ≡
     → rerouted (Some put) v ≡ modified_to put v
 rerouted-put put own v e = ap (λ s. record v { status = s }) (put_status put own v.status e)
 
--- no version has so great an id
+-- No version has so great an id.
 pub no_great_version : (db : Trees) (id : ℕ) → nat_lt id 9223372036854775808 ≡ false
     → get (content_in db).versions id ≡ None
 no_great_version db id great = get-over rerouted (versions_in (db 18)) (nexts_in (db 16)) id
     ∙ ap (option_map (rerouted (get (nexts_in (db 16)) id))) (no_great_id db id great)
 
--- a row of the content is one of the table, but for the routing that it sends
+-- A row of the content is one of the table, except for the routing that it sends.
 pub bare-of : (db : Trees) (id : ℕ) (v : VersionRow) → get (content_in db).versions id ≡ Some v
     → (b : VersionRow) × (get (bare_in db).versions id ≡ Some b)
     × (rerouted (get (nexts_in (db 16)) id) b ≡ v)

@@ -1,4 +1,4 @@
--- What finding, deleting and adding rows does to the map that they are read as.
+-- The effect of finding, deleting and adding rows on the map that they read as.
 use Rattle.std.proofs.Common.{◌≡◌, List, [], ◌∷◌, ◌++◌, filter, Bool, true, false, not, cond, Option, Some, None, refl, sym, ap, subst, ◌∙◌, true≢false, Ordering, Less, Equal, Greater, ◌||◌}
 use Rattle.std.specs.Ordering.{eq_by_cmp, is_eq, match_ordering}
 use Rattle.std.specs.Cmp.{IsTotalOrder, eq_by_cmp_equiv}
@@ -17,11 +17,11 @@ same_rest e = cc
 
 module _ {K V : Type 0} (R : K → K → Ordering) (read : Row → Option (K × V)) (k : K) (p : Row
     → Bool) where
-  -- a row that reads at the key passes the test
+  -- Holds if each row that reads with the key passes the test.
   abbrev pub Catches : Type 0
   Catches = (r : Row) (e : K × V) → read r ≡ Some e → eq_by_cmp R k e.0 ≡ true → p r ≡ true
 
-  -- and no other does
+  -- Holds if exactly the rows that read with the key pass the test.
   abbrev pub Tests : Type 0
   Tests = (r : Row) (e : K × V) → read r ≡ Some e → p r ≡ eq_by_cmp R k e.0
 
@@ -102,14 +102,14 @@ module _ {K V : Type 0} (R : K → K → Ordering) (read : Row → Option (K × 
         by_cases false t (Some e) d more =
             rw d (ap (cond (eq_by_cmp R q e.0) (Some e.1)) more ∙ stays e t d _ _ refl refl _)
 
-    -- to keep the rows that fail the test is to remove the key
+    -- Keeping the rows that fail the test removes the key.
     pub content_kept : IsAntisymmetric R → (rows : List Row)
         → content_of R read (filter (λ r. not (p r)) rows) ≡ remove (content_of R read rows) k
     content_kept same rows =
         same_map o same _ _ (λ q. get-from_entries o _ q ∙ find_kept rows q
         ∙ sym (get-remove o _ k q ∙ ap (cond (eq_by_cmp R q k) None) (get-from_entries o _ q)))
 
--- one row more, somewhere
+-- Holds if one more row is added, at some place.
 pub record Adds (new : Row) (rows after : List Row) : Type 0 where
   pub front : List Row
   pub rest : List Row
@@ -169,7 +169,7 @@ module _ {K V : Type 0} {R : K → K → Ordering} (o : IsTotalOrder R) where
       (filter_map read xs) ++ filter_map read ys)
       [ None ↦ filter_map_join read xs ys | Some e ↦ ap (λ l. e ∷ l) (filter_map_join read xs ys) ]
 
-  -- to add a row whose key is new is to insert it
+  -- Adding a row with a new key inserts it.
   pub content_added : IsAntisymmetric R → (read : Row → Option (K × V)) (new : Row) (k : K) (v : V)
       (rows after : List Row) → read new ≡ Some (k, v) → get (content_of R read rows) k ≡ None
       → Adds new rows after

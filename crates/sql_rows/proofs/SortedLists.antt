@@ -1,4 +1,4 @@
--- Lists that rise and have the same members are one list; a finite map's entries are such a list.
+-- Ascending lists with the same members are equal; a finite map's entries are such a list.
 use Rattle.std.proofs.Common.{◌≡◌, List, [], ◌∷◌, Bool, true, false, cond, Some, inl, inr, refl, sym, ap, ◌∙◌, true≢false, Less, Equal, Greater}
 use Rattle.std.specs.Prelude.{◌⊎◌}
 use Rattle.std.specs.declared.cmp.Ordering.{Ordering}

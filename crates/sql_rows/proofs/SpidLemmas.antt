@@ -16,7 +16,7 @@ digits n a b c d e low_b low_c low_d =
     let fourth : n % 256 ≡ d = omega arith in
     rw (first, second, third, fourth) refl
 
--- a text that reads as a provider is the provider's own
+-- A text that reads as a provider is that provider's text.
 pub spelt : (t : List ℕ) (n : ℕ) → spid_from t ≡ Some n → t ≡ spid_text n
 spelt (a ∷ b ∷ c ∷ d ∷ []) n h =
     by_cases (is_spid_character a) (is_spid_character b) (is_spid_character c) (is_spid_character d)

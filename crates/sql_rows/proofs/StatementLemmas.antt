@@ -1,6 +1,5 @@
--- What the texts mean. Each is compiled once here, to its command where it has no RETURNING and
--- does
--- not read the time; all else that is known of it is read off that one computation.
+-- The meaning of the texts. Each is compiled once here, to its command if it has no RETURNING and
+-- does not read the time; all other facts about it follow from that one computation.
 use Rattle.std.proofs.Common.{◌≡◌, ◌∙◌, ℕ, false, if◌then◌else◌, List, [], ◌∷◌, Option, None, Some, Result, Ok, Err, refl, ap, sym, subst}
 use Rattle.std.specs.Prelude.{⊤}
 use Rattle.std.proofs.lemmas.Option.{none-some, same_Some}
@@ -22,7 +21,7 @@ use Rattle.sql_rows.specs.declared.statement.Table.TheVariants.{Carrier, Lrn, Co
 use Rattle.sql_rows.specs.declared.statement.Query.{Query}
 use Rattle.sql_rows.specs.declared.statement.Query.TheVariants.{CarrierNamed, LrnNumbered, CodeNumbered, BlockNumbered, ClockNumbered, WindowSetNumbered, NextRoutingNumbered, VersionNumbered, OldVersionNumbered, VersionInForce, VersionOpen, VersionDue, BroadcastKeyed, All, BroadcastsByOpen, WaitsAbout, WaitsFor, WaitsFirst, WaitsOf, InForceAmong, OpenAmong}
 
--- its command, where it has no RETURNING and does not read the time
+-- The command, if it has no RETURNING and does not read the time.
 abbrev bare : {R F : Type 0} → Option R → List F → Command → Option Command
 bare None [] command = Some command
 bare _ _ command = None
@@ -38,7 +37,7 @@ bare_is None [] found command is = (same_Some found command is, (refl, refl))
 bare_is None (f ∷ fs) found command is = absurd (none-some command is)
 bare_is (Some r) fs found command is = absurd (none-some command is)
 
--- what is known of a text by the command that it compiles to
+-- Facts about a text, from the command that it compiles to.
 module _ (text : List ℕ) (command : Command)
     (compiles : plain_command (compiled the_schema text) ≡ Some command) where
   unlisted : reads_listing the_schema text ≡ false
@@ -114,7 +113,7 @@ query_plain q = plain (query_text q) (query_command q) (query_compiles q)
 pub query_unlisted : (q : Query) → reads_listing the_schema (query_text q) ≡ false
 query_unlisted q = unlisted (query_text q) (query_command q) (query_compiles q)
 
--- the text begins with a query
+-- Holds if the statement is a query.
 abbrev pub IsSelect : Statement → Type 0
 IsSelect (written.Select s) = ⊤
 IsSelect _ = ⊥
@@ -123,7 +122,7 @@ abbrev pub Selects : Checked Parsed → Type 0
 Selects (Ok p) = IsSelect p.statement
 Selects (Err e) = ⊤
 
--- each is a query, whatever tables there are
+-- Each text begins with a query, whatever tables there are.
 pub query_selects : (q : Query) → Selects (first (query_text q))
 unfolding first everything
 query_selects CarrierNamed = tt
@@ -159,7 +158,7 @@ query_selects WaitsOf = tt
 query_selects InForceAmong = tt
 query_selects OpenAmong = tt
 
--- ---- rows taken away, and put
+-- ---- rows deleted and inserted
 
 delete_compiles : (t : Table)
     → plain_command (compiled the_schema (delete_text t)) ≡ Some (delete_command t)

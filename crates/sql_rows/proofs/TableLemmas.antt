@@ -1,4 +1,4 @@
--- What rows taken away and put in do to the maps.
+-- The effect of deleted and inserted rows on the maps.
 use Rattle.std.proofs.Common.{◌≡◌, ◌==◌, inl, inr, List, [], ◌∷◌, Bool, true, false, cond, Option, Some, None, refl, sym, ap, subst, ◌∙◌}
 use Rattle.std.proofs.lemmas.Bool.{cond-true, cond-false}
 use Rattle.std.proofs.lemmas.Bool.Decides.{eqb_tells}
@@ -29,7 +29,7 @@ shaped_framed t db next frame given shaped u = elim (eqb_tells (tree_of u) (tree
   | inr other ↦ subst (IsShaped AsTable) (sym (frame u other.1)) (shaped u)
 ]
 
--- rows taken away leave the shape
+-- Deleting rows keeps the shape.
 pub removed_shaped : (t : Table) (key : Row) (old new : Database) → AreShaped old.trees
     → Removed t key old new → AreShaped new.trees
 removed_shaped t key old new shaped r =
@@ -43,7 +43,7 @@ shadowed : {A : Type 0} (b : Bool) (x y z : A) → cond b x (cond b y z) ≡ con
 shadowed true x y z = refl
 shadowed false x y z = refl
 
--- the table's map after the change, and the others as they were
+-- Holds if the table's map is changed as wanted, and the other tables are unchanged.
 pub record Leaves (t : Table) {K V : Type 0} (R : K → K → Ordering) (entry : Row
     → Option (K × V)) (wanted : FinMap R V → FinMap R V) (old new : Trees) : Type 0 where
   pub shaped : AreShaped new
@@ -67,7 +67,7 @@ module _ (t : Table) {K V : Type 0} (R : K → K → Ordering) (o : IsTotalOrder
       get-insert o (remove m k) k v q ∙ ap (cond (eq_by_cmp R q k) (Some v)) (get-remove o m k q)
       ∙ shadowed (eq_by_cmp R q k) (Some v) None (get m q) ∙ sym (get-insert o m k v q))
 
-  -- the rowid is in the parameters, or chosen
+  -- A put row, with its rowid in the parameters or chosen, is inserted into the map.
   pub put : (params : Row) (row : Trees → Row) (v : V)
       → ((mid : Trees) → is_int (rowid (row mid)) ≡ true)
       → ((mid : Trees) → entry (row mid) ≡ Some (k, v)) → (old new : Database)
@@ -96,11 +96,11 @@ module _ (t : Table) {K V : Type 0} (R : K → K → Ordering) (o : IsTotalOrder
 
 -- ---- the content with one table changed
 
--- these trees, with other rows in a table
+-- The trees with other rows in one table.
 abbrev pub replaced : Table → List Row → Trees → Trees
 replaced t rows db n = cond (n == tree_of t) rows (db n)
 
--- a change of one table is a change of the content there alone
+-- A change of one table changes the content only there.
 pub content_framed : (t : Table) (db next : Trees) → IsFrame t db next
     → content_in next ≡ content_in (replaced t (next (tree_of t)) db)
 content_framed t db next frame = rw (

@@ -1,4 +1,4 @@
--- What the statements that write do to the tables.
+-- The effects of the writing statements on the tables.
 use Rattle.std.proofs.Common.{◌≡◌, ◌≢◌, ◌⊎◌, inl, inr, ℕ, List, [], ◌∷◌, map, filter, slice_get, Bool, true, false, not, Some, None, Ok, Err, Result, refl, sym, ap, subst, ◌∙◌, ◌&&◌, true≢false}
 use Rattle.std.specs.Prelude.{if◌then◌else◌, MatchBool}
 use Rattle.std.specs.List.{AllByRecursion}
@@ -78,7 +78,7 @@ uncounted WindowSet = refl
 uncounted Version = refl
 uncounted Clock = refl
 
--- what an INSERT does to a table that counts no rowids
+-- The effect of an INSERT on a table that counts no rowids.
 record Unnumbered (task : Task) (from : Source) (db : Trees) (w : Written) : Type 0 where
   rows : List Row
   source : Sourced task.limit (record { schema = task.schema; trees = db })
@@ -133,7 +133,7 @@ framed t db next h Clock = h.1.1.1.1.1.1.1.1.1.1.1.0
 
 module _ (t : Table) (params : Row) (old new : State) (has : old.now.schema ≡ the_schema)
     (count : ℕ) where
-  -- the rows that pass the test are taken away
+  -- The statement deletes the rows that pass the test.
   removes_by : (sql : List ℕ) (test : List Term) → command_of (understood the_schema sql)
       ≡ Delete (slot_of t) (record {
         lets = [];
@@ -218,7 +218,7 @@ none_left : (rows : List Row) → filter (λ r. false) rows ≡ []
 none_left [] = refl
 none_left (r ∷ rows) = none_left rows
 
--- a table of an earlier form is emptied
+-- The statement empties a table of an earlier schema.
 pub clears : (t : OldTable) (old new : State) → old.now.schema ≡ the_schema → (count : ℕ)
     → IsShaped AsTable (old.now.trees (tree_of (table_of_old t)))
     → Executes (clear_text t) [] old new (Ok count) → IsCleared t old.now new.now

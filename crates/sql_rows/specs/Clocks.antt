@@ -1,4 +1,4 @@
--- The clock's row as it is stored, and as a file of an earlier form has it.
+-- The clock's row as stored, and in an earlier schema.
 use Rattle.std.specs.Prelude.{ℕ, Option, option_map}
 use Rattle.std.specs.Ordering.{nat_cmp}
 use Rattle.std.specs.FinMap.{FinMap, get}
@@ -8,7 +8,7 @@ use Rattle.version.specs.Abstraction.{windows_of}
 use Rattle.sql_rows.specs.declared.keyed.StoredClock.{StoredClock as StoredImpl}
 use Rattle.sql_rows.specs.declared.keyed.OldClock.{OldClock}
 
--- of the present set the number alone
+-- The stored row, with only the number of the current set of windows.
 pub record StoredClock : Type 0 where
   pub minute : ℕ
   pub next_id : ℕ
@@ -24,10 +24,10 @@ clock_row minute next_id present windows = record {
   present = record { number = present; windows = windows };
 }
 
--- the windows of an earlier form are set 1
+-- The clock of an earlier schema: its windows are set 1.
 abbrev pub old_clock_of : OldClock → ClockRow
 old_clock_of c = clock_row c.minute.number c.next_id 1 (windows_of c.windows)
 
--- the row with the windows of its set, if the set is there
+-- The row with the windows of its set, if the set exists.
 abbrev pub with_windows : FinMap nat_cmp Windows → StoredClock → Option ClockRow
 with_windows sets c = option_map (clock_row c.minute c.next_id c.present) (get sets c.present)

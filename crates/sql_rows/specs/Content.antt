@@ -1,5 +1,5 @@
--- The tables as finite maps: each row that reads as a key and a value is an entry, and at a key
--- that stands twice the first row counts.
+-- The tables as finite maps. Each row that reads as a key and a value is an entry; the first row
+-- with a key counts.
 use Rattle.std.specs.Prelude.{◌≡◌, ⊤, ℕ, ◌+◌, None, List, [], ◌∷◌, Some, Option, option_map, option_and_then}
 use Rattle.std.specs.declared.cmp.Ordering.{Ordering}
 use Rattle.std.specs.Ordering.{nat_cmp}
@@ -27,7 +27,7 @@ content_of R read rows = from_entries (filter_map read rows)
 abbrev pub pair : {K V : Type 0} → K → V → K × V
 pair k v = (k, v)
 
--- ---- what a query shows of a row, and the stored row as it shows it
+-- ---- rows as a query shows them, and as stored
 
 abbrev pub carrier_in : Row → Option (ℕ × Unit {0})
 carrier_in r = option_map (λ k. pair k tt) (spid_in (column r 0))
@@ -38,7 +38,7 @@ carrier_shown r = column r 1 ∷ []
 abbrev pub carrier_entry : Row → Option (ℕ × Unit {0})
 carrier_entry r = carrier_in (carrier_shown r)
 
--- a number, and whose it is: of the tables of routing numbers and of codes
+-- A number and its owner, in the tables of routing numbers and of codes.
 abbrev pub owner_by : (Value → Option ℕ) → Row → Option (ℕ × ℕ)
 owner_by key r =
     option_and_then (λ k. option_map (pair k) (spid_in (column r 1))) (key (column r 0))
@@ -73,7 +73,7 @@ block_shown r = column r 0 ∷ column r 2 ∷ column r 3 ∷ []
 abbrev pub block_entry : Row → Option (ℕ × BlockRow)
 block_entry r = block_row_in (block_shown r)
 
--- the routing that a version sends
+-- The routing that a version sends.
 abbrev pub next_row_in : Row → Option (ℕ × Routing)
 next_row_in r =
     option_and_then (λ id. option_and_then (option_map (pair id))
@@ -138,7 +138,7 @@ wait_shown r = column r 1 ∷ column r 2 ∷ column r 3 ∷ column r 4 ∷ colum
 abbrev pub wait_entry : Row → Option (WaitKey × Subject)
 wait_entry r = wait_in (wait_shown r)
 
--- the nine windows in the columns from this one on
+-- The nine windows in the columns from `first` on.
 abbrev pub windows_in : (first : ℕ) → Row → Option Windows
 windows_in first r =
     option_and_then
@@ -163,7 +163,7 @@ windows_in first r =
     (window_in (column r (first + 3)))) (window_in (column r (first + 2))))
     (window_in (column r (first + 1)))) (window_in (column r first))
 
--- a set of windows
+-- A set of windows.
 abbrev pub set_in : Row → Option (ℕ × Windows)
 set_in r = option_and_then (λ n. option_map (pair n) (windows_in 1 r)) (set_number_in (column r 0))
 
@@ -196,7 +196,7 @@ clock_shown r = column r 0 ∷ column r 2 ∷ column r 3 ∷ column r 4 ∷ []
 abbrev pub clock_entry : Row → Option (ℕ × StoredClock)
 clock_entry r = clock_in (clock_shown r)
 
--- the clock's row of a file of an earlier form: its windows are set 1
+-- The clock's row in an earlier schema: its windows are set 1.
 abbrev pub old_clock_in : Row → Option (ℕ × ClockRow)
 old_clock_in r =
     option_and_then
@@ -226,11 +226,11 @@ sets_in rows = content_of nat_cmp set_entry rows
 abbrev pub clocks_in : List Row → FinMap nat_cmp StoredClock
 clocks_in rows = content_of nat_cmp clock_entry rows
 
--- the clock's row as it stands in its table, with the windows of its set
+-- The clock's row in its table, with the windows of its set.
 abbrev pub clock_from : FinMap nat_cmp Windows → FinMap nat_cmp StoredClock → Option ClockRow
 clock_from sets clocks = option_and_then (with_windows sets) (get clocks 0)
 
--- the tables as they stand: each version without the routing that it sends
+-- The content of the tables, each version without the routing that it sends.
 abbrev pub bare_in : Trees → Content
 bare_in db = record {
   carriers = content_of nat_cmp carrier_entry (db 0);
@@ -244,13 +244,13 @@ bare_in db = record {
   clock = clock_from (sets_in (db 17)) (clocks_in (db 21));
 }
 
--- what a file's trees are to the register
+-- The content of a file, by its trees.
 abbrev pub content_in : Trees → Content
 content_in db = record (bare_in db) {
   versions = over rerouted (versions_in (db 18)) (nexts_in (db 16));
 }
 
--- the row found, with the routing that it sends, which stands elsewhere
+-- Holds if row is the bare one with the routing that it sends, which is in another table.
 abbrev pub IsRoutedAs : Trees → (bare row : NumberedRow) → Type 0
 IsRoutedAs db bare row =
     (row.id ≡ bare.id) × (row.row ≡ rerouted (get (nexts_in (db 16)) bare.id) bare.row)
@@ -261,7 +261,7 @@ IsFoundAs db (Some v) (Some w) = IsRoutedAs db v w
 IsFoundAs db None (Some w) = ⊥
 IsFoundAs db (Some v) None = ⊥
 
--- ---- the parameters of the statements that put rows in
+-- ---- parameters of the statements that insert rows
 
 abbrev pub carrier_params : ℕ → Row
 carrier_params carrier = spid_value carrier ∷ []
@@ -283,7 +283,7 @@ abbrev pub wait_params : WaitKey → Subject → Row
 wait_params k s = spid_value k.carrier ∷ number_value k.minute ∷ number_value k.id ∷ number_value
     k.attempt ∷ subject_value s ∷ []
 
--- the columns of its key
+-- The columns of a download's key.
 abbrev pub wait_key_params : WaitKey → Row
 wait_key_params k = spid_value k.carrier ∷ number_value k.minute ∷ number_value k.id ∷ number_value
     k.attempt ∷ []
@@ -305,8 +305,8 @@ abbrev pub clock_params : ℕ → StoredClock → Row
 clock_params number c = number_value number ∷ number_value c.minute ∷ number_value c.next_id
     ∷ number_value c.present ∷ []
 
--- ---- the rows as they are stored: a rowid that the statement gives is the first column, and its
--- own place is NULL
+-- ---- rows as stored: a rowid that the statement gives is the first column, and its own place is
+-- NULL
 
 abbrev pub stored : Row → Row
 stored [] = []

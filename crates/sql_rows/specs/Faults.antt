@@ -1,4 +1,4 @@
--- Why a statement fails, and what a store tells of it.
+-- Faults of statements, and what a store reports of each.
 use Rattle.settle.specs.declared.store.StoreFault.{StoreFault}
 use Rattle.settle.specs.declared.store.StoreFault.TheVariants.{NoMemory, Storage}
 use Rattle.sql_rows.specs.declared.fault.Fault.{Fault}
@@ -12,7 +12,7 @@ abbrev pub fault_of_code : ErrorCode → Fault
 fault_of_code OutOfMemory = Memory
 fault_of_code _ = Device
 
--- want of memory alone is told as such
+-- The fault of an error: `Memory` only if SQLite is out of memory.
 abbrev pub fault_of : Error → Fault
 fault_of (SqliteFailure code) = fault_of_code code
 fault_of _ = Device

@@ -1,4 +1,4 @@
--- What is made of a file of an earlier form.
+-- Migration of files with earlier schemas.
 use Rattle.std.specs.Prelude.{◌≡◌, ⊤, ℕ, List, [], ◌∷◌, codes}
 use Rattle.sqlite.specs.Command.{Command}
 use Rattle.sqlite.specs.Command.TheVariants.{Delete}
@@ -25,7 +25,7 @@ abbrev pub schema_of : SchemaVersion → Schema
 schema_of First = first_schema
 schema_of Modify = modify_schema
 
--- ---- the tables that are made
+-- ---- tables that are created
 
 abbrev pub create_text : NewTable → List ℕ
 create_text made.NextRouting =
@@ -63,7 +63,7 @@ schema_after made.WindowSet = schema_before made.Version
 schema_after made.Version = schema_before made.Clock
 schema_after made.Clock = schema_with new_tables version_keys
 
--- the table is there, with no row, and the others have the rows that they had
+-- Holds if the table exists without rows, and the others keep their rows.
 pub record IsMade (t : NewTable) (old new : Database) : Type 0 where
   pub schema : new.schema ≡ schema_after t
   pub blank : new.trees (made_table t).tree ≡ []
@@ -72,9 +72,9 @@ pub record IsMade (t : NewTable) (old new : Database) : Type 0 where
 abbrev pub index_text : List ℕ
 index_text = codes "CREATE INDEX version2_deadline ON version2 (deadline)"
 
--- ---- the tables that are read
+-- ---- tables that are read
 
--- a file of the form has this table
+-- Holds if a file with the schema has this table.
 abbrev pub IsTableOf : Table → SchemaVersion → Type 0
 IsTableOf stored.Carrier f = ⊤
 IsTableOf stored.Lrn f = ⊤
@@ -106,7 +106,7 @@ clear_command t = Delete (slot_of (table_of_old t)) (record {
   body = plain_query (tree_of (table_of_old t)) [] (col 1 0 ∷ []);
 })
 
--- a table of an earlier form has no row, and every other is as it was
+-- Holds if a table of an earlier schema has no row, and every other table is unchanged.
 pub record IsCleared (t : OldTable) (old new : Database) : Type 0 where
   pub schema : new.schema ≡ the_schema
   pub rows : new.trees (tree_of (table_of_old t)) ≡ []

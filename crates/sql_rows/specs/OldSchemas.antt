@@ -1,4 +1,4 @@
--- What a file of an earlier form is to the register.
+-- The content of a file with an earlier schema.
 use Rattle.std.specs.Prelude.{List, [], Some, None, Option}
 use Rattle.std.specs.Ordering.{nat_cmp}
 use Rattle.std.specs.FinMap.{FinMap, empty, get, insert}
@@ -18,17 +18,17 @@ old_versions_in rows = content_of nat_cmp old_version_entry rows
 abbrev pub old_clock : List Row → Option ClockRow
 old_clock rows = get (content_of nat_cmp old_clock_entry rows) 0
 
--- the rows of the routings that versions send, if the form has such a table
+-- The rows of the routings that versions are sending, if the schema has their table.
 abbrev pub next_rows : SchemaVersion → Trees → List Row
 next_rows First db = []
 next_rows Modify db = db 16
 
--- its windows are set 1
+-- The windows of the clock's row, as set 1.
 abbrev pub first_sets : Option ClockRow → FinMap nat_cmp Windows
 first_sets None = empty
 first_sets (Some c) = insert empty 1 c.present.windows
 
--- the tables as they stand, with these versions and this clock's row
+-- The content of the tables, with these versions and this clock's row.
 abbrev pub content_with : SchemaVersion → FinMap nat_cmp VersionRow → Option ClockRow → Trees
     → Content
 content_with f versions clock db = record {
@@ -43,6 +43,6 @@ content_with f versions clock db = record {
   clock = clock;
 }
 
--- each version holds set 1, which are the nine windows of the clock's row
+-- The content of the file: each version holds set 1, the nine windows of the clock's row.
 abbrev pub old_content_in : SchemaVersion → Trees → Content
 old_content_in f db = content_with f (old_versions_in (db 5)) (old_clock (db 12)) db

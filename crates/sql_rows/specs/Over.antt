@@ -1,4 +1,4 @@
--- A map whose values another map changes, key by key.
+-- A map with its values changed by those of another map, key by key.
 use Rattle.std.specs.Prelude.{ℕ, map, Option}
 use Rattle.std.specs.Ordering.{nat_cmp}
 use Rattle.std.specs.FinMap.{FinMap, get, entries, from_entries}

@@ -1,4 +1,4 @@
--- The texts of the statements, and what they mean under the schema.
+-- The texts of the statements, and their meaning under the schema.
 use Rattle.std.specs.Prelude.{ℕ, pos, negsuc, List, [], ◌∷◌, codes, None, false}
 use Rattle.sqlite.specs.declared.types.Value.TheVariants.{Null, Int}
 use Rattle.sqlite.specs.Term.{Term, lit, col, op2}
@@ -19,7 +19,7 @@ use Rattle.sql_rows.specs.declared.statement.Query.TheVariants.{CarrierNamed, Lr
 
 -- ---- the tables
 
--- its place in the schema
+-- The place of a table in the schema.
 abbrev pub slot_of : Table → ℕ
 slot_of Carrier = 0
 slot_of Lrn = 1
@@ -48,15 +48,15 @@ table_of WindowSet = window_set_table
 table_of Version = version_table
 table_of Clock = clock_table
 
--- the tree that holds its rows
+-- The tree with the rows of a table.
 abbrev pub tree_of : Table → ℕ
 tree_of t = (table_of t).tree
 
--- a column of the row is a parameter
+-- The test that a column equals a parameter.
 abbrev pub column_is : ℕ → ℕ → Term
 column_is place at = op2 (Compare Eq Binary) (col 1 place) (col 0 at)
 
--- the row has the key
+-- The tests that the row has the key.
 abbrev pub key_test : Table → List Term
 key_test Carrier = column_is 1 0 ∷ []
 key_test Lrn = column_is 0 0 ∷ []
@@ -71,7 +71,7 @@ key_test WindowSet = column_is 0 0 ∷ []
 key_test Version = column_is 0 0 ∷ []
 key_test Clock = column_is 0 0 ∷ []
 
--- the columns of a row of the table in the order of the texts
+-- The columns of a row, in the order of the texts.
 abbrev pub shown_by : Table → List Term
 shown_by Carrier = col 1 1 ∷ []
 shown_by Lrn = col 1 0 ∷ col 1 2 ∷ []
@@ -120,7 +120,7 @@ names_of Version = codes "id" ∷ codes "subject" ∷ codes "old" ∷ codes "new
     "cancelled_by" ∷ codes "deadline" ∷ codes "holds" ∷ codes "opens" ∷ codes "held" ∷ []
 names_of Clock = codes "one" ∷ codes "now" ∷ codes "next_id" ∷ codes "present" ∷ []
 
--- the rows of a table that pass the test, in any order
+-- The query for the rows of a table that pass the tests, in any order.
 abbrev pub plain_query : ℕ → List Term → List Term → Asked
 plain_query tree filter project = record {
   from = inner tree end;
@@ -134,7 +134,7 @@ plain_query tree filter project = record {
   offset = lit (Int (pos 0));
 }
 
--- ---- rows taken away and put in
+-- ---- rows deleted and inserted
 
 abbrev pub delete_text : Table → List ℕ
 delete_text Carrier = codes "DELETE FROM carrier WHERE spid = ?1"
@@ -177,7 +177,8 @@ insert_text Version =
     codes "INSERT INTO version2 (id, subject, old, new, due, lrn, cic, old_at, new_at, status, sends, since, attempt, release, spent, protective, cancelled_by, deadline, holds, opens, held) VALUES (?1, ?2, ?3, ?4, ?5, ?6, ?7, ?8, ?9, ?10, ?11, ?12, ?13, ?14, ?15, ?16, ?17, ?18, ?19, ?20, ?21)"
 insert_text Clock = codes "INSERT INTO clock2 (one, now, next_id, present) VALUES (?1, ?2, ?3, ?4)"
 
--- the rowid, the place of the rowid's column where there is one, and the other columns
+-- The terms of an inserted row: its rowid, NULL for the rowid's column if there is one, and the
+-- other columns.
 abbrev pub insert_terms : Table → List Term
 insert_terms Carrier = lit Null ∷ col 0 0 ∷ []
 insert_terms Lrn = col 0 0 ∷ lit Null ∷ col 0 1 ∷ []
@@ -218,7 +219,7 @@ insert_command t = Insert (slot_of t) (Values (insert_terms t) (width_of t))
 
 -- ---- queries
 
--- all rows of a table
+-- The text that selects all rows of a table.
 abbrev pub all_text : Table → List ℕ
 all_text Carrier = codes "SELECT spid FROM carrier"
 all_text Lrn = codes "SELECT lrn, spid FROM lrn"
@@ -324,7 +325,7 @@ query_test InForceAmong = op2 (Compare Ge Binary) (col 1 19) (col 0 0) ∷ op2 (
 query_test OpenAmong = op2 (Compare Ge Binary) (col 1 20) (col 0 0) ∷ op2 (Compare Le Binary)
     (col 1 20) (col 0 1) ∷ []
 
--- what each of them asks, but for those that have an order
+-- The meaning of each query without an order.
 abbrev pub plainly : Query → Asked
 plainly q = plain_query (tree_of (asked_of q)) (query_test q) (shown_by (asked_of q))
 

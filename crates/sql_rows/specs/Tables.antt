@@ -1,4 +1,4 @@
--- The tables of a register's file, as `sqlite` reads their texts.
+-- The tables of a register's file, as `sqlite` parses their texts.
 use Rattle.sqlite.specs.Collation.TheVariants.{Binary}
 use Rattle.std.specs.Prelude.{true, false, [], ◌∷◌, Some, None, Option, codes, List, ℕ, Bool}
 use Rattle.sqlite.specs.declared.types.Value.TheVariants.{Null}
@@ -33,7 +33,7 @@ text_column name = a_column name Text true
 abbrev pub text_or_null : List ℕ → Column
 text_or_null name = a_column name Text false
 
--- a table with no rules but its keys
+-- A table with no constraints other than its keys.
 abbrev pub a_table : ℕ → List ℕ → List Column → Option ℕ → List ℕ → List (List ℕ) → List Order
     → Table
 a_table tree name columns key primary uniques orders = record {
@@ -51,7 +51,7 @@ a_table tree name columns key primary uniques orders = record {
   is_counted = false;
 }
 
--- a table whose first column is its rowid
+-- A table whose first column is its rowid.
 abbrev pub numbered_table : ℕ → List ℕ → List ℕ → List Column → Table
 numbered_table tree name key columns = record {
   name = name;
@@ -68,7 +68,7 @@ numbered_table tree name key columns = record {
   is_counted = false;
 }
 
--- a table whose key is its first columns
+-- A table whose key is its first columns.
 abbrev pub keyed_table : ℕ → List ℕ → List ℕ → List Column → Table
 keyed_table tree name key columns = record {
   name = name;
@@ -110,7 +110,7 @@ version_columns more =
     ∷ number_or_null (codes "deadline") ∷ number_column (codes "holds") ∷ number_column
     (codes "opens") ∷ more
 
--- a table of versions: two of its columns are unique
+-- A table of versions, with two unique columns.
 abbrev pub a_version_table : ℕ → List ℕ → List Column → Table
 a_version_table tree name columns =
     record (numbered_table tree name (codes "id") columns) {
@@ -118,7 +118,7 @@ a_version_table tree name columns =
       orders = plain ∷ plain ∷ [];
     }
 
--- of the versions of files of an earlier form
+-- The versions of an earlier schema.
 abbrev pub old_version_table : Table
 old_version_table = a_version_table 5 (codes "version") (version_columns [])
 
@@ -134,7 +134,7 @@ wait_table = keyed_table 10 (codes "wait") (1 ∷ 2 ∷ 3 ∷ 4 ∷ [])
     (text_column (codes "spid") ∷ number_column (codes "minute") ∷ number_column (codes "id")
     ∷ number_column (codes "attempt") ∷ number_column (codes "subject") ∷ [])
 
--- the nine windows
+-- The columns of the nine windows.
 abbrev pub window_columns : List Column
 window_columns =
     number_column (codes "initial_concurrence") ∷ number_column (codes "final_concurrence")
@@ -149,13 +149,13 @@ clock_settings = number_column (codes "now") ∷ number_column (codes "next_id")
 abbrev pub clock_columns : List Column
 clock_columns = number_or_null (codes "one") ∷ clock_settings
 
--- of files of an earlier form
+-- The clock of an earlier schema.
 abbrev pub old_clock_table : Table
 old_clock_table = numbered_table 12 (codes "clock") (codes "one") clock_settings
 
--- ---- tables that were made after the indexes: files of an earlier form have none of them
+-- ---- tables created after the indexes: the first schema has none of them
 
--- where a version that sends a modify is to be routed
+-- The routings that versions are sending in modifies.
 abbrev pub next_routing_table : Table
 next_routing_table =
     numbered_table 16 (codes "next_routing") (codes "id")
@@ -221,7 +221,7 @@ wait_broadcast = plain_index (codes "wait_broadcast") 15 10 (3 ∷ 4 ∷ [])
 abbrev pub version2_deadline : Index
 version2_deadline = plain_index (codes "version2_deadline") 22 18 (18 ∷ [])
 
--- the indexes of the tables that were made last
+-- The indexes of the unique columns of the versions.
 abbrev pub version_keys : List Index
 version_keys = unique_index (codes "sqlite_autoindex_version2_1") 19 18 (19 ∷ []) ∷ unique_index
     (codes "sqlite_autoindex_version2_2") 20 18 (20 ∷ []) ∷ []
@@ -268,7 +268,7 @@ the_schema = record {
   views = [];
 }
 
--- of files of the first form, and of those that know a modify and no sets of windows
+-- The first schema, and the one with modifies but without sets of windows.
 abbrev pub first_schema : Schema
 first_schema = record { tables = tables_with []; indexes = indexes_with []; views = [] }
 

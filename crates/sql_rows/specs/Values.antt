@@ -1,4 +1,4 @@
--- Stored values as values of the rows. A value that is none of its column's is no value.
+-- Stored values as values of rows. A value that is not of its column's type reads as `None`.
 use Rattle.std.specs.Prelude.{ℕ, ℤ, ◌+◌, ◌*◌, ◌/◌, ◌%◌, pos, negsuc, nat_lt, nat_le, Bool, true, false, ◌&&◌, if◌then◌else◌, List, [], ◌∷◌, codes, bytes_eq, Option, Some, None, option_map, option_and_then}
 use Rattle.std.specs.Ordering.{int_eq}
 use Rattle.sqlite.specs.declared.types.Value.{Value}
@@ -14,7 +14,7 @@ use Rattle.model.specs.declared.words.Side.TheVariants.{OldProvider, NewProvider
 use Rattle.model.specs.Changes.{action_of}
 use Rattle.model.specs.Statuses.{Send, Create as CreateSend, Delete as DeleteSend, Modify as ModifySend, Status, Pending, Conflict, CancelPending, Sending, Active, PartialFailure, Failed, DisconnectPending, Old, Canceled}
 
--- a whole number that a column holds
+-- A whole number that a column can hold.
 abbrev pub number_in : Value → Option ℕ
 number_in (Int (pos n)) = if nat_lt n 9223372036854775808 then Some n else None
 number_in _ = None
@@ -28,7 +28,7 @@ minute_in v = option_and_then (below 1099511627776) (number_in v)
 abbrev pub lrn_in : Value → Option ℕ
 lrn_in v = option_and_then (below 10000000000) (number_in v)
 
--- the first six digits of a telephone number
+-- A code: the first six digits of a telephone number.
 abbrev pub code_from : ℕ → Option ℕ
 code_from n = if nat_lt n 1000000 && (nat_le 2 (n / 100000) && nat_le 2 (n / 100 % 10)) then Some n
     else None
@@ -36,7 +36,7 @@ code_from n = if nat_lt n 1000000 && (nat_le 2 (n / 100000) && nat_le 2 (n / 100
 abbrev pub code_in : Value → Option ℕ
 code_in v = option_and_then code_from (number_in v)
 
--- the first seven
+-- A block: the first seven digits of a telephone number.
 abbrev pub block_from : ℕ → Option ℕ
 block_from n = if nat_lt n 10000000 && (nat_le 2 (n / 1000000) && nat_le 2 (n / 1000 % 10))
     then Some n else None
@@ -47,14 +47,14 @@ block_in v = option_and_then block_from (number_in v)
 abbrev pub cic_in : Value → Option ℕ
 cic_in v = option_and_then (below 10000) (number_in v)
 
--- a window of a minute to a year
+-- A window of a minute to a year.
 abbrev pub window_from : ℕ → Option ℕ
 window_from n = if nat_lt 0 n && nat_le n 525600 then Some n else None
 
 abbrev pub window_in : Value → Option ℕ
 window_in v = option_and_then window_from (number_in v)
 
--- the number of a set of windows
+-- The number of a set of windows: 1 to 1,000.
 abbrev pub set_from : ℕ → Option ℕ
 set_from n = if nat_lt 0 n && nat_le n 1000 then Some n else None
 
@@ -67,7 +67,7 @@ bool_from n = if nat_lt n 1 then Some false else (if nat_lt n 2 then Some true e
 abbrev pub bool_in : Value → Option Bool
 bool_in v = option_and_then bool_from (number_in v)
 
--- seven digits are a block, ten a number
+-- A subject: a block has seven digits, a number ten.
 abbrev pub subject_from : ℕ → Option Subject
 subject_from n =
     if nat_lt n 10000000
@@ -88,7 +88,7 @@ abbrev pub spid_in : Value → Option ℕ
 spid_in (Text t) = spid_from t
 spid_in _ = None
 
--- NULL, or a value
+-- `None` for NULL, otherwise a value.
 abbrev pub or_null_in : {X : Type 0} → (Value → Option X) → Value → Option (Option X)
 or_null_in read Null = Some None
 or_null_in read v = option_map Some (read v)
@@ -101,8 +101,8 @@ abbrev pub action_in : Value → Option Action
 action_in v = if is_word (codes "create") v then Some Create else (if is_word (codes "delete") v
     then Some Delete else (if is_word (codes "modify") v then Some Modify else None))
 
--- what a version sends. Where it sends a modify, this is to the routing that it has: the one under
--- way stands elsewhere
+-- What a version sends. A modify is read as one to the version's own routing, because the routing
+-- that it sends is in another table.
 abbrev pub send_in : (own : Option Routing) → Value → Option Send
 send_in own v = if is_word (codes "create") v then Some CreateSend
     else (if is_word (codes "delete") v then Some DeleteSend else (if is_word (codes "modify") v
@@ -120,18 +120,18 @@ abbrev pub is_int : ℤ → Value → Bool
 is_int n (Int m) = int_eq m n
 is_int n _ = false
 
--- the number of the only row of its table
+-- The number of the only row of its table.
 abbrev pub only_in : Value → Option ℕ
 only_in v = if is_int (pos 0) v then Some 0 else None
 
--- a column by which the subject's row is found, and whether it is: the subject itself, or else -1 -
--- id, which is no subject, and no other row's
+-- Whether the row is found by its subject in a column. The column has the subject if so, and
+-- otherwise -1 - id, which is neither a subject nor another row's value.
 abbrev pub found_in : (id : ℕ) → Subject → Value → Option Bool
 found_in id s v =
     if is_int (negsuc id) v then Some false else (
     if is_int (pos (subject_number s)) v then Some true else None)
 
--- a status by its name, and by what it sends, when it is released, or who cancelled
+-- A status by its name, and by what it sends, when it is released, or who cancelled it.
 abbrev pub status_in : (own : Option Routing) → (status sends release by : Value) → Option Status
 status_in own status sends release by =
     if is_word (codes "pending") status then Some Pending else (
@@ -149,13 +149,13 @@ status_in own status sends release by =
 abbrev pub routed : ℕ → Option ℕ → Routing
 routed l c = record { lrn = l; cic = c }
 
--- where it is routed, if it has a routing number
+-- The routing, if there is a routing number.
 abbrev pub routing_in : (lrn cic : Value) → Option (Option Routing)
 routing_in Null cic = Some None
 routing_in lrn cic =
     option_and_then (λ l. option_map (λ c. Some (routed l c)) (or_null_in cic_in cic)) (lrn_in lrn)
 
--- ---- values as they are stored
+-- ---- values as stored
 
 abbrev pub number_value : ℕ → Value
 number_value n = Int (pos n)
@@ -215,7 +215,7 @@ abbrev pub by_value : Status → Value
 by_value (CancelPending side) = Text (side_word side)
 by_value _ = Null
 
--- the subject in a column by which its row is found, or what says that it is not
+-- The value of a subject column: the subject if the row is found by it, otherwise -1 - id.
 abbrev pub found_value : (id : ℕ) → Option Subject → Value
 found_value id None = Int (negsuc id)
 found_value id (Some s) = subject_value s

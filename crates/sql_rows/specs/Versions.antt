@@ -1,4 +1,4 @@
--- A version's row in its table, and back.
+-- A version's row, as stored and as read.
 use Rattle.std.specs.Prelude.{ℕ, pos, Bool, true, [], ◌∷◌, Some, None, is_some, Option, option_map, option_and_then}
 use Rattle.sqlite.specs.declared.types.Value.TheVariants.{Null, Int, Text}
 use Rattle.sqlite.specs.Order.{Row, column}
@@ -8,8 +8,8 @@ use Rattle.model.specs.Statuses.{Send, Create, Delete, Modify, Status, Pending, 
 use Rattle.model.specs.Content.{VersionRow, subject_if}
 use Rattle.sql_rows.specs.Values.{number_in, subject_in, spid_in, minute_in, found_in, routing_in, or_null_in, status_in, bool_in, set_number_in, number_value, subject_value, spid_value, bool_value, lrn_value, cic_value, status_word, sends_word, release_value, by_value, found_value}
 
--- what a query shows of a version: its id, and its row. `held` is the number of the set that it
--- holds
+-- The id and the row of a version that a query shows. `held` is the number of the set that it
+-- holds.
 abbrev pub version_with : (held : Option ℕ) → Row → Option (ℕ × VersionRow)
 version_with held r =
     option_and_then
@@ -57,11 +57,11 @@ version_with held r =
 abbrev pub version_in : Row → Option (ℕ × VersionRow)
 version_in r = version_with (set_number_in (column r 20)) r
 
--- of a file of an earlier form: each holds set 1
+-- A version of an earlier schema: it holds set 1.
 abbrev pub old_version_in : Row → Option (ℕ × VersionRow)
 old_version_in r = version_with (Some 1) r
 
--- a stored row as a query shows it
+-- A stored row as a query shows it.
 abbrev pub shown_of : Row → Row
 shown_of r =
     column r 0 ∷ column r 2 ∷ column r 3 ∷ column r 4 ∷ column r 5 ∷ column r 6 ∷ column r 7
@@ -82,7 +82,7 @@ old_shown_of r =
 abbrev pub old_version_entry : Row → Option (ℕ × VersionRow)
 old_version_entry r = old_version_in (old_shown_of r)
 
--- a row without the routing under way: as the table has it
+-- A row as its table has it, without the routing that it sends.
 abbrev pub bare_send : Option Routing → Send → Send
 bare_send own Create = Create
 bare_send own Delete = Delete
@@ -104,7 +104,7 @@ bare_status own Canceled = Canceled
 abbrev pub bare : VersionRow → VersionRow
 bare v = record v { status = bare_status v.routing v.status }
 
--- the routing that a version sends, which has a table of its own, and a bare row with it
+-- The routing that a version sends, which has a table of its own, and a bare row with it.
 abbrev pub next_of : Status → Option Routing
 next_of (Sending (Modify put)) = Some put
 next_of _ = None
@@ -130,16 +130,16 @@ rerouted_status next Canceled = Canceled
 abbrev pub rerouted : Option Routing → VersionRow → VersionRow
 rerouted next v = record v { status = rerouted_status next v.status }
 
--- a row that sends a modify to this
+-- The row sending a modify to this routing.
 abbrev pub modified_to : Routing → VersionRow → VersionRow
 modified_to put v = record v { status = Sending (Modify put) }
 
--- whether the row says where it is routed while it sends a modify
+-- Whether the version has a routing if it is sending a modify.
 abbrev pub is_routed_while_modified : Option Routing → Status → Bool
 is_routed_while_modified own (Sending (Modify put)) = is_some own
 is_routed_while_modified own _ = true
 
--- the parameters of the statement that inserts it, after the id
+-- The parameters after the id of the statement that inserts the version.
 abbrev pub version_values : ℕ → VersionRow → Row
 version_values id v =
     subject_value v.subject ∷ spid_value v.old_provider ∷ spid_value v.new_provider ∷ number_value
@@ -154,6 +154,6 @@ version_values id v =
 abbrev pub version_params : ℕ → VersionRow → Row
 version_params id v = Int (pos id) ∷ version_values id v
 
--- the row as it is stored
+-- The row as stored.
 abbrev pub version_row : ℕ → VersionRow → Row
 version_row id v = Int (pos id) ∷ Null ∷ version_values id v

@@ -1,4 +1,4 @@
-//! Values that rows are read as.
+//! Reads values from the rows of a query.
 ghost use Rattle.std.specs.Prelude.{◌≡◌, Option, option_map, IfOk, map};
 ghost use Rattle.sqlite.specs.Order.{Row as RowModel};
 ghost use Rattle.sql_rows.specs.Found.{AreRead, IsSole};
@@ -7,23 +7,26 @@ use crate::fault::Fault;
 use sqlite::Row;
 use std::alloc::Global;
 
-/// What a row of a query is read as.
+/// A value read from a row of a query.
 pub trait FromRow: Sized {
-    // what the definitions see of it
+    // The model of the value.
     ghost Seen: { Type 0 };
 
     ghost seen: { Self → Seen };
 
-    // what they see of a row, if it reads
+    // The model of the value in a row, if the row can be read.
     ghost seen_in: { RowModel → Option Seen };
 
-    /// The value, or `None` where a column holds none of its type.
+    /// Reads the value. Returns `None` if a column has no value of its type.
     fn read(row: &Row) -> Option<Self>
         ensures { option_map seen result ≡ seen_in row.now };
 }
 
-/// The only row, where there is one: more than one, or one that does not read, is a fault of the
-/// device.
+/// Returns the value of the only row, or `None` if there is no row.
+///
+/// # Errors
+///
+/// `Device` if there is more than one row, or the row cannot be read.
 pub fn sole<T: FromRow>(rows: &[Row]) -> Result<Option<T>, Fault>
     ensures { IfOk result (λ o. IsSole T.seen_in rows.now (option_map T.seen o)) }
 {
@@ -37,7 +40,11 @@ pub fn sole<T: FromRow>(rows: &[Row]) -> Result<Option<T>, Fault>
     }
 }
 
-/// Each row read, in turn: one that does not read is a fault of the device.
+/// Returns the values of the rows, in their order.
+///
+/// # Errors
+///
+/// `Device` if a row cannot be read; `Memory` if an allocation fails.
 pub fn all<T: FromRow + Drop>(alloc: Global, rows: &[Row]) -> Result<Vec<T>, Fault>
     ensures { IfOk result (λ items. AreRead T.seen_in rows.now (map T.seen items.items)) }
 {

@@ -1,4 +1,4 @@
-//! Rows with their keys, as a query shows them.
+//! Rows of queries, with their keys.
 ghost use Rattle.std.specs.Prelude.{◌≡◌, ◌<◌, option_map};
 ghost use Rattle.version.specs.Abstraction.{windows_of};
 ghost use Rattle.sql_rows.specs.Content.{windows_in};
@@ -30,7 +30,7 @@ impl FromRow for Spid {
     }
 }
 
-/// A routing number, and the provider who registered it.
+/// A routing number, and the carrier that registered it.
 #[derive(Clone, Copy, Debug, PartialEq, Eq)]
 pub struct KeyedLrn {
     pub lrn: Lrn,
@@ -56,7 +56,7 @@ impl FromRow for KeyedLrn {
     }
 }
 
-/// A code, and the provider for whom it was opened.
+/// A code, and its holder.
 #[derive(Clone, Copy, Debug, PartialEq, Eq)]
 pub struct KeyedCode {
     pub code: CodeId,
@@ -82,7 +82,7 @@ impl FromRow for KeyedCode {
     }
 }
 
-/// A donated block's row with the block.
+/// A donated block, and its row.
 #[derive(Clone, Copy, Debug, PartialEq, Eq)]
 pub struct KeyedBlock {
     pub block: BlockId,
@@ -112,7 +112,7 @@ impl FromRow for KeyedBlock {
     }
 }
 
-/// A broadcast with its key.
+/// A broadcast, and its key.
 #[derive(Clone, Copy, Debug, PartialEq, Eq)]
 pub struct KeyedBroadcast {
     pub key: BroadcastKey,
@@ -148,7 +148,7 @@ impl FromRow for KeyedBroadcast {
     }
 }
 
-/// A download that waits, with its subject.
+/// A pending download, and its subject.
 #[derive(Clone, Copy, Debug, PartialEq, Eq)]
 pub struct KeyedWait {
     pub key: WaitKey,
@@ -181,7 +181,7 @@ impl FromRow for KeyedWait {
     }
 }
 
-/// The routing that a version sends, with the version's id.
+/// The routing that a version is sending, and the version's id.
 #[derive(Clone, Copy, Debug, PartialEq, Eq)]
 pub struct KeyedRouting {
     pub id: u64,
@@ -209,7 +209,7 @@ impl FromRow for KeyedRouting {
     }
 }
 
-/// A set of windows, as it is stored under its number.
+/// A set of windows, stored under its number.
 #[derive(Clone, Copy, Debug, PartialEq, Eq)]
 pub struct KeyedSet {
     pub set: WindowSet,
@@ -237,7 +237,7 @@ impl FromRow for KeyedSet {
     }
 }
 
-/// The clock's row as it is stored: of the present set its number alone.
+/// The clock's row as stored, with only the number of the current set of windows.
 #[derive(Clone, Copy, Debug, PartialEq, Eq)]
 pub struct StoredClock {
     pub minute: Minute,
@@ -245,7 +245,7 @@ pub struct StoredClock {
     pub present: u16,
 }
 
-/// The clock's row, with the number under which it stands.
+/// The clock's row, and its number.
 #[derive(Clone, Copy, Debug, PartialEq, Eq)]
 pub struct KeyedClock {
     pub number: u64,
@@ -275,7 +275,7 @@ impl FromRow for KeyedClock {
     }
 }
 
-/// The clock's row of a file of an earlier form, in which the nine windows stand.
+/// The clock's row in an earlier schema, which has the nine windows.
 #[derive(Clone, Copy, Debug, PartialEq, Eq)]
 pub struct OldClock {
     pub number: u64,
@@ -306,7 +306,7 @@ impl FromRow for OldClock {
     }
 }
 
-// The nine windows in the columns from this one on.
+// Reads the nine windows in the columns from `first` on.
 fn windows_at(row: &Row, first: usize) -> Option<Windows>
     requires { first < 100 }
     ensures { option_map windows_of result ≡ windows_in first row.now }

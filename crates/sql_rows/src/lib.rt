@@ -1,5 +1,5 @@
-//! The rows of a register as a database of SQL keeps them: its schema, the texts of all statements,
-//! and the values of the rows on their way in and out.
+//! The rows of a register in an SQL database: the schema, the texts of all statements, and the
+//! values of rows as read and written.
 #![tactic(auto)]
 
 mod fault;

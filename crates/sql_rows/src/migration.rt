@@ -1,17 +1,17 @@
-//! What is made of a file of an earlier form.
+//! Migration of files with earlier schemas.
 ghost use Rattle.std.specs.Prelude.{◌≡◌};
 ghost use Rattle.sql_rows.specs.Migration.{clear_text, create_text, index_text};
 
-/// The forms of files before this one.
+/// The earlier schemas of files.
 #[derive(Clone, Copy, Debug, PartialEq, Eq)]
 pub enum SchemaVersion {
-    /// It knows no modify.
+    /// The schema without modifies.
     First,
-    /// It knows a modify, and no sets of windows.
+    /// The schema with modifies, but without sets of windows.
     Modify,
 }
 
-/// The tables that a file of an earlier form lacks, in the order in which they are made.
+/// The tables that an earlier schema lacks, in the order of their creation.
 #[derive(Clone, Copy, Debug, PartialEq, Eq)]
 pub enum NewTable {
     NextRouting,
@@ -21,6 +21,7 @@ pub enum NewTable {
 }
 
 impl NewTable {
+    /// Returns the text that creates the table.
     pub fn create_text(self) -> &'static str
         ensures { result.now ≡ create_text self }
     {
@@ -54,14 +55,14 @@ impl NewTable {
     }
 }
 
-/// The index of the versions by their deadlines, which is made last.
+/// Returns the text that creates the index of versions by deadline, after all tables.
 pub fn index_text() -> &'static str
     ensures { result.now ≡ index_text }
 {
     "CREATE INDEX version2_deadline ON version2 (deadline)"
 }
 
-/// The tables of an earlier form that are emptied.
+/// The tables of earlier schemas that a migration empties.
 #[derive(Clone, Copy, Debug, PartialEq, Eq)]
 pub enum OldTable {
     Version,
@@ -69,6 +70,7 @@ pub enum OldTable {
 }
 
 impl OldTable {
+    /// Returns the text that deletes all rows of the table.
     pub fn clear_text(self) -> &'static str
         ensures { result.now ≡ clear_text self }
     {

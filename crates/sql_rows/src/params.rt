@@ -1,4 +1,4 @@
-//! What the statements take that put rows in. A provider's text is `spid_bytes` of its number.
+//! Parameters of the statements that insert rows. A provider's text is `spid_bytes` of its number.
 ghost use Rattle.std.specs.Prelude.{◌≡◌, ◌<◌, ◌≤◌, map, IfSome, IsTrue};
 ghost use Rattle.sqlite.specs.Value.{owned};
 ghost use Rattle.numbers.specs.Texts.{spid_text};
@@ -17,7 +17,7 @@ use settle::{BlockRow, BroadcastKey, WaitKey};
 use sqlite::types::ValueRef;
 use windows::WindowSet;
 
-/// A donated block's columns.
+/// Returns the columns of a donated block.
 pub fn block_params<'a>(block: u64, row: &BlockRow, donor: &'a [u8; 4]) -> [ValueRef<'a>; 3]
     requires small { block < 9223372036854775808 }
     requires last { IfSome row.now.last (λ id. id < 9223372036854775808) }
@@ -31,7 +31,7 @@ pub fn block_params<'a>(block: u64, row: &BlockRow, donor: &'a [u8; 4]) -> [Valu
     ]
 }
 
-/// Whether a column holds the block's last id.
+/// Returns whether a column can hold the block's last id.
 pub fn fits_block(row: &BlockRow) -> bool
     ensures { IsTrue result → IfSome row.now.last (λ id. id < 9223372036854775808) }
 {
@@ -41,7 +41,7 @@ pub fn fits_block(row: &BlockRow) -> bool
     }
 }
 
-/// The columns of a broadcast's key.
+/// Returns the columns of a broadcast's key.
 pub fn broadcast_key(key: BroadcastKey) -> [ValueRef<'static>; 2]
     requires small { key.id < 9223372036854775808 }
     requires few { key.attempt < 9223372036854775808 }
@@ -50,7 +50,7 @@ pub fn broadcast_key(key: BroadcastKey) -> [ValueRef<'static>; 2]
     [number(key.id), number(key.attempt)]
 }
 
-/// The columns of a download's key.
+/// Returns the columns of a download's key.
 pub fn wait_key<'a>(key: WaitKey, carrier: &'a [u8; 4]) -> [ValueRef<'a>; 4]
     requires small { key.id < 9223372036854775808 }
     requires few { key.attempt < 9223372036854775808 }
@@ -65,7 +65,7 @@ pub fn wait_key<'a>(key: WaitKey, carrier: &'a [u8; 4]) -> [ValueRef<'a>; 4]
     ]
 }
 
-/// A broadcast's columns.
+/// Returns the columns of a broadcast.
 pub fn broadcast_params(key: BroadcastKey, broadcast: &Broadcast) -> [ValueRef<'static>; 9]
     requires small { key.id < 9223372036854775808 }
     requires few { key.attempt < 9223372036854775808 }
@@ -85,7 +85,7 @@ pub fn broadcast_params(key: BroadcastKey, broadcast: &Broadcast) -> [ValueRef<'
     ]
 }
 
-/// The columns of a download that waits.
+/// Returns the columns of a pending download.
 pub fn wait_params<'a>(key: WaitKey, of: Subject, carrier: &'a [u8; 4]) -> [ValueRef<'a>; 5]
     requires small { key.id < 9223372036854775808 }
     requires few { key.attempt < 9223372036854775808 }
@@ -101,7 +101,7 @@ pub fn wait_params<'a>(key: WaitKey, of: Subject, carrier: &'a [u8; 4]) -> [Valu
     ]
 }
 
-/// The columns of the routing that a version sends.
+/// Returns the columns of the routing that a version is sending.
 pub fn next_params(id: u64, routing: Routing) -> [ValueRef<'static>; 3]
     requires small { id < 9223372036854775808 }
     ensures { map owned result ≡ next_params id (routing_of routing) }
@@ -109,7 +109,7 @@ pub fn next_params(id: u64, routing: Routing) -> [ValueRef<'static>; 3]
     [number(id), lrn(Some(routing)), cic(Some(routing))]
 }
 
-/// Whether a column holds the number of a set of windows.
+/// Returns whether a column can hold this number of a set of windows: 1 to 1,000.
 pub fn is_set_number(number: u16) -> bool
     ensures low { IsTrue result → 0 < number }
     ensures high { IsTrue result → number ≤ 1000 }
@@ -117,7 +117,7 @@ pub fn is_set_number(number: u16) -> bool
     0 < number && number <= 1000
 }
 
-/// The columns of a set of windows.
+/// Returns the columns of a set of windows.
 pub fn set_params(set: &WindowSet) -> [ValueRef<'static>; 10]
     ensures { map owned result ≡ set_params set.now.number (windows_of set.now.windows) }
 {
@@ -136,7 +136,7 @@ pub fn set_params(set: &WindowSet) -> [ValueRef<'static>; 10]
     ]
 }
 
-/// The clock's columns.
+/// Returns the columns of the clock.
 pub fn clock_params(row: &StoredClock) -> [ValueRef<'static>; 4]
     requires few { row.now.next_id < 9223372036854775808 }
     ensures { map owned result ≡ clock_params 0 (clock_of row.now) }

@@ -1,4 +1,4 @@
-//! Stored values as values of the rows. A value that is none of its column's type reads as `None`.
+//! Reads stored values as values of rows. A value that is not of its column's type reads as `None`.
 ghost use Rattle.std.specs.Prelude.{◌≡◌, ◌<◌, ◌+◌, ◌*◌, option_map, IfSome};
 ghost use Rattle.sqlite.specs.Order.{column};
 ghost use Rattle.sqlite.specs.Ops.{is_null};
@@ -73,7 +73,7 @@ pub fn window_at(row: &Row, at: usize) -> Option<Window>
     }
 }
 
-/// The number of a set of windows: from 1 to 1,000.
+/// Reads the number of a set of windows: 1 to 1,000.
 pub fn set_number_at(row: &Row, at: usize) -> Option<u16>
     ensures { result ≡ set_number_in (column row.now at) }
 {
@@ -134,15 +134,15 @@ fn is_int(row: &Row, at: usize, number: i64) -> bool
     }
 }
 
-/// The number of the only row of its table, which is 0.
+/// Reads the number of the only row of its table, which is 0.
 pub fn only_at(row: &Row, at: usize) -> Option<u64>
     ensures { result ≡ only_in (column row.now at) }
 {
     if is_int(row, at, 0) { Some(0) } else { None }
 }
 
-/// Whether the row with the id is found by its subject in this column: the subject itself, or else
-/// what says that it is not.
+/// Reads whether the row with the id is found by its subject in this column. The column has the
+/// subject if so, and otherwise `not_found(id)`.
 pub fn found_at(row: &Row, at: usize, id: u64, subject: Subject) -> Option<bool>
     requires { id < 9223372036854775808 }
     ensures { result ≡ found_in id (subject_of subject) (column row.now at) }
@@ -162,7 +162,7 @@ fn is_character(byte: u8) -> bool
     matches!(byte, b'A'..=b'Z' | b'0'..=b'9')
 }
 
-// The number of four bytes, the highest first.
+// Returns the number made of four bytes, `a` the highest.
 fn number_of(a: u8, b: u8, c: u8, d: u8) -> u32
     ensures { result ≡ a * 16777216 + b * 65536 + c * 256 + d }
 {
@@ -215,7 +215,7 @@ pub fn action_at(row: &Row, at: usize) -> Option<Action>
     }
 }
 
-// What a version sends that is routed to `own`.
+// Reads what a version with the routing `own` sends. A modify is read as one to `own`.
 fn send_at(row: &Row, at: usize, own: Option<Routing>) -> Option<Send>
     ensures { option_map send_of result
         ≡ send_in (option_map routing_of own) (column row.now at) }
@@ -244,7 +244,7 @@ fn side_at(row: &Row, at: usize) -> Option<Side>
     }
 }
 
-/// A status in four columns, of a version that is routed to `own`.
+/// Reads a status from four columns, of a version with the routing `own`.
 pub fn status_at(
     row: &Row,
     at: usize,

@@ -1,4 +1,4 @@
-//! The texts of all statements. A connection keeps the last 64 of them as it understood them.
+//! The texts of all statements. A connection caches the last 64 of them after parsing.
 ghost use Rattle.std.specs.Prelude.{◌≡◌};
 ghost use Rattle.sql_rows.specs.Statements.{all_text, delete_text, insert_text, query_text};
 
@@ -9,11 +9,11 @@ pub enum Table {
     Lrn,
     Code,
     Block,
-    /// Versions of files of an earlier form. It is empty in a file of this one.
+    /// The versions of an earlier schema. Empty in a file with the current one.
     OldVersion,
     Broadcast,
     Wait,
-    /// The clock of files of an earlier form. It is empty in a file of this one.
+    /// The clock of an earlier schema. Empty in a file with the current one.
     OldClock,
     NextRouting,
     WindowSet,
@@ -22,7 +22,7 @@ pub enum Table {
 }
 
 impl Table {
-    /// Takes the row with a key away. The parameters are the columns of the key.
+    /// Returns the text that deletes the row with a key. The parameters are the columns of the key.
     pub fn delete_text(self) -> &'static str
         ensures { result.now ≡ delete_text self }
     {
@@ -45,7 +45,7 @@ impl Table {
         }
     }
 
-    /// All rows, each with its columns.
+    /// Returns the text that selects all rows, each with its columns.
     pub fn all_text(self) -> &'static str
         ensures { result.now ≡ all_text self }
     {
@@ -85,7 +85,7 @@ impl Table {
         }
     }
 
-    /// Puts a row in. The parameters are its columns.
+    /// Returns the text that inserts a row. The parameters are its columns.
     pub fn insert_text(self) -> &'static str
         ensures { result.now ≡ insert_text self }
     {
@@ -135,7 +135,7 @@ impl Table {
     }
 }
 
-/// What is asked of a file.
+/// A query of a file.
 #[derive(Clone, Copy, Debug, PartialEq, Eq)]
 pub enum Query {
     /// The carrier with a SPID.
@@ -146,35 +146,35 @@ pub enum Query {
     CodeNumbered,
     /// The donated block.
     BlockNumbered,
-    /// The clock's row, which has the number 0.
+    /// The clock's row, whose number is 0.
     ClockNumbered,
     /// The set of windows with a number.
     WindowSetNumbered,
-    /// The routing under way of the version with an id.
+    /// The routing that the version with an id is sending.
     NextRoutingNumbered,
     /// The version with an id.
     VersionNumbered,
-    /// The same in the table of the earlier forms.
+    /// The version with an id, in the table of the earlier schemas.
     OldVersionNumbered,
     /// A subject's version in force.
     VersionInForce,
     /// A subject's open version.
     VersionOpen,
-    /// The version whose deadline is least, where that has come.
+    /// The version with the least deadline, if that has come.
     VersionDue,
-    /// The broadcast of a version by its attempt.
+    /// The broadcast of an attempt of a version.
     BroadcastKeyed,
-    /// Every row of a table.
+    /// All rows of a table.
     All(Table),
-    /// The broadcasts that are open, or not.
+    /// All broadcasts that are open, or all that are not.
     BroadcastsByOpen,
-    /// A subject's downloads that wait for a carrier.
+    /// A subject's downloads that are pending for a carrier.
     WaitsAbout,
-    /// All that waits for a carrier.
+    /// All downloads that are pending for a carrier.
     WaitsFor,
-    /// The first of what waits for a carrier, so many.
+    /// The first downloads that are pending for a carrier, up to a count.
     WaitsFirst,
-    /// All that waits of a broadcast.
+    /// All pending downloads of a broadcast.
     WaitsOf,
     /// The versions in force of the numbers from one to another.
     InForceAmong,
@@ -183,7 +183,7 @@ pub enum Query {
 }
 
 impl Query {
-    /// The columns are those of the table, in their order.
+    /// Returns the text of the query. Its columns are those of the table, in their order.
     pub fn text(self) -> &'static str
         ensures { result.now ≡ query_text self }
     {

@@ -1,4 +1,4 @@
-//! Values on their way into a statement.
+//! Values of rows as parameters of statements.
 ghost use Rattle.std.specs.Prelude.{◌≡◌, ◌<◌, pos, negsuc, option_map, IfSome};
 ghost use Rattle.sqlite.specs.declared.types.Value.TheVariants.{Int, Text};
 ghost use Rattle.sqlite.specs.Value.{owned};
@@ -13,6 +13,7 @@ use numbers::{Cic, Minute, Routing, Subject};
 use sqlite::types::ValueRef;
 use windows::Window;
 
+/// Returns a number as an integer.
 pub fn number(n: u64) -> ValueRef<'static>
     requires { n < 9223372036854775808 }
     ensures { owned result ≡ Int (pos n) }
@@ -20,6 +21,7 @@ pub fn number(n: u64) -> ValueRef<'static>
     ValueRef::Int(n as i64)
 }
 
+/// Returns a minute as an integer.
 pub fn minute(minute: Minute) -> ValueRef<'static>
     ensures { owned result ≡ number_value minute.number }
 {
@@ -61,14 +63,15 @@ pub fn subject_number(subject: Subject) -> u64
     }
 }
 
+/// Returns a subject as an integer: the seven digits of a block, or the ten of a number.
 pub fn subject(subject: Subject) -> ValueRef<'static>
     ensures { owned result ≡ subject_value (subject_of subject) }
 {
     number(subject_number(subject))
 }
 
-/// What stands in a column by which subjects are found where the row with the id is not found:
-/// a number that is no subject's, and no other row's, so that the column is unique without `NULL`.
+/// Returns the value of a subject column for a row that is not found by it. It is neither a
+/// subject's number nor another row's value, so the column is unique without `NULL`.
 pub fn not_found(id: u64) -> i64
     requires { id < 9223372036854775808 }
     ensures { result ≡ negsuc id }
@@ -76,7 +79,7 @@ pub fn not_found(id: u64) -> i64
     -1 - id as i64
 }
 
-/// What stands in a column by which subjects are found.
+/// Returns the value of a subject column: the subject if the row is found by it.
 pub fn found(id: u64, given: Option<Subject>) -> ValueRef<'static>
     requires { id < 9223372036854775808 }
     ensures { owned result ≡ found_value id (option_map subject_of given) }
@@ -87,20 +90,21 @@ pub fn found(id: u64, given: Option<Subject>) -> ValueRef<'static>
     }
 }
 
-/// The four bytes of a provider, the highest first.
+/// Returns the four bytes of a provider, the highest first.
 pub fn spid_bytes(number: u32) -> [u8; 4]
     ensures { result ≡ spid_text number }
 {
     number.to_be_bytes()
 }
 
-/// The bytes of a text.
+/// Returns the bytes as a text.
 pub fn text<'a>(bytes: &'a [u8; 4]) -> ValueRef<'a>
     ensures { owned result ≡ Text bytes.now }
 {
     ValueRef::Text(bytes)
 }
 
+/// Returns 0 for false and 1 for true.
 pub fn truth(is: bool) -> ValueRef<'static>
     ensures { owned result ≡ bool_value is }
 {

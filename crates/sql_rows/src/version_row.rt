@@ -1,4 +1,4 @@
-//! A version's row as a query shows it, and as a statement takes it.
+//! Reads and writes the rows of versions.
 ghost use Rattle.std.specs.Prelude.{◌≡◌, ◌<◌, map, option_map, Some, IsTrue};
 ghost use Rattle.sqlite.specs.Value.{owned};
 ghost use Rattle.numbers.specs.Texts.{spid_text};
@@ -38,7 +38,7 @@ impl FromRow for NumberedRow {
     }
 }
 
-/// A version of a file of an earlier form: it holds set 1.
+/// A version of an earlier schema, which holds set 1.
 #[derive(Debug, Drop)]
 pub struct OldVersion {
     pub version: NumberedRow,
@@ -62,7 +62,7 @@ impl FromRow for OldVersion {
     }
 }
 
-// A version by its columns, and by the number of the set of windows that it holds.
+// Reads a version from its columns, given the number of the set of windows that it holds.
 fn version_at(row: &Row, held: Option<u16>) -> Option<NumberedRow>
     ensures { option_map (λ (v : NumberedRow). (v.id, v.row)) result ≡ version_with held row.now }
 {
@@ -94,7 +94,7 @@ fn version_at(row: &Row, held: Option<u16>) -> Option<NumberedRow>
     })
 }
 
-// Whether the row says where it is routed while it sends a modify.
+// Returns whether the version has a routing if it is sending a modify.
 fn is_routed_while_modified(version: &Version) -> bool
     ensures { result
         ≡ is_routed_while_modified (routings_of version.now.routing)
@@ -106,8 +106,8 @@ fn is_routed_while_modified(version: &Version) -> bool
     }
 }
 
-/// Whether a column holds the id, the attempt and the number of the set. Each other value fits its
-/// column.
+/// Returns whether the row can be stored: the id, the attempt and the number of the set fit their
+/// columns, and a version that is sending a modify has a routing. Any other value fits its column.
 pub fn fits(id: u64, row: &VersionRow) -> bool
     ensures small { IsTrue result → id < 9223372036854775808 }
     ensures few { IsTrue result → row.now.attempt < 9223372036854775808 }
@@ -120,7 +120,8 @@ pub fn fits(id: u64, row: &VersionRow) -> bool
         && is_routed_while_modified(&row.version)
 }
 
-/// What the statement takes that puts it in. `old` and `new` are the providers' texts.
+/// Returns the parameters of the statement that inserts the version. `old` and `new` are the
+/// providers' texts.
 pub fn version_params<'a>(
     id: u64,
     row: &VersionRow,

@@ -1,4 +1,4 @@
--- What stands in the list of a block's numbers.
+-- The list of a block's numbers in use.
 use Rattle.std.proofs.Common.{◌≡◌, ◌⊎◌, ℕ, ◌+◌, ◌*◌, ◌≤◌, List, [], ◌∷◌, ◌++◌, map, pos, Bool, true, false, ◌||◌, Option, Some, inl, inr, Equal, refl, sym, ap, subst, ◌∙◌, true≢false, arith}
 use Rattle.std.specs.Prelude.{◌==◌}
 use Rattle.std.specs.FinMap.{nat_cmp-IsAntisymmetric}
@@ -96,7 +96,7 @@ numbers_are c standing block found tns picks are = record {
         → subject_by standing v ≡ Some (Number n) → number_by standing v ≡ Some n
     by_subject standing v n is = rw is refl
 
--- a row that sends a modify stands as the others do
+-- The routing that a version sends does not change its subjects.
 module _ (db : Trees) (standing : Role) where
   same_subject : (n : Option Routing) (v : VersionRow) → (by : Role)
       → subject_by by (rerouted n v) ≡ subject_by by v

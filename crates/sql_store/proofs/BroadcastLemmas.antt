@@ -1,4 +1,4 @@
--- What stands in the list of open broadcasts.
+-- The list of open broadcasts.
 use Rattle.std.proofs.Common.{◌≡◌, ℕ, ◌+◌, ◌<◌, ◌≤◌, length, List, [], ◌∷◌, map, true, Some, slice_index_or, Less, refl, sym, subst, arith}
 use Rattle.std.specs.FinMap.{get}
 use Rattle.std.proofs.lemmas.Cmp.{on_total}

@@ -1,4 +1,4 @@
--- What calls leave of the connection, whatever they answer.
+-- What calls leave of the connection, whatever their results.
 use Rattle.std.proofs.Common.{◌≡◌, ◌⊎◌, inl, inr, ℕ, List, [], Bool, true, false, Option, Some, None, refl, sym, ap, subst, ◌∙◌, IsTrue, true≢false, Result, Ok, Err, arith}
 pub use Rattle.sql_store.specs.Store.{clean_if_open}
 use Rattle.model.specs.Content.{Content}
@@ -49,7 +49,7 @@ module _ (sql : List ℕ) (params : Row) (old new : State) where
       (subst (ShowsRows old new sql h.0 (timed params h.0.formats h.1.now) rows)
       (subst IsPlain h.1.is plain).0 h.2).3
 
-  -- a text that begins with a query changes nothing, whatever tables there are
+  -- A text that begins with a query changes nothing, whatever the tables.
   pub shown_unchanged : (rows : List Row) → Selects (first sql) → Shown sql params old new rows
       → IsUnchanged old new
   unfolding Shown
@@ -57,7 +57,7 @@ module _ (sql : List ℕ) (params : Row) (old new : State) where
       (subst (ShowsRows old new sql h.0 (timed params h.0.formats h.1.now) rows)
       (subst ShowsNone h.1.is (understood_none old.now.schema sql selects)) h.2).3
 
-  -- a query that fails leaves all as it was, or rolls back
+  -- A query that fails changes nothing, or rolls back.
   pub fails_as : (e : Error) → FailsToQuery sql params old new e → IsUnchanged old new
       ⊎ IsRolledBack old new
   unfolding FailsToQuery IsNotRun
@@ -108,7 +108,7 @@ module _ (sql : List ℕ) (params : Row) (old new : State) where
 
   module _ (ours : IsTrue old.is_open → HasStoreTables old) (plain : IsTrue old.is_open
       → IsPlain (understood old.now.schema sql)) where
-    -- a query leaves the store as it was, if it is open afterwards
+    -- A query leaves the store unchanged, if the store is open afterwards.
     pub query_leaves : (rows : List Row) → IsTrue new.is_open → Shown sql params old new rows
         → IsSame old new
     query_leaves rows is_open h = let was = shown_open rows h in
@@ -165,7 +165,7 @@ module _ (query : Query) (params : Row) (old new : State) (ours : IsTrue old.is_
       (reads_as (query_text query) params old new the_schema (ours was).schema _ (query_is query)
       (query_plain query) (query_unlisted query) rows shown).answer Null
 
--- what was read is ours still
+-- After a read, the tables are still the store's.
 pub looked_ours : (old new : State) (answered : Bool) → (IsTrue old.is_open → HasStoreTables old)
     → HasQueried old new answered → IsTrue new.is_open → HasStoreTables new
 looked_ours old new answered ours looked up =
@@ -179,7 +179,7 @@ looked_ours old new answered ours looked up =
       same_trees = ap (λ (d : Database). d.trees) (same.now ∙ settled old our ∙ sym same.committed);
     }
 
--- two reads, one after the other
+-- Two reads in order are a read.
 pub looked_then : (a b d : State) (answered : Bool) → HasQueried a b true → HasQueried b d answered
     → HasQueried a d answered
 looked_then a b d answered one two = record {
@@ -199,7 +199,7 @@ looked_then a b d answered one two = record {
 
 -- ---- calls in a transaction
 
--- an execution in a transaction keeps the last commit
+-- An execution in a transaction keeps the last commit.
 inside_keeps : (sql : List ℕ) (params : Row) (old new : State) (r : Result ℕ Error)
     → IsTrue new.is_open → ExecutesInside 0 sql params old new r → HasCommittedNothing old new
 inside_keeps sql params old new (Ok n) up h = record {
@@ -239,7 +239,7 @@ call_keeps {A = A} g old new sql params r up ended runs =
     by_cases true ended runs = inside_keeps sql params (state g old) (state g new) r up (runs refl)
     by_cases false ended runs = same_keeps g old new (ended refl).1 up
 
--- a statement in a transaction
+-- A statement is executed in a transaction.
 pub statement_writes : {S A : Type 0} (g : Ghosts S) (old new : Held S) (sql : List ℕ)
     (params : Row) (r : Result ℕ Error) (done : Bool) (Did : Database → Database → Type 0)
     → (IsTrue (state g new).is_open → HasCleanDisk (state g new))
@@ -267,9 +267,9 @@ statement_writes g old new sql params r done Did clean_of ended runs survives co
       survives = survives;
     }
 
--- ---- changes in turn
+-- ---- changes in order
 
--- what has not changed
+-- No change survives as it is.
 pub survives_still : (a : State) → Survives a a (λ _. ⊥)
 survives_still a = record {
   clean = omega arith;
@@ -312,7 +312,7 @@ module _ (a b c : State) where
     survives = both_survive first.survives two.survives;
   }
 
-  -- two statements that make together this of the content
+  -- Two statements together make this change of the content.
   pub two_made : (done : Bool) (First Second : Database → Database → Type 0) (change : Content
       → Content) → WritesInTransaction a b true First → WritesInTransaction b c done Second
       → (AreShaped a.now.trees → First a.now b.now → (b.now.schema ≡ the_schema)
@@ -353,7 +353,7 @@ module _ (a b c : State) where
     survives = both_survive first.survives two.survives;
   }
 
-  -- one more of many
+  -- One more of many changes is made.
   pub goes_then : (f left next whole : Content → Content) → IsTransactionProgress a b left whole
       → AppliesInTransaction b c true f
       → ((m : Content) → next (f m) ≡ left m) → IsTransactionProgress a c next whole
@@ -371,7 +371,7 @@ module _ (a b c : State) where
   }
 
 module _ (a b c : State) (t : Table) (key params : Row) where
-  -- a row put in the place of another
+  -- A deletion and an insertion replace a row.
   pub replaces : (done : Bool) → WritesInTransaction a b true (Removed t key)
       → WritesInTransaction b c done (AddedBy t params)
       → WritesInTransaction a c done (Replaced t key params)
@@ -395,7 +395,7 @@ module _ (a b c : State) (t : Table) (key params : Row) where
   }
 
 module _ (a b : State) where
-  -- what failed made nothing
+  -- A failed statement made nothing.
   pub writes_nothing : (Did Would : Database → Database → Type 0)
       → WritesInTransaction a b false Did
       → WritesInTransaction a b false Would
@@ -419,7 +419,7 @@ module _ (a b : State) where
     survives = it.survives;
   }
 
-  -- what was made of the tables, as a change of the content
+  -- A change of the tables is this change of the content.
   pub makes : (done : Bool) (Did : Database → Database → Type 0) (change : Content → Content)
       → WritesInTransaction a b done Did
       → (IsInTransaction a → Did a.now b.now → (b.now.schema ≡ the_schema) × AreShaped b.now.trees
@@ -471,16 +471,16 @@ module _ (a b : State) where
     survives = it.survives;
   }
 
--- ---- a transaction, from its beginning to its end
+-- ---- a transaction, from beginning to end
 
--- what a transaction made of the tables since it began
+-- What a transaction has changed since it began.
 pub record Begun (old new : State) (done : Bool) (change : Content → Content) : Type 0 where
   pub made : IsTrue done → HasCleanDisk new → IsTrue old.is_open
       → Stepped old new (change (content_at old))
   pub kept : IsTrue new.is_open → HasCommittedNothing old new
   pub survives : Survives old new (λ _. ⊥)
 
--- `transaction` does nothing to the store
+-- `transaction` does nothing to the store.
 pub begun : {S : Type 0} (g : Ghosts S) (old mid : Held S) (new : State) (done : Bool)
     (change : Content → Content) → mid ≡ record old { in_transaction = true }
     → AppliesInTransaction (state g mid) new done change
@@ -541,7 +541,7 @@ module _ (old mid new : State) (change : Content → Content) (Becomes : Content
     crash = survives_weaker old new P _ after survives;
   }
 
-  -- it was given up
+  -- The transaction was rolled back.
   pub rolled_back : Begun old mid false change → (HasCleanDisk new → IsRolledBack mid new)
       → Survives mid new (λ _. ⊥) → HasCommitted old new false Becomes
   rolled_back b r survives =
@@ -565,7 +565,7 @@ module _ (old mid new : State) (change : Content → Content) (Becomes : Content
     all_survives = survives_then old mid new _ _ _ (λ clean db none. absurd none) after b.survives
         survives
 
-    -- it did not commit
+    -- The commit failed.
     pub uncommitted : (e : Error) → (HasCleanDisk new → FailsToCommit mid new e)
         → HasCommitted old new false Becomes
     uncommitted e fails =
@@ -579,7 +579,7 @@ module _ (old mid new : State) (change : Content → Content) (Becomes : Content
             absurd (true≢false (let inside : mid.in_transaction ≡ true =
             (b.made refl (early (clean_of up)) k.was_open).inside.inside in sym inside ∙ it.1))
 
-    -- it committed
+    -- The commit succeeded.
     pub committed : (HasCleanDisk new → Shows mid new mid.now mid.now false)
         → HasCommitted old new true Becomes
     committed ok = record {
@@ -633,7 +633,7 @@ module _ (a b d : State) (Turns Becomes : Content → Content → Type 0) (one :
         two.crash;
   }
 
-  -- the read was answered, so that the connection was open
+  -- The read succeeded, so the connection was open.
   pub read_leaves : (done : Bool) → HasCommitted b d done Turns → CommitLeaves a d Becomes
   read_leaves done two clean db may =
       let up = one.stays refl (two.honest clean) in
@@ -645,7 +645,7 @@ module _ (a b d : State) (Turns Becomes : Content → Content → Type 0) (one :
         ]
       ]
 
--- a read that failed: nothing is committed
+-- After a failed read, nothing is committed.
 pub looked_unturned : (a b : State) (Becomes : Content → Content → Type 0)
     → (IsTrue a.is_open → HasStoreTables a) → HasQueried a b false → HasCommitted a b false Becomes
 looked_unturned a b Becomes ours one = record {
@@ -658,7 +658,7 @@ looked_unturned a b Becomes ours one = record {
   crash = survives_weaker a b _ _ (λ clean db none. absurd none) one.survives;
 }
 
--- nor may a crash leave more
+-- After a failed read, a crash leaves no more than before.
 pub unread_leaves : (a b : State) (Becomes : Content → Content → Type 0) → HasQueried a b false
     → CommitLeaves a b Becomes
 unread_leaves a b Becomes one clean db may =

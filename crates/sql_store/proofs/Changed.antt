@@ -1,4 +1,4 @@
--- The content with all rows put and taken away is the content with the changes.
+-- The content with all rows of a batch written and deleted is the content with its changes.
 use Rattle.std.proofs.Common.{◌≡◌, ℕ, List, [], ◌∷◌, map, Option, Some, None, Bool, true, false, cond, ◌&&◌, refl, sym, ap, ◌∙◌, arith, drop, drop-cons, add-one, suc, ◌+◌, ◌<◌, ◌≤◌, length, get_or}
 use Rattle.std.specs.Prelude.{◌==◌, ◌||◌, IsTrue, if◌then◌else◌, is_some, option_map}
 use Rattle.std.specs.declared.cmp.Ordering.{Ordering}
@@ -28,7 +28,7 @@ use Rattle.model.proofs.KeyOrders.{broadcast_total, wait_total}
 use Rattle.sql_store.specs.Changes.{all_made, go_by_clock, if_some, singles, lists, with_changes, with_carrier, with_lrn, with_code, with_block, clock_made, with_version, without_version, with_broadcast, without_broadcast, with_wait, without_wait}
 use Rattle.numbers.proofs.Small.{grouped}
 
--- ---- a part of the content that a change leaves
+-- ---- parts of the content that a change keeps
 
 keeps_all : {X A : Type 0} (part : Content → A) (change : X → Content → Content)
     → ((x : X) (c : Content) → part (change x c) ≡ part c) → (xs : List X) (c : Content)
@@ -40,7 +40,7 @@ if_cond : {X : Type 0} (b : Bool) (x y : X) → cond b x y ≡ (if b then x else
 if_cond true x y = refl
 if_cond false x y = refl
 
--- what the clock and its sets leave
+-- Holds if a part does not depend on the clock and the sets of windows.
 abbrev pub ClockKeeps : {A : Type 0} → (Content → A) → Type 0
 ClockKeeps part = (c : Content) (sets : FinMap nat_cmp Windows) (clock : Option ClockRow)
     → part (record c { sets = sets; clock = clock }) ≡ part c
@@ -57,7 +57,7 @@ clock_keeps part same None (Some s) None c = same c _ c.clock
 
 -- ---- a table
 
--- a row put, if it is there
+-- The map with one row written, if there is one.
 abbrev put_some : {X K V : Type 0} {R : K → K → Ordering} → (X → K) → (X → V) → Option X
     → FinMap R V → FinMap R V
 put_some key value None m = m
@@ -100,7 +100,7 @@ module _ {K V : Type 0} (R : K → K → Ordering) (o : IsTotalOrder R) (same : 
         ∙ ap (λ b. cond b None (get (table c) k)) (ties (key x) k)
         ∙ if_cond _ None (get (table c) k))
 
--- ---- what is taken away and put again is put
+-- ---- a row deleted and written again is written
 
 module _ {K V : Type 0} (same : K → K → Bool) (k : K) where
   abbrev hit : List (K × V) → Bool
@@ -168,7 +168,7 @@ wait_ties a b =
 
 -- ---- all changes
 
--- the rows of which there is at most one: no list tells of them
+-- The content without the tables that lists change.
 abbrev singly : Content → Content
 singly m = record m {
   versions = empty_content.versions;
@@ -188,7 +188,7 @@ lists_keep ch c =
     ∙ keeps_all singly (λ e. with_version e.0 e.1) (λ e c. refl) (items_of ch.versions) _
     ∙ keeps_all singly (λ e. without_version e.0) (λ e c. refl) (items_of ch.versions) c
 
--- a row put into each table of the registry, if it is there
+-- The content with a row written into each table of the registry, if there is one.
 abbrev put_carrier : Option Spid → Content → Content
 put_carrier o c = record c { carriers = put_some spid_of (λ _. tt) o c.carriers }
 
@@ -213,7 +213,7 @@ abbrev unit_pair : ℕ → ℕ × Unit {0}
 unit_pair k = (k, tt)
 
 module _ (ch : Changes) (row : Option ClockImpl) (c : Content) where
-  -- the content before the clock's row and the sets are written
+  -- The content before the clock's row and the sets are written.
   abbrev before : Content
   before =
       if_some (λ e. with_block (block_of e.0) (block_row_of e.1)) ch.block
@@ -235,7 +235,7 @@ module _ (ch : Changes) (row : Option ClockImpl) (c : Content) where
       ∙ ap (put_lrn ch.lrn) (if_some_is (λ k. with_carrier (spid_of k)) put_carrier (λ c. refl)
       (λ k c. refl) ch.carrier c)))
 
-  -- the tables of the registry
+  -- The tables of the registry.
   abbrev registry : Content → Content
   registry m = record empty_content {
     carriers = m.carriers;
@@ -289,7 +289,7 @@ module _ (ch : Changes) (row : Option ClockImpl) (c : Content) where
       ∙ one_put nat_cmp nat_cmp_total ◌==◌ number_ties (λ e. block_of e.0) (λ e. block_row_of e.1)
       ch.block c.blocks k
 
-  -- the tables of which the lists tell: no single row is put there
+  -- The tables that lists change; no single row is written there.
   abbrev many : Content → Content
   many m = record empty_content {
     versions = m.versions;

@@ -1,4 +1,4 @@
--- The trees that an open of files found have their shape.
+-- The trees that an opening of files found are well-formed.
 use Rattle.std.proofs.Common.{◌≡◌, ◌∙◌, ℕ, ◌<◌, ◌^◌, inl, inr, refl, sym, ap, subst, arith}
 use Rattle.std.proofs.Math.Logic.{∥∥₁_elim}
 use Rattle.sqlite.specs.Effect.{Database}
@@ -91,7 +91,7 @@ module _ (db : Trees) (none : IsEmpty db) where
     ),
   )
 
--- the laws of a store hold of what was found in a file
+-- The laws of a store hold for what was found in a file.
 module _ (image : Image) (v : View) where
   by_laws : (A : Type 0) → IsProp A → AreFoundIn image v.trees → (IsEmpty v.trees → A)
       → ((w : View) → w.trees ≡ v.trees → IsListed (w.trees catalog_tree) w.shape w.reals
@@ -123,7 +123,7 @@ module _ (image : Image) (v : View) where
       (λ none. empty_old_shaped v.trees none f) (λ w same listed ordered. subst (AreOldShaped f)
       same (old_shaped_by_laws f w listed ordered (subst (IsSound (schema_of f)) (sym same) sound)))
 
--- what was found in files is in order
+-- What was found in files is in order.
 pub found_shaped : {D : Type 0} {g : Ghosts D} (image : Image) (c : Held (FileStore D g))
     → IsOpened c → AreFoundIn image (file_state c).committed.trees → WasOpened (file_state c)
 found_shaped image c opened found =

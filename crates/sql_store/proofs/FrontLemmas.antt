@@ -1,4 +1,4 @@
--- The first rows of what waits for a carrier, where a query gives no more than so many.
+-- The first rows of a carrier's queue, from a query with a limit.
 use Rattle.std.proofs.Common.{◌≡◌, ◌⊎◌, inl, inr, ℕ, zero, suc, ◌≤◌, ◌+◌, pos, List, [], ◌∷◌, map, filter, take, drop, length, slice_index_or, Bool, true, false, Some, refl, sym, ap, ap₂, subst, ◌∙◌, true≢false, Less, Equal, Greater, arith}
 use Rattle.std.proofs.lemmas.List.{length-map}
 use Rattle.std.specs.declared.cmp.Ordering.{Ordering}
@@ -116,7 +116,7 @@ weak = ranks_by (key_cmp_total (map (λ k. k.1) front_query.order) 0) (λ (o : O
 abbrev out : Row → Output
 out r = (column r 2 ∷ column r 3 ∷ column r 4 ∷ [], wait_shown r)
 
--- a row that reads is not before another: it is behind it, or has its place
+-- A row that does not sort before another is after it, or has its place.
 behind_or_same : (r s : Row) (a b : WaitKey × Subject) → wait_entry r ≡ Some a
     → wait_entry s ≡ Some b → lesser (out s) (out r) ≡ false
     → ((a.0.minute ≡ b.0.minute) × (a.0.id ≡ b.0.id) × (a.0.attempt ≡ b.0.attempt))
@@ -154,7 +154,7 @@ same_key : (a b : WaitKey) → a.carrier ≡ b.carrier → a.minute ≡ b.minute
     → a.attempt ≡ b.attempt → a ≡ b
 same_key a b c m d t i = record { carrier = c i; minute = m i; id = d i; attempt = t i }
 
--- ---- the first of what waits
+-- ---- the first pending downloads
 
 module _ (db : Trees) (once : HasUniqueKeys db) (s : Spid) (n : ℕ) where
   abbrev given : Row
@@ -197,7 +197,7 @@ module _ (db : Trees) (once : HasUniqueKeys db) (s : Spid) (n : ℕ) where
       rows : h.0 ≡ map (λ (o : Output). o.1) (take n h.1.ordered)
       rows = h.1.shown ∙ take_map (λ (o : Output). o.1) n h.1.ordered
 
-      -- the row from which an item was read, among the first
+      -- The row of an item is among the first.
       from : (x : KeyedWait) → Has items x → (r : Row) × Has (db 10) r × (passing r ≡ true)
           × (wait_entry r ≡ Some (wait_seen x)) × Has (take n h.1.ordered) (out r)
       from x at =

@@ -1,4 +1,4 @@
--- What lists say of the content, once they are in order.
+-- Sorted lists, and the content that they show.
 use Rattle.std.proofs.Common.{◌≡◌, ℕ, List, [], ◌∷◌, map, filter, Bool, true, Some, refl, sym, ap, subst, ◌∙◌, Less, Equal}
 use Rattle.std.specs.Prelude.{All}
 use Rattle.std.specs.declared.cmp.Ordering.{Ordering}
@@ -50,7 +50,7 @@ filter_true : {X : Type 0} (xs : List X) → filter (λ x. true) xs ≡ xs
 filter_true [] = refl
 filter_true (x ∷ xs) = ap (λ l. x ∷ l) (filter_true xs)
 
--- the items that were found, in order, are the entries that pass the test
+-- The items found, sorted, are the entries that pass the test.
 module _ {T K V : Type 0} {R : K → K → Ordering} (o : IsTotalOrder R) (exact : IsAntisymmetric R)
     (seen : T → K × V) (m : FinMap R V) (P : K → V → Type 0) (test : K × V → Bool) where
   pub entries_are : ((k : K) (v : V) → (P k v → test (k, v) ≡ true) × (test (k, v) ≡ true → P k v))
@@ -94,7 +94,7 @@ carriers_are c found items picks rises only each =
     sym (map_twice (λ (e : ℕ × Unit {0}). e.0) carrier_seen items)
     ∙ ap (map (λ (e : ℕ × Unit {0}). e.0)) (all ∙ filter_true (entries c.carriers))
 
--- ---- what waits for a carrier
+-- ---- downloads pending for a carrier
 
 pub download_tie : (a b : DownloadKey) → download_cmp a b ≡ Equal
     → (a.minute.number ≡ b.minute.number) × (a.id ≡ b.id) × (a.attempt ≡ b.attempt)

@@ -1,4 +1,4 @@
--- What the look-ups answer.
+-- The answers of the look-ups.
 use Rattle.std.proofs.Common.{◌≡◌, ℕ, pos, [], ◌∷◌, true, Option, Some, None, refl, sym, ap, subst, ◌∙◌, true≢false}
 use Rattle.std.specs.Prelude.{option_map, option_and_then, is_some}
 use Rattle.std.specs.FinMap.{get}
@@ -42,12 +42,12 @@ use Rattle.sql_rows.proofs.FoundLemmas.{value_of, carrier_found, lrn_found, code
 use Rattle.sql_rows.proofs.DueLemmas.{due_is_found}
 use Rattle.sql_rows.proofs.Rerouted.{due_whole, in_force_whole, open_whole, rerouted-none, rerouted-put, version_whole}
 
--- one parameter is bound as it is
+-- One parameter is bound unchanged.
 pub one_bound : (r : ValueRef) (v : Value) → bound_value v ≡ v → owned r ≡ v
     → bound (r ∷ []) ≡ v ∷ []
 one_bound r v plain is = ap (λ w. bound_value w ∷ []) is ∙ ap (λ w. w ∷ []) plain
 
--- two numbers are bound as they are
+-- Two numbers are bound unchanged.
 pub two_bound : (r s : ValueRef) (m n : ℕ) → owned r ≡ Int (pos m) → owned s ≡ Int (pos n)
     → bound (r ∷ s ∷ []) ≡ Int (pos m) ∷ Int (pos n) ∷ []
 two_bound r s m n one two = ap (λ v. bound_value v ∷ bound_value (owned s) ∷ []) one
@@ -156,7 +156,7 @@ module _ (db : Trees) (r : ValueRef) where
       ∙ sym (next_found db n _ (subst (λ p. IsSoleAnswer NextRoutingNumbered next_row_in db p
       (option_map next_seen found)) (one_bound r (Int (pos n)) refl is) h))
 
-  -- the parameter as it is bound
+  -- The version is found by the bound parameter.
   found_by : (query : Query) (v : Value) → bound_value v ≡ v → owned r ≡ v
       → (o : Option NumberedRow) → IsVersionFound query db (bound (r ∷ [])) o
       → IsVersionFound query db (v ∷ []) o
@@ -199,7 +199,7 @@ module _ (db : Trees) (r : ValueRef) where
     due_is n is o h = let f = found_by VersionDue (Int (pos n)) refl is o h in
         due_whole db n f.0 o f.2 (due_is_found db shaped n f.0 f.1)
 
--- ---- the clock's row, of two tables
+-- ---- the clock's row, from two tables
 
 abbrev pub clock_with : StoredImpl → WindowsImpl → ClockImpl
 clock_with c w = record {

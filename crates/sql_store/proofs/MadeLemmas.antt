@@ -1,4 +1,4 @@
--- What the statements make of the content.
+-- The changes of the content that statements make.
 use Rattle.std.proofs.Common.{◌≡◌, [], ◌∷◌, true, false, sym, ap, subst, subst₂, ◌∙◌, true≢false}
 use Rattle.sqlite.specs.declared.types.Value.{Value}
 use Rattle.sqlite_value.specs.declared.value.ValueRef.{ValueRef}

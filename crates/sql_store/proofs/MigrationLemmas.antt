@@ -1,4 +1,4 @@
--- What is made of a file of an earlier form.
+-- The migration of a file with an earlier schema.
 use Rattle.std.proofs.Common.{subst₂, pos, Err, IfOk, IfErr, ◌≡◌, ◌≢◌, ◌⊎◌, inl, inr, ℕ, List, [], ◌∷◌, map, Bool, true, false, cond, Option, Some, None, Result, Ok, IsTrue, refl, sym, ap, subst, ◌∙◌, true≢false, arith, drop, zero, suc, ◌+◌, ◌<◌, ◌≤◌, length, get_or}
 use Rattle.std.specs.Option.{option_or}
 use Rattle.std.specs.Prelude.{◌==◌, ◌&&◌, option_and_then, option_map, option_to_list}
@@ -58,9 +58,9 @@ use Rattle.sql_store.specs.Store.{IsInTransaction, IsSame, HasCommittedNothing, 
 use Rattle.sql_store.proofs.WholeLemmas.{moved_read}
 use Rattle.sql_store.proofs.CallLemmas.{both_survive, call_keeps, earlier, fails_as, fails_open, fails_same, kept_then, looked_then, query_commits_nothing, shown_open, shown_same, shown_unchanged, survives_still}
 
--- ---- calls in turn
+-- ---- calls in order
 
--- a statement in a transaction
+-- A statement is executed in a transaction.
 pub statement_alters : {S A : Type 0} (g : Ghosts S) (old new : Held S) (P : State → Type 0)
     → (P (state g old) → IsTrue (state g old).in_transaction)
     → (sql : List ℕ) (params : Row) (r : Result ℕ Error) (done : Bool) (Did : Database → Database
@@ -90,7 +90,7 @@ statement_alters g old new P inside sql params r done Did clean_of ended runs su
       survives = survives;
     }
 
--- one after the other
+-- Two changes of a database in order.
 abbrev pub Both : (Database → Database → Type 0) → (Database → Database → Type 0) → Database
     → Database → Type 0
 Both One Two old new = (mid : Database) × One old mid × Two mid new
@@ -155,7 +155,7 @@ module _ (a b : State) where
       → WritesInTransaction a b done Did
   to_writes done Did it = record { wrote = it.altered; kept = it.kept; survives = it.survives }
 
-  -- a change of the content, and what it leaves
+  -- A change of the content, and what it leaves.
   pub from_makes : (done : Bool) (change : Content → Content) → AppliesInTransaction a b done change
       → MigratesInTransaction IsInTransaction a b done (λ old new. (new.schema ≡ the_schema)
       × AreShaped new.trees
@@ -171,7 +171,7 @@ module _ (a b : State) where
     survives = it.survives;
   }
 
--- ---- tables made
+-- ---- tables created
 
 first_of : (old mid new : Database) → Both (IsMade made.NextRouting) (AreTablesCreated Modify) old
     new
@@ -261,7 +261,7 @@ grown_sets old new it =
       );
     }
 
--- a table with no row
+-- A table without rows is well-formed.
 blank_shaped : (rows : List Row) → rows ≡ [] → IsShaped AsTable rows
 blank_shaped rows none = subst (IsShaped AsTable) (sym none) (tt, tt)
 
@@ -301,7 +301,7 @@ grown_shaped Modify old new g shaped WindowSet = blank_shaped _ g.sets
 grown_shaped Modify old new g shaped Version = blank_shaped _ g.versions
 grown_shaped Modify old new g shaped Clock = blank_shaped _ g.clock
 
--- what stands in the tables that stay is as it was
+-- The tables that are not migrated keep their rows.
 grown_content : (f : SchemaVersion) (old new : Database) → AreTablesCreated f old new
     → (versions : FinMap nat_cmp VersionRow) (clock : Option ClockRow)
     → content_with Modify versions clock new.trees ≡ content_with f versions clock old.trees
@@ -324,7 +324,7 @@ grown_content Modify old new g versions clock = rw (
   g.nexts,
 ) refl
 
--- ---- rows put
+-- ---- rows copied
 
 pub put_none : (a : State) (ids : List ℕ) → WritesInTransaction a a true (ArePutBut ids ids)
 put_none a ids = record {
@@ -382,7 +382,7 @@ module _ (a b c : State) (id : ℕ) (more ids : List ℕ) where
       two) inside_put)
       (λ inside. inside) (λ inside it. one_put it))
 
--- ---- rows taken away
+-- ---- rows deleted
 
 pub thinned_none : (a : State) → WritesInTransaction a a true AreOldRowsDeleted
 thinned_none a = record {
@@ -433,7 +433,7 @@ thins_then a b c id first two =
     first two)
     (λ inside. inside) (λ inside it. one_thinned id a.now c.now it))
 
--- what was left was taken away then
+-- Rows deleted and then the table emptied: the table is empty.
 thinned_cleared : (old new : Database) → Both AreOldRowsDeleted (IsCleared former.Version) old new
     → IsCleared former.Version old new
 thinned_cleared old new it = record {
@@ -452,7 +452,7 @@ clears_then a b c first two =
     (thinned_and a b c (IsCleared former.Version) first two) (λ inside. inside)
     (λ inside it. thinned_cleared a.now c.now it))
 
--- the id at a place, and those behind it
+-- The id at an index, and those after it.
 pub one_left : (ids : List ℕ) (i : ℕ) → i < length ids
     → drop i ids ≡ get_or ids i 0 ∷ drop (i + 1) ids
 one_left [] i low = absurd (omega (arith, low))
@@ -470,12 +470,12 @@ module _ (a b : State) (id : ℕ) where
   abbrev one_key : Row
   one_key = Int (pos id) ∷ []
 
-  -- a query in a transaction commits nothing, and leaves what stands there
+  -- A query in a transaction commits nothing, and changes nothing.
   pub asked_unchanged : (rows : List Row) → Shown one_text one_key a b rows → IsUnchanged a b
   asked_unchanged rows =
       shown_unchanged one_text one_key a b rows (query_selects OldVersionNumbered)
 
-  -- with this text and these parameters
+  -- The query has this text and these parameters.
   pub asked_kept : {sql : List ℕ} {params : Row} → sql ≡ one_text → params ≡ one_key
       → {R : Type 0} (items : R → List Row) (r : Result R Error)
       → (IsTrue b.is_open → HasCleanDisk b)
@@ -513,7 +513,7 @@ module _ (a b : State) (id : ℕ) where
     shaped = subst (λ (d : Database). AreShaped d.trees) (sym u.0.now_is) inside.shaped;
   }
 
-  -- the row found is the version's
+  -- The row found is the version's.
   pub asked_found : (rows : List Row) (v : VersionRow) (own : ℕ) → Shown one_text one_key a b rows
       → IsInTransaction a → IsSole old_version_in rows (Some (own, v))
       → get (old_versions_in (a.now.trees 5)) id ≡ Some v
@@ -524,7 +524,7 @@ module _ (a b : State) (id : ℕ) where
       Null in
       old_version_found a.now.trees id (Some (own, v)) (rows, answer, sole)
 
--- no version of the file was put
+-- No version of the file was written.
 pub unput : (a b : State) (id : ℕ) → (IsTrue b.is_open → HasCommittedNothing a b)
     → Survives a b (λ _. ⊥)
     → WritesInTransaction a b false (IsOldPut id)
@@ -534,7 +534,7 @@ unput a b id kept survives = record {
   survives = survives;
 }
 
--- it was read, and then not put, or put
+-- The version was read, and then written or not.
 module _ (a b c : State) (id : ℕ) (rows : List Row) (kept : IsTrue b.is_open
     → HasCommittedNothing a b) (survives : Survives a b (λ _. ⊥)) where
   pub read_unput : (v : VersionRow) → WritesInTransaction b c false (IsBarePut id v)
@@ -567,7 +567,7 @@ module _ (a b c : State) (id : ℕ) (rows : List Row) (kept : IsTrue b.is_open
     survives = both_survive a b c survives put.survives;
   }
 
--- ---- all rows put, and the old tables emptied
+-- ---- all rows copied, and the old tables emptied
 
 abbrev pub first_set : Option ClockImpl → Content → Content
 first_set clock =
@@ -637,7 +637,7 @@ filled ids clock a e shaped it =
             { clock = option_and_then (with_windows empty) o }) (get-empty {X =
             StoredClock} nat_cmp 0))
 
--- the versions are those that stood there
+-- Creating tables keeps the versions.
 grown_old : (f : SchemaVersion) (old new : Database) → AreTablesCreated f old new
     → new.trees 5 ≡ old.trees 5
 grown_old First old new g = g.same.1.1.1.1.0
@@ -658,7 +658,7 @@ rebuilt f ids clock old new shaped it = record {
       (option_map old_clock_of clock) old.trees) (grown_old f old it.0 it.1);
 }
 
--- ---- the transaction, from its beginning to its end
+-- ---- the transaction, from beginning to end
 
 pub record BegunAs (old new : State) (done : Bool) (Did : Database → Database
     → Type 0) : Type 0 where
@@ -717,7 +717,7 @@ module _ (f : SchemaVersion) (ids : List ℕ) (clock : Option ClockImpl) (old mi
     crash = survives_weaker old new P _ after survives;
   }
 
-  -- it was given up
+  -- The transaction was rolled back.
   pub given_up : BegunAs old mid false (IsMigrated f ids clock)
       → (HasCleanDisk new → IsRolledBack mid new) → Survives mid new (λ _. ⊥)
       → HasMigrated (AreTreesMigrated f ids clock) old new false
@@ -744,7 +744,7 @@ module _ (f : SchemaVersion) (ids : List ℕ) (clock : Option ClockImpl) (old mi
     all_survives = survives_then old mid new _ _ _ (λ clean db none. absurd none) after b.survives
         survives
 
-    -- it did not commit
+    -- The commit failed.
     pub not_moved : (e : Error) → (HasCleanDisk new → FailsToCommit mid new e)
         → HasMigrated (AreTreesMigrated f ids clock) old new false
     not_moved e fails =
@@ -757,7 +757,7 @@ module _ (f : SchemaVersion) (ids : List ℕ) (clock : Option ClockImpl) (old mi
             absurd (true≢false (let inside : mid.in_transaction ≡ true =
             (b.made refl (early (clean_of up)) k.was_open).inside in sym inside ∙ it.1))
 
-    -- it committed
+    -- The commit succeeded.
     pub moved : (HasCleanDisk new → Shows mid new mid.now mid.now false)
         → HasMigrated (AreTreesMigrated f ids clock) old new true
     moved ok = record {
@@ -780,7 +780,7 @@ module _ (f : SchemaVersion) (ids : List ℕ) (clock : Option ClockImpl) (old mi
       crash = all_survives;
     }
 
--- ---- what stood in the file is read first
+-- ---- the file is read first
 
 module _ (f : SchemaVersion) (t : RowTable) (is : IsTableOf t f) (old new : State)
     (ours : IsTrue old.is_open
@@ -835,7 +835,7 @@ module _ (f : SchemaVersion) (t : RowTable) (is : IsTableOf t f) (old new : Stat
       (reads_as text [] old new (schema_of f) (ours was).schema _ (old_query_is f t is)
       (old_query_plain f t is) (old_query_unlisted f t is) rows shown).answer Null
 
--- a file that was read is of its form still
+-- A file that was read still has its schema.
 pub still_of : (f : SchemaVersion) (a b : State) → IsSame a b → HasSchemaVersion f a
     → HasSchemaVersion f b
 still_of f a b same our = record {
@@ -852,7 +852,7 @@ pub old_still : (f : SchemaVersion) (a b : State) (answered : Bool)
 old_still f a b answered ours looked up = let same = looked.same up in
     still_of f a b same (ours same.was_open)
 
--- a read, and then the move
+-- A read, and then the migration.
 module _ (a b d : State) (Turns Becomes : Trees → Trees → Type 0) (one : HasQueried a b true)
     (means : IsTrue b.is_open → (after : Trees) → Turns b.now.trees after
     → Becomes b.now.trees after) where
@@ -880,7 +880,7 @@ module _ (a b d : State) (Turns Becomes : Trees → Trees → Type 0) (one : Has
         one.stays refl (two.honest clean) in from_first up db (h up)) one.survives two.crash;
   }
 
--- ---- the versions put are those that stood in the file
+-- ---- the versions copied are those of the file
 
 module _ (from : FinMap nat_cmp VersionRow) where
   data InAll (ids : List ℕ) (m : FinMap nat_cmp VersionRow) (k : ℕ) : Type 0 where
@@ -923,7 +923,7 @@ module _ (from : FinMap nat_cmp VersionRow) where
               miss (λ h. elim h [ inl same ↦ absurd (not_tied tie same) | inr more ↦ none more ])
               (e ∙ put_at (get from id) false tie)
 
--- the ids of rows that have one
+-- The ids of rows with ids.
 had_id : (xs : List OldRow) (x : OldRow) → Has xs x → Has (ids_in xs) x.version.id
 had_id [] x at = absurd at
 had_id (y ∷ ys) x (inl same) = inl (ap (λ (z : OldRow). z.version.id) same)
@@ -971,9 +971,9 @@ clock_carried db (Some c) h =
     sym (old_clock_is db (Some (clock_seen c)) h.0 h.1
     (one_of old_clock_in h.0 (Some (clock_seen c)) h.2))
 
--- ---- the windows with which the file was made
+-- ---- the windows with which the file was created
 
--- as the code compares them
+-- The comparison of windows in the code.
 abbrev pub are_same : Windows → Windows → Bool
 are_same v w =
     (v.initial_concurrence == w.initial_concurrence)
@@ -1033,7 +1033,7 @@ carried f db after ids clock shaped versions clocks it = record {
   moved = it.moved;
 }
 
--- what was read before is what is carried over
+-- The rows read before are those that are migrated.
 pub migrated : (f : SchemaVersion) (a b d e : State) (done : Bool) (ids : List ℕ)
     (clocks : List ClockImpl)
     (clock : Option ClockImpl) → HasQueried a b true → HasQueried b d true

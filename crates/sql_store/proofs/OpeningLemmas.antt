@@ -1,4 +1,4 @@
--- What an open says of the store's tables.
+-- What opening a store says of its tables.
 use Rattle.std.proofs.Common.{◌≡◌, ◌≤◌, inl, inr, suc, Bool, List, [], ◌∷◌, arith, length, refl, sym, ap, subst}
 use Rattle.std.specs.List.{AllByRecursion, AllZip}
 use Rattle.sqlite.specs.State.{IsLive}
@@ -44,7 +44,7 @@ use Rattle.sql_rows.specs.declared.migration.SchemaVersion.TheVariants.{First, M
 use Rattle.sql_store.specs.Migration.{AreOldShaped, IsMovedFrom, HasSchemaVersion, of_earlier, of_none, of_ours}
 use Rattle.sql_store.specs.Store.{HasStoreTables}
 
--- the laws of a store that is not broken give the shape of each table
+-- The laws of a store with a clean disk give the shape of each table.
 each_shaped : (v : View) → IsOrdered v.shape v.trees → (ts : List Table)
     → AllByRecursion (λ (t : Table). v.shape t.tree ≡ AsTable) ts
     → AllByRecursion (λ (t : Table). IsShaped AsTable (v.trees t.tree)) ts
@@ -89,7 +89,7 @@ pub AreOldShaped-prop : (f : SchemaVersion) (db : Trees) → IsProp (AreOldShape
 AreOldShaped-prop f db = AllByRecursion-prop (λ (t : Table). IsShaped AsTable (db t.tree))
     (λ t. IsShaped-prop AsTable (db t.tree)) (schema_of f).tables
 
--- what was opened over a store that is not broken is as an open of files leaves it
+-- What was opened over a store with a clean disk is newly opened.
 pub was_opened : (v : View) (s : State) → IsListed (v.trees catalog_tree) v.shape v.reals
     → IsOrdered v.shape v.trees → s.now.trees ≡ v.trees → Opens s → IsLive s → WasOpened s
 was_opened v s listed ordered same opens live = record {
@@ -103,7 +103,7 @@ was_opened v s listed ordered same opens live = record {
 }
 
 module _ (s : State) (was : WasOpened s) where
-  -- its tables are a database of the schema
+  -- Its tables are a database of the schema.
   pub sound_as : (k : Schema) → s.now.schema ≡ k → IsSound k s.now.trees
   sound_as k has = subst (λ k. IsSound k s.now.trees) has (was.live was.opens.is_open).0
 
@@ -123,11 +123,11 @@ module _ (s : State) (was : WasOpened s) where
     same_trees = ap (λ (d : Database). d.trees) was.opens.clean;
   }
 
--- where the disk is clean afterwards only if it was before, no fault is forgotten
+-- If the disk is clean afterwards only if it was clean before, no fault is forgotten.
 pub falls : (old new : Bool) → (doubt new ≡ 0 → doubt old ≡ 0) → doubt old ≤ doubt new
 falls old new honest = only_falls old new (λ clean. clean_of old (honest (no_doubt new clean)))
 
--- ---- which tables a database lists
+-- ---- the tables that a database lists
 
 zipped : {A B C : Type 0} (P : A → B → Type 0) (Q : A → C → Type 0) (xs : List A) (ys : List B)
     (zs : List C) → AllZip P xs ys → AllZip Q xs zs → length ys ≡ length zs
@@ -138,13 +138,13 @@ zipped P Q (x ∷ xs) [] zs a b = absurd a
 zipped P Q (x ∷ xs) (y ∷ ys) [] a b = absurd b
 zipped P Q (x ∷ xs) (y ∷ ys) (z ∷ zs) a b = ap suc (zipped P Q xs ys zs a.1 b.1)
 
--- all schemas of a database have as many tables
+-- All schemas of a database have as many tables.
 as_many : (db : Trees) (k l : Schema) → IsSound k db → IsSound l db
     → length k.tables ≡ length l.tables
 as_many db k l a b = zipped IsTableRow IsTableRow (filter is_table_row (db catalog_tree)) k.tables
     l.tables a.lists.listed.tables b.lists.listed.tables
 
--- where no object is listed, the schema has none
+-- If no object is listed, the schema is empty.
 unlisted : (k : Schema) → AreListed [] k → k ≡ no_schema
 unlisted k listed = tables k.tables k.indexes k.views listed.tables listed.indexes listed.views
   where
@@ -164,7 +164,7 @@ pub empty_is_unlisted : (d : Database) → IsDatabase d → d.trees catalog_tree
 empty_is_unlisted d sound none =
     unlisted d.schema (subst (λ objects. AreListed objects d.schema) none sound.lists.listed)
 
--- an open of an empty file finds nothing
+-- Opening an empty file finds nothing.
 pub empty_finds_none : (image : Image) (s : State) → image.db ≡ [] → FindsIn image s
     → s.committed.trees catalog_tree ≡ []
 empty_finds_none image s none finds = elim finds.reads [
@@ -173,7 +173,7 @@ empty_finds_none image s none finds = elim finds.reads [
   | inr nothing ↦ nothing.1.1
 ]
 
--- ---- what is taken
+-- ---- databases that are taken
 
 module _ (w : Windows) (db now : Trees) where
   pub taken_new : IsSound no_schema db → content_in now ≡ empty_content → IsWhole now
@@ -237,19 +237,19 @@ module _ (w : Windows) (db now : Trees) where
       same_form First Modify same = absurd (omega (arith, same))
       same_form Modify First same = absurd (omega (arith, same))
 
--- ---- what is refused
+-- ---- databases that are refused
 
 pub stands_clean : {S : Type 0} (g : Ghosts S) (left : Refused S) → StandsYet g left
     → IsCleanYet g left
 stands_clean g (Connection conn) it = it.0
 stands_clean g (Store store) it = it.0
 
--- what the store tells is never other windows
+-- A fault of the store is never `WindowsDiffer`.
 pub never_windows : (fault : StoreFault) → opening_fault_of fault ≡ WindowsDiffer → ⊥
 never_windows told.Storage e = cc
 never_windows told.NoMemory e = cc
 
--- the same of the database that was found, once it is known to be clean
+-- The refusal holds for the database found, once it is known to be clean.
 pub refused_of : {S : Type 0} (g : Ghosts S) (w : Windows) (db found : Trees) (fault : FileFault)
     (left : Refused S) → (IsCleanYet g left → found ≡ db)
     → (IsCleanYet g left → IsRefusedAs g w found fault left) → IsRefusedAs g w db fault left

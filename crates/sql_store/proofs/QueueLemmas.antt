@@ -1,4 +1,4 @@
--- What stands at the front of a queue.
+-- The first downloads of a queue.
 use Rattle.std.proofs.Common.{◌≡◌, ◌⊎◌, inl, inr, ℕ, ◌≤◌, List, [], ◌∷◌, ◌++◌, map, filter, take, drop, get_or, length, zero, suc, ◌+◌, ◌<◌, true, cond, Option, Some, None, refl, sym, ap, subst, ◌∙◌, Less, Equal, arith}
 use Rattle.std.specs.Prelude.{is_some, option_to_list}
 use Rattle.std.specs.declared.cmp.Ordering.{Ordering}
@@ -92,7 +92,7 @@ sorted_unmap f cmp (x ∷ xs) up = (
   sorted_unmap f cmp xs up.1,
 )
 
--- ---- what waits for the carrier
+-- ---- downloads pending for the carrier
 
 module _ (c : Content) (spid : ℕ) (found : List KeyedWait) (items : List DownloadKey)
     (rises : IsStrictlySortedBy download_cmp items)
@@ -156,7 +156,7 @@ module _ (c : Content) (spid : ℕ) (found : List KeyedWait) (items : List Downl
     rises = rises;
   }
 
--- ---- those that have a broadcast
+-- ---- downloads that have a broadcast
 
 module _ (c : Content) (waits : List DownloadKey) (i : ℕ) (wait : DownloadKey)
     (inside : i < length waits) (item : wait ≡ get_or waits i wait) (downloads : List Download)
@@ -197,7 +197,7 @@ pub one_more_fits : (downloads : List Download) (o : Option Download) (many : �
 one_more_fits downloads (Some d) many low = simp length-append (omega (arith, low))
 one_more_fits downloads None many low = simp length-append (omega (arith, low))
 
--- ---- the first of them
+-- ---- the first downloads
 
 abbrev behind : (minute id attempt : ℕ) → Download → Ordering
 behind minute id attempt e =

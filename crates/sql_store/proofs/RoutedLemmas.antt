@@ -1,4 +1,4 @@
--- What stands in the list of everything in force.
+-- The list of everything in force.
 use Rattle.std.proofs.Common.{◌≡◌, ℕ, ◌+◌, ◌<◌, ◌≤◌, nat_lt, length, List, [], ◌∷◌, map, Bool, true, false, Option, Some, slice_index_or, Less, refl, sym, ap, subst, ◌∙◌, arith}
 use Rattle.std.specs.FinMap.{get}
 use Rattle.std.specs.List.{filter_map}
@@ -50,7 +50,7 @@ routes_from v s r is =
       b.1 ∙ ap (λ (e : Subject × Routing). Some e.1) b.2,
     )
 
--- a subject that a row holds is a number of its column
+-- A subject that a row holds fits in its column.
 small : (n : ℕ) → nat_lt n 9223372036854775808 ≡ true → n ≤ 9223372036854775807
 small n h = grind (arith, nat_tests)
 
@@ -123,7 +123,7 @@ bare_routed db found rows items picks are same rises = record {
   rises = λ once. rises;
 }
 
--- a row that sends a modify is in force with the routing that it has
+-- A version that sends a modify is in force with its present routing.
 pub routed_are : (db : Trees) (found : List NumberedRow) (rows items : List RoutedRow)
     → Picks version_seen (bare_in db).versions (λ id v. IsAmong 0 9223372036854775807 v.holds) found
     → map routed_model rows ≡ filter_map in_row found → IsPermutation rows items → Rises items

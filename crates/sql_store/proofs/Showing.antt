@@ -1,4 +1,4 @@
--- A query shows no row of a write, whatever the schema of the database is.
+-- A write shows no row, whatever the schema of the database.
 use Rattle.std.proofs.Common.{◌≡◌, ℕ, List, Bool, true, false, Option, None, Ok, Err, refl, sym, subst, true≢false}
 use Rattle.std.specs.Prelude.{if◌then◌else◌, IsSome}
 use Rattle.sqlite_ast.specs.declared.Statement.{Statement}
@@ -17,7 +17,7 @@ use Rattle.sqlite.specs.State.{State, CommitsShowing}
 use Rattle.sqlite.specs.Tree.{Trees}
 use Rattle.sql_rows.proofs.StatementLemmas.{IsSelect, Selects}
 
--- nothing is to be shown of a write
+-- Holds if a write shows nothing.
 abbrev pub ShowsNone : Checked Compiled → Type 0
 ShowsNone (Ok c) = c.returning ≡ None
 ShowsNone (Err e) = Unit {0}

@@ -30,7 +30,7 @@ use Rattle.sql_store.specs.Whole.{IsRead}
 use Rattle.sql_store.proofs.MigrationLemmas.{old_answers}
 use Rattle.sql_store.proofs.CallLemmas.{answers, both_survive, earlier, shown_open, shown_same, survives_still}
 
--- a query that begins was asked of a connection that was open
+-- A query that began was asked of an open connection.
 begun_open : {S : Type 0} (g : Ghosts S) (sql : List ℕ) (params : Row) (old new : Held S)
     → HasBegun g sql params old new → IsTrue (state g old).is_open
 begun_open g sql params old new (inl h) = h.1.0.was_open
@@ -43,7 +43,7 @@ pub begins : {S : Type 0} (g : Ghosts S) (sql : List ℕ) (old new : Held S)
 begins g sql old new plain h = begun_plain g sql [] old new (plain (begun_open g sql [] old new h))
     h
 
--- one more row was read
+-- One more row was read.
 one_more : {X : Type 0} (read : Row → Option X) (rows : List Row) (xs : List X) (r : Row)
     (x : X) → AreRead read rows xs → read r ≡ Some x → AreRead read (rows ++ r ∷ []) (xs ++ x ∷ [])
 one_more read rows xs r x are is =
@@ -51,7 +51,7 @@ one_more read rows xs r x are is =
     ∙ sym (map-append Some xs (x ∷ []))
 
 module _ (sql : List ℕ) (params : Row) where
-  -- the answer of a query that left all as it was is that of the query at its start
+  -- The answer of a query that changed nothing is its answer at the start.
   pub shown_from : (first old new : State) (rows : List Row)
       → IsPlain (understood first.now.schema sql) → IsUnchanged first old
       → Shown sql params old new rows → Shown sql params first new rows
@@ -77,7 +77,7 @@ module _ (sql : List ℕ) (params : Row) where
         ),
       )
 
--- what was unchanged and then rolled back was rolled back
+-- After no change, a rollback is one from the start.
 pub rolled_from : (first old new : State) → IsUnchanged first old → IsUnchanged old new
     ⊎ IsRolledBack old new → IsUnchanged first new ⊎ IsRolledBack first new
 rolled_from first old new same (inl it) = inl (unchanged_then first old new same it)
@@ -123,7 +123,7 @@ module _ {S : Type 0} (g : Ghosts S) (first here new : Held S) (so : Unmoved g f
     | inr was ↦ shown_from sql [] (state g first) (state g here) (state g new) rows plain was it
   ]
 
--- the rows so far were given and read, as `P` tells, and nothing was changed
+-- The rows so far were returned and read, `P` holds of them, and nothing was changed.
 pub record ReadsSoFar {S X : Type 0} (g : Ghosts S) (read : Row → Option X) (P : List X → Type 0)
     (first here : Held S) : Type 0 where
   pub given : HasCleanDisk (state g here) → (sql : List ℕ) → HasGiven g sql [] first []
@@ -135,7 +135,7 @@ pub record ReadsSoFar {S X : Type 0} (g : Ghosts S) (read : Row → Option X) (P
 
 module _ {S X : Type 0} (g : Ghosts S) (read : Row → Option X) (P : List X → Type 0)
     (first : Held S) where
-  -- none was asked for yet
+  -- No row has been asked for yet.
   pub reads_none : P [] → ReadsSoFar g read P first first
   reads_none told = record {
     given = λ clean sql begun. ([], [], begun, refl, told);
@@ -149,7 +149,7 @@ module _ {S X : Type 0} (g : Ghosts S) (read : Row → Option X) (P : List X →
     before : HasCleanDisk (state g new) → HasCleanDisk (state g here)
     before = earlier (state g first) (state g here) (state g new) survives
 
-    -- one more was read, and `Q` tells of it too
+    -- One more row was read, and `Q` holds with it.
     pub reads_one : (Q : List X → Type 0) (x : X) → ((xs : List X) → P xs → Q (xs ++ x ∷ []))
         → (HasCleanDisk (state g new) → (sql : List ℕ) (given : List Row)
         → HasGiven g sql [] here given → ReadsOn g read sql here new given (Some x))
@@ -165,7 +165,7 @@ module _ {S X : Type 0} (g : Ghosts S) (read : Row → Option X) (P : List X →
       survives = both_survive (state g first) (state g here) (state g new) so.survives survives;
     }
 
-    -- no row is left
+    -- No row is left.
     pub reads_all : (HasCleanDisk (state g new) → (sql : List ℕ) (given : List Row)
         → HasGiven g sql [] here given → ReadsOn g read sql here new given None)
         → HasCleanDisk (state g new) → (sql : List ℕ)
@@ -181,13 +181,13 @@ module _ {S X : Type 0} (g : Ghosts S) (read : Row → Option X) (P : List X →
           told,
         )
 
-    -- the next was not read
+    -- The next row could not be read.
     pub reads_no_more : (HasCleanDisk (state g new) → IsUnchanged (state g here) (state g new)
         ⊎ IsRolledBack (state g here) (state g new)) → HasCleanDisk (state g new)
         → Unmoved g first new ⊎ IsRolledBack (state g first) (state g new)
     reads_no_more left clean = rolled_on g first here new (so.same (before clean)) (left clean)
 
--- and so it is from where the query was asked
+-- The same holds from where the query was asked.
 module _ {S : Type 0} (g : Ghosts S) (first here new : Held S) (was : IsUnchanged (state g first)
     (state g here)) where
   pub left_from : Unmoved g here new ⊎ IsRolledBack (state g here) (state g new)
@@ -197,7 +197,7 @@ module _ {S : Type 0} (g : Ghosts S) (first here new : Held S) (was : IsUnchange
   left_from (inl (inr it)) = rolled_from (state g first) (state g here) (state g new) was (inl it)
   left_from (inr it) = rolled_from (state g first) (state g here) (state g new) was (inr it)
 
--- the query was asked with this text
+-- The query was asked with this text.
 module _ {S : Type 0} (g : Ghosts S) (sql : List ℕ) {text : List ℕ} (is : text ≡ sql)
     (first here new : Held S)
     (plain : IsTrue (state g first).is_open → IsPlain (understood first.schema sql))
@@ -207,7 +207,7 @@ module _ {S : Type 0} (g : Ghosts S) (sql : List ℕ) {text : List ℕ} (is : te
   begun clean = subst (λ t. HasBegun g t [] first here) is
       (asked (earlier (state g first) (state g here) (state g new) survives clean))
 
-  -- what was read of it from its start
+  -- What was read, from its start.
   pub read_from : {R X : Type 0} (read : Row → Option X) (P : R → List X
       → Type 0) (r : Result R Fault)
       → (HasCleanDisk (state g new) → IfOk r (λ a. (sql : List ℕ)
@@ -237,7 +237,7 @@ module _ {S : Type 0} (g : Ghosts S) (sql : List ℕ) {text : List ℕ} (is : te
   err_from (Err e) it clean =
       left_from g first here new (begins g sql first here plain (begun clean)).1 (it clean)
 
--- ---- what a table's rows say
+-- ---- the rows of a table
 
 same_left : (old new : State) → (IsTrue old.is_open → old.now ≡ old.committed) → IsTrue new.is_open
     → IsUnchanged old new ⊎ IsRolledBack old new → IsSame old new
@@ -252,7 +252,7 @@ same_left old new settled up (inr it) = record {
   committed = (it.undone up).1;
 }
 
--- a read of all rows looked, and changed nothing
+-- A read of all rows changed nothing.
 pub table_looked : {X R : Type 0} (read : Row → Option X) (P : R → List X → Type 0) (sql : List ℕ)
     (old new : State) (r : Result R Fault)
     → (IsTrue old.is_open → IsPlain (understood old.now.schema sql))
@@ -323,9 +323,9 @@ module _ {X : Type 0} (read : Row → Option X) (table : Table) (old new : State
     λ no. absurd (true≢false (sym no)),
   )
 
--- ---- the ids of the versions of a file of an earlier form
+-- ---- the ids of the versions in a file with an earlier schema
 
--- one more version was read
+-- One more version was read.
 pub more_ids : (ids : List ℕ) (seen : List (ℕ × VersionRow)) (x : OldVersion) (more : List ℕ)
     → more ≡ ids ++ x.version.id ∷ [] → AreIdsOf ids seen
     → AreIdsOf more (seen ++ (x.version.id, x.version.row) ∷ [])

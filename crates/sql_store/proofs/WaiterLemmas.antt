@@ -1,4 +1,4 @@
--- Who waits for a broadcast.
+-- The carriers for which a broadcast is pending.
 use Rattle.std.proofs.Common.{◌≡◌, ℕ, List, [], ◌∷◌, filter, Bool, true, false, cond, ◌&&◌, ◌||◌, Option, Some, None, inl, inr, refl, sym, ap, ◌∙◌, true≢false, arith, nat_lt}
 use Rattle.std.specs.Prelude.{◌==◌, is_some}
 use Rattle.std.specs.List.{list_all, list_any}
@@ -95,7 +95,7 @@ pub last_is : (c : Content) (wait : WaitKey) (waiters : List Spid)
 last_is c wait waiters are = all-map spid_of (λ k. k == wait.carrier) waiters
     ∙ ap (list_all (λ k. k == wait.carrier)) are
 
--- no key is as great as this
+-- No pending download has so great a key.
 pub no_great_wait : (db : Trees) (k : WaitKey)
     → (nat_lt k.id 9223372036854775808 && nat_lt k.attempt 9223372036854775808) ≡ false
     → get (content_in db).waits k ≡ None

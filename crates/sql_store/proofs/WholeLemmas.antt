@@ -1,4 +1,4 @@
--- What the rows of a database are once all of them were read.
+-- The rows of a database that have all been read.
 use Rattle.std.proofs.Common.{◌≡◌, ℕ, List, [], ◌∷◌, map, filter, Bool, true, false, Option, Some, inl, inr, refl, sym, ap, subst, ◌∙◌, true≢false}
 use Rattle.std.specs.FinMap.{FinMap, empty, get, get-empty, same_map, nat_cmp-IsAntisymmetric}
 use Rattle.std.specs.Cmp.{nat_cmp_total}
@@ -91,7 +91,7 @@ module _ (db : Trees) (is_blank : Bool) where
       each_reads next_row_in next_shown (db 16) it.1.0 it.0
       (plain_answer 16 [] (shown_by NextRouting) (overlay db []) [] it.1.0 it.1.1) it.1.2
 
--- of the tables of an earlier form
+-- The tables of an earlier schema were read.
 pub moved_read : (db : Trees) (versions : List (ℕ × VersionRow)) (clocks : List (ℕ × ClockRow))
     → IsListAnswer (All OldVersion) old_version_in db [] versions
     → IsListAnswer (All OldClock) old_clock_in db [] clocks → AreMovedRead db
@@ -218,7 +218,7 @@ none_over more =
     VersionRow} {R = nat_cmp}) more k ∙ ap (option_map (rerouted (get more k))) (get-empty {X =
     VersionRow} nat_cmp k) ∙ sym (get-empty {X = VersionRow} nat_cmp k))
 
--- tables without rows have no content
+-- Tables without rows have no content.
 blank_is_empty : (db : Trees) → IsRegistryBlank db → AreVersionsBlank db → AreAddedBlank db
     → content_in db ≡ empty_content
 blank_is_empty db registry versions added =

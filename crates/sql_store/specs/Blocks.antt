@@ -1,4 +1,4 @@
--- The numbers of a block that are in use, as rows of versions tell them.
+-- The numbers of a block that are in use, by the rows of versions.
 use Rattle.std.specs.Prelude.{◌≡◌, ◌==◌, ℕ, Bool, List, Option, Some, None, option_and_then}
 use Rattle.std.specs.FinMap.{get}
 use Rattle.std.specs.List.{list_any}
@@ -16,7 +16,7 @@ use Rattle.sql_rows.specs.declared.statement.Query.TheVariants.{InForceAmong, Op
 abbrev pub number_of_tn : Tn → ℕ
 number_of_tn tn = tn.number
 
--- ---- a number by a column of its version
+-- ---- a number, by a column of its version
 
 abbrev pub query_by : Role → Query
 query_by InForce = InForceAmong
@@ -33,12 +33,12 @@ number_if (Block n) = None
 abbrev pub number_by : Role → VersionRow → Option ℕ
 number_by by v = option_and_then number_if (subject_by by v)
 
--- a version of the number is in force, or open
+-- Holds if the number has a version in this role: in force, or open.
 abbrev pub HasVersionInRole : Content → Role → (number : ℕ) → Type 0
 HasVersionInRole c by n = (id : ℕ) × (row : VersionRow) × (get c.versions id ≡ Some row)
     × (subject_by by row ≡ Some (Number n))
 
--- the numbers of the block of which it is so
+-- Holds if these are the numbers of the block with a version in this role.
 pub record AreNumbers (c : Content) (by : Role) (block : ℕ) (tns : List Tn) : Type 0 where
   pub each : (n : ℕ) → block_of n ≡ block → HasVersionInRole c by n → (tn : Tn) × Has tns tn
       × (tn.number ≡ n)

@@ -1,4 +1,4 @@
--- A content with rows put and taken away.
+-- A content with rows written and deleted.
 use Rattle.std.specs.Prelude.{◌≡◌, ◌||◌, Bool, IsTrue, ℕ, List, [], ◌∷◌, Option, Some, None, is_some, option_map}
 use Rattle.std.specs.FinMap.{insert, remove}
 use Rattle.numbers.specs.Subjects.{Subject}
@@ -28,11 +28,11 @@ with_code k v c = record c { codes = insert c.codes k v }
 abbrev pub with_block : ℕ → BlockRow → Content → Content
 with_block k v c = record c { blocks = insert c.blocks k v }
 
--- the clock's row is stored with the number of its set alone
+-- The content with this clock's row; the row is stored with the number of its windows only.
 abbrev pub with_clock : StoredClock → Content → Content
 with_clock v c = record c { clock = with_windows c.sets v }
 
--- a set of windows, which is the present one from then on
+-- The content with this set of windows as the present one.
 abbrev pub with_set : StoredClock → Windows → Content → Content
 with_set v w c = record c {
   sets = insert c.sets v.present w;
@@ -57,23 +57,24 @@ with_wait k v c = record c { waits = insert c.waits k v }
 abbrev pub without_wait : WaitKey → Content → Content
 without_wait k c = record c { waits = remove c.waits k }
 
--- ---- many, the first of them first
+-- ---- many changes, the first one first
 
 abbrev pub all_made : {X : Type 0} → (X → Content → Content) → List X → Content → Content
 all_made change [] c = c
 all_made change (x ∷ xs) c = all_made change xs (change x c)
 
--- one, if it is there
+-- The content with one change, if there is one.
 abbrev pub if_some : {X : Type 0} → (X → Content → Content) → Option X → Content → Content
 if_some change None c = c
 if_some change (Some x) c = change x c
 
--- the versions' rows are taken away before any is put, so that none stands in the way of another
+-- The content with these versions' rows. All old rows are deleted before the first one is written,
+-- because the subjects that rows hold must be unique.
 abbrev pub replaced : List (ℕ × VersionRow) → Content → Content
 replaced ps c = all_made (λ p. with_version p.0 p.1) ps (all_made (λ p. without_version p.0) ps c)
 
--- the clock moved, and a set put, over the clock's row as it was. A set with no row to go by is
--- never put
+-- The content with the clock moved and a set of windows written, given the clock's row before. A
+-- set without a clock's row is never written.
 abbrev pub clock_made : Option ClockMove → Option WindowSet → Option ClockRow → Content → Content
 clock_made None None row c = c
 clock_made (Some m) None None c = c
@@ -85,7 +86,7 @@ clock_made None (Some s) (Some row) c =
     with_set (stored_clock row.minute.number row.next_id s.number) (windows_of s.windows) c
 clock_made None (Some s) None c = record c { sets = insert c.sets s.number (windows_of s.windows) }
 
--- the rows of which there is at most one
+-- The content with the optional single rows of a batch written.
 abbrev pub singles : Changes → Option ClockRow → Content → Content
 singles ch row c =
     clock_made ch.clock ch.set row (if_some (λ e. with_block (block_of e.0) (block_row_of e.1))
@@ -93,7 +94,7 @@ singles ch row c =
     (if_some (λ e. with_lrn (lrn_of e.0) (spid_of e.1)) ch.lrn
     (if_some (λ k. with_carrier (spid_of k)) ch.carrier c))))
 
--- all others: rows are put, and then rows are taken away
+-- The content with all other rows written, and then rows deleted.
 abbrev pub lists : Changes → Content → Content
 lists ch c =
     all_made (λ k. without_wait (wait_key_of k)) (items_of ch.taken_waits)
@@ -105,11 +106,12 @@ lists ch c =
 abbrev pub with_changes : Changes → Option ClockRow → Content → Content
 with_changes ch row c = lists ch (singles ch row c)
 
--- they move the clock, or set the windows anew
+-- Whether the changes depend on the clock's row: they move the clock, or set the windows.
 abbrev pub go_by_clock : Changes → Bool
 go_by_clock ch = is_some ch.clock || is_some ch.set
 
--- the changes, where this is the clock's row before them if they go by it
+-- Holds if the changes are applied, given that this is the clock's row before them if they depend
+-- on it.
 abbrev pub IsChangedOver : Changes → Option ClockRow → Content → Content → Type 0
 IsChangedOver ch row old new = (IsTrue (go_by_clock ch) → option_map clock_row_of row ≡ old.clock)
     → AppliesChanges (changes_of ch) old new

@@ -1,4 +1,4 @@
--- What is told of a file that is refused.
+-- The refusal of a file.
 use Rattle.std.specs.Prelude.{◌≢◌}
 use Rattle.sqlite.specs.Store.{Ghosts}
 use Rattle.sqlite.specs.Tree.{Trees}
@@ -9,8 +9,8 @@ use Rattle.sql_store.specs.declared.file.Unopened.TheVariants.{Files, Database}
 use Rattle.sql_store.specs.declared.file_fault.FileFault.{FileFault}
 use Rattle.sql_store.specs.declared.file_fault.FileFault.TheVariants.{WindowsDiffer}
 
--- the database that the file holds was refused as one, or the file was not opened, which no windows
--- cause
+-- Holds if the file's database was refused as one, or the file could not be opened, which is never
+-- due to the windows.
 abbrev pub IsRefusedAt : {S L : Type 0} → Ghosts S → Windows → Trees → FileFault → Unopened S L
     → Type 0
 IsRefusedAt g w db fault (Files left) = fault ≢ WindowsDiffer

@@ -12,7 +12,7 @@ use Rattle.sql_rows.specs.declared.statement.Query.{Query}
 abbrev pub version_model : NumberedRow → ℕ × VersionRow
 version_model v = (v.id, v.row)
 
--- the query is answered by no row or by one, and this is that row with its routing
+-- Holds if the query is answered by no row or by one, and this is that row with its routing.
 abbrev pub IsVersionFound : Query → Trees → Row → Option NumberedRow → Type 0
 IsVersionFound query db params o = (bare : Option NumberedRow)
     × IsSoleAnswer query version_in db params (option_map version_model bare) × IsFoundAs db bare o

@@ -1,4 +1,4 @@
--- A file of an earlier form made one of this form.
+-- The migration of a file with an earlier schema.
 use Rattle.std.specs.Prelude.{◌≡◌, ◌≢◌, ℕ, pos, Bool, List, [], ◌∷◌, Option, Some, None, IsTrue, map, not, option_map}
 use Rattle.std.specs.FinMap.{FinMap, empty, get, insert}
 use Rattle.std.specs.List.{AllByRecursion}
@@ -32,12 +32,12 @@ use Rattle.sql_rows.specs.declared.version_row.OldVersion.{OldVersion}
 use Rattle.sql_store.specs.Store.{HasStoreTables, IsSame, HasCommittedNothing, Wrote}
 use Rattle.sql_store.specs.Whole.{AreRegistryRead, EachReads, IsMoved}
 
--- each table of the form has rowids that rise
+-- Holds if each table of the schema has ascending rowids.
 abbrev pub AreOldShaped : SchemaVersion → Trees → Type 0
 AreOldShaped f db =
     AllByRecursion (λ (t : SqlTable). IsShaped AsTable (db t.tree)) (schema_of f).tables
 
--- the tables are those of the form, and nothing is pending
+-- Holds if the tables are those of the schema, and nothing is uncommitted.
 pub record HasSchemaVersion (f : SchemaVersion) (s : State) : Type 0 where
   pub schema : s.now.schema ≡ schema_of f
   pub shaped : AreOldShaped f s.now.trees
@@ -46,56 +46,55 @@ pub record HasSchemaVersion (f : SchemaVersion) (s : State) : Type 0 where
 
 -- ---- the contract
 
--- the file is one of this form: its content is the old one, with its windows as set 1, and the
--- tables of the earlier form are empty
+-- Holds if the new content is the old one with its windows as set 1, and the tables of the earlier
+-- schema are empty.
 pub record IsCarriedOver (f : SchemaVersion) (old new : Trees) : Type 0 where
   pub content : content_in new ≡ old_content_in f old
   pub moved : IsMoved new
 
--- ---- what is read before anything is written
+-- ---- the rows read before anything is written
 
--- each row of the routings that versions send, if the form has such a table
+-- Holds if each routing that a version sends is readable, if the schema has a table of those.
 abbrev pub AreNextsRead : SchemaVersion → Trees → Type 0
 AreNextsRead f db = EachReads next_entry (next_rows f db)
 
--- each row of what is sent
+-- Holds if each row of what is sent is readable.
 pub record IsSentRead (f : SchemaVersion) (db : Trees) : Type 0 where
   pub broadcasts : EachReads broadcast_entry (db 8)
   pub waits : EachReads wait_entry (db 10)
   pub nexts : AreNextsRead f db
 
--- each row of the tables that stay as they are
+-- Holds if each row of the tables that are not migrated is readable.
 pub record AreStayingRead (f : SchemaVersion) (db : Trees) : Type 0 where
   pub registry : AreRegistryRead db
   pub sent : IsSentRead f db
 
--- each row of the tables that are emptied
+-- Holds if each row of the tables that are emptied is readable.
 pub record AreMovedRead (db : Trees) : Type 0 where
   pub versions : EachReads old_version_entry (db 5)
   pub clock : EachReads old_clock_entry (db 12)
 
--- the versions and the clock were read and carried over
+-- Holds if the versions and the clock were read and migrated.
 pub record IsCarried (f : SchemaVersion) (old new : Trees) : Type 0 where
   pub read : AreMovedRead old
   pub over : IsCarriedOver f old new
 
--- the windows are those of the file, where it has a clock
+-- Holds if the windows are those of the file, if it has a clock.
 abbrev pub WereItsWindows : Windows → Trees → Type 0
 WereItsWindows w db = (c : ClockRow) → old_clock (db 12) ≡ Some c → c.present.windows ≡ w
 
--- the file has a clock, and other windows
+-- Holds if the file has a clock, and other windows.
 abbrev pub WereOtherWindows : Windows → Trees → Type 0
 WereOtherWindows w db = (c : ClockRow) × (old_clock (db 12) ≡ Some c) × (c.present.windows ≢ w)
 
--- a file of the form was made one of this form: these windows are its own, and every row of it was
--- read
+-- Holds if the file was migrated from this schema: these windows are its own, and every row was
+-- read.
 pub record IsMovedFrom (f : SchemaVersion) (w : Windows) (old new : Trees) : Type 0 where
   pub staying : AreStayingRead f old
   pub windows : WereItsWindows w old
   pub carried : IsCarried f old new
 
--- a call made this of a file of an earlier form, which is one of this form then, or left it as it
--- was; and so does a crash
+-- Holds if the call migrated the file or left it unchanged, and a crash leaves either.
 pub record HasMigrated (Becomes : Trees → Trees → Type 0) (old new : State)
     (done : Bool) : Type 0 where
   pub becomes : IsTrue done → IsTrue new.is_open → Becomes old.now.trees new.now.trees
@@ -106,7 +105,7 @@ pub record HasMigrated (Becomes : Trees → Trees → Type 0) (old new : State)
   pub stays : IsTrue done → IsTrue old.is_open → HasCleanDisk new → IsTrue new.is_open
   pub crash : Survives old new (λ db. IsTrue old.is_open → Becomes old.now.trees db)
 
--- the schema is none, ours, or that of an earlier form
+-- A schema that is empty, the present one, or an earlier one.
 pub data HasKnownSchema (k : Schema) : Type 0 where
   of_none : k ≡ no_schema → HasKnownSchema k
   of_ours : k ≡ the_schema → HasKnownSchema k
@@ -114,7 +113,7 @@ pub data HasKnownSchema (k : Schema) : Type 0 where
 
 -- ---- in a transaction
 
--- a transaction over a database with this schema
+-- Holds in a transaction over a database with this schema.
 pub record IsBegun (k : Schema) (s : State) : Type 0 where
   pub is_open : IsTrue s.is_open
   pub inside : IsTrue s.in_transaction
@@ -124,7 +123,7 @@ pub record IsBegunAs (f : SchemaVersion) (s : State) : Type 0 where
   pub begun : IsBegun (schema_of f) s
   pub shaped : AreOldShaped f s.now.trees
 
--- a call in a transaction makes this of the database, where it does not fail
+-- Holds if the call in a transaction changes the database so, unless it fails.
 pub record MigratesInTransaction (P : State → Type 0) (old new : State) (done : Bool)
     (Did : Database → Database
     → Type 0) : Type 0 where
@@ -132,11 +131,12 @@ pub record MigratesInTransaction (P : State → Type 0) (old new : State) (done 
   pub kept : IsTrue new.is_open → HasCommittedNothing old new
   pub survives : Survives old new (λ _. ⊥)
 
--- the index is there, and all tables have the rows that they had
+-- Holds if the index exists, and all tables have the rows that they had.
 abbrev pub IsIndexed : Database → Database → Type 0
 IsIndexed old new = (new.schema ≡ the_schema) × KeepsRows the_schema.tables old.trees new.trees
 
--- the tables and the index are there, the new ones have no row, and the others those that they had
+-- Holds if the tables and the index exist, the new tables are empty, and the others have the rows
+-- that they had.
 pub record AreTablesCreated (f : SchemaVersion) (old new : Database) : Type 0 where
   pub schema : new.schema ≡ the_schema
   pub sets : new.trees 17 ≡ []
@@ -145,7 +145,7 @@ pub record AreTablesCreated (f : SchemaVersion) (old new : Database) : Type 0 wh
   pub nexts : new.trees 16 ≡ next_rows f old.trees
   pub same : KeepsRows (schema_of f).tables old.trees new.trees
 
--- a version's row was put as its table has it: the routing that it sends stays where it stood
+-- Holds if the version's row was written, without the routing that it sends.
 abbrev pub IsBarePut : ℕ → VersionRow → Database → Database → Type 0
 IsBarePut id v old new = Replaced Version (Int (pos id) ∷ []) (version_params id v) old new
     × (version_entry (version_row id v) ≡ Some (id, bare v))
@@ -156,21 +156,22 @@ seen_of xs = map (λ (x : OldVersion). (x.version.id, x.version.row)) xs
 abbrev pub ids_in : List OldVersion → List ℕ
 ids_in xs = map (λ (x : OldVersion). x.version.id) xs
 
--- the ids of these versions
+-- Holds if these are the ids of the versions.
 abbrev pub AreIdsOf : List ℕ → List (ℕ × VersionRow) → Type 0
 AreIdsOf ids seen = (xs : List OldVersion) × (seen ≡ seen_of xs) × (ids ≡ ids_in xs)
 
--- of all versions of a file of an earlier form, each of which reads
+-- Holds if these are the ids of all versions in a file with an earlier schema, and each version is
+-- readable.
 abbrev pub HasIds : List ℕ → Trees → Type 0
 HasIds ids db = (xs : List OldVersion) × IsListAnswer (All OldTable) old_version_in db []
     (seen_of xs) × (ids ≡ ids_in xs)
 
--- the version with an id was put as it stands there
+-- Holds if the version with this id was copied from the table of earlier schemas.
 abbrev pub IsOldPut : ℕ → Database → Database → Type 0
 IsOldPut id old new = (v : VersionRow) × (get (old_versions_in (old.trees 5)) id ≡ Some v)
     × IsBarePut id v old new
 
--- the versions with these ids, each of which stands in the first of two maps, put into the other
+-- The map with the version of this id written, if there is one.
 abbrev pub put_if : ℕ → Option VersionRow → FinMap nat_cmp VersionRow → FinMap nat_cmp VersionRow
 put_if id None m = m
 put_if id (Some v) m = insert m id (bare v)
@@ -180,11 +181,12 @@ abbrev pub all_of : FinMap nat_cmp VersionRow → List ℕ → FinMap nat_cmp Ve
 all_of from [] m = m
 all_of from (id ∷ ids) m = all_of from ids (put_if id (get from id) m)
 
--- those of the table of the earlier forms
+-- The map with the versions of these ids written, from the table of earlier schemas.
 abbrev pub all_old : Trees → List ℕ → FinMap nat_cmp VersionRow → FinMap nat_cmp VersionRow
 all_old db = all_of (old_versions_in (db 5))
 
--- some of the versions were put: those that are left make together with them what all of them make
+-- Holds if some versions were copied: copying those of `left` too gives what copying those of
+-- `whole` would have given.
 pub record ArePutBut (left whole : List ℕ) (old new : Database) : Type 0 where
   pub schema : old.schema ≡ the_schema → new.schema ≡ the_schema
   pub shaped : AreShaped old.trees → AreShaped new.trees
@@ -192,17 +194,17 @@ pub record ArePutBut (left whole : List ℕ) (old new : Database) : Type 0 where
       ≡ all_old old.trees whole (versions_in (old.trees 18))
   pub frame : IsFrame Version old.trees new.trees
 
--- the version with an id was taken away from the table of the earlier forms
+-- Holds if the version with this id was deleted from the table of earlier schemas.
 abbrev pub IsOldTaken : ℕ → Database → Database → Type 0
 IsOldTaken id = Removed OldTable (Int (pos id) ∷ [])
 
--- rows may have been taken away from that table, and every other is as it was
+-- Holds if rows may have been deleted from the table of earlier schemas, and all other tables stay.
 pub record AreOldRowsDeleted (old new : Database) : Type 0 where
   pub schema : old.schema ≡ the_schema → new.schema ≡ the_schema
   pub shaped : AreShaped old.trees → AreShaped new.trees
   pub frame : IsFrame OldTable old.trees new.trees
 
--- the rows were put, and the old tables emptied
+-- Holds if the rows were copied, and the tables of the earlier schema emptied.
 pub record AreRowsCopied (ids : List ℕ) (clock : Option OldClock)
     (old new : Database) : Type 0 where
   pub schema : new.schema ≡ the_schema
@@ -212,7 +214,7 @@ pub record AreRowsCopied (ids : List ℕ) (clock : Option OldClock)
       → content_in new.trees ≡ content_with Modify (all_old old.trees ids empty)
       (option_map old_clock_of clock) old.trees
 
--- both
+-- Holds if the tables were created and the rows copied.
 pub record IsMigrated (f : SchemaVersion) (ids : List ℕ) (clock : Option OldClock)
     (old new : Database) : Type 0 where
   pub schema : new.schema ≡ the_schema
@@ -221,7 +223,7 @@ pub record IsMigrated (f : SchemaVersion) (ids : List ℕ) (clock : Option OldCl
   pub content : content_in new.trees ≡ content_with f (all_old old.trees ids empty)
       (option_map old_clock_of clock) old.trees
 
--- the trees alone
+-- Holds if the trees are migrated; says nothing of the schema.
 pub record AreTreesMigrated (f : SchemaVersion) (ids : List ℕ) (clock : Option OldClock)
     (old new : Trees) : Type 0 where
   pub content : content_in new ≡ content_with f (all_old old ids empty)

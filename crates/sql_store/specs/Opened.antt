@@ -1,4 +1,4 @@
--- What is told of a database that is taken as a store, and of one that is refused.
+-- The databases that are taken as a store, and those that are refused.
 use Rattle.std.specs.Prelude.{◌≡◌, ◌⊎◌}
 use Rattle.sqlite.specs.State.{IsLive, Opens, State}
 use Rattle.sqlite.specs.Store.{Ghosts}
@@ -19,8 +19,8 @@ use Rattle.sql_store.specs.declared.file_fault.FileFault.{FileFault}
 use Rattle.sql_store.specs.declared.file_fault.FileFault.TheVariants.{WindowsDiffer}
 use Rattle.sql_store.specs.declared.refused.Refused.{Refused}
 
--- a connection as an open leaves it: its tables, where they are ours or of an earlier form, have
--- rows in order
+-- Holds of a newly opened connection: its tables have rows in order, if they are the present or an
+-- earlier schema's.
 pub record WasOpened (s : State) : Type 0 where
   pub opens : Opens s
   pub live : IsLive s
@@ -28,16 +28,16 @@ pub record WasOpened (s : State) : Type 0 where
   pub old_shaped : (f : SchemaVersion) → IsSound (schema_of f) s.now.trees
       → AreOldShaped f s.now.trees
 
--- the database is of an earlier form, and was made with other windows
+-- Holds if the database has an earlier schema, and was created with other windows.
 pub record HadOtherWindows (w : Windows) (db : Trees) : Type 0 where
   pub form : SchemaVersion
   pub sound : IsSound (schema_of form) db
   pub others : WereOtherWindows w db
 
--- ---- what is taken
+-- ---- databases that are taken
 
--- what a database is once it is taken: one that lists nothing is empty, one of our tables has what
--- it had, one of an earlier form is moved
+-- Holds if the database is taken so: without tables it is empty, with the present schema it keeps
+-- its content, and with an earlier schema it is migrated.
 pub record IsTakenAs (w : Windows) (db now : Trees) : Type 0 where
   pub new : IsSound no_schema db → content_in now ≡ empty_content
   pub found : IsSound the_schema db → content_in now ≡ content_in db
@@ -47,16 +47,16 @@ pub record IsTakenAs (w : Windows) (db now : Trees) : Type 0 where
   pub sound : IsSound schema db
   pub known : HasKnownSchema schema
 
--- ---- what is refused
+-- ---- databases that are refused
 
--- what a crash may leave of a database that is opened: what it is, or what one of an earlier form
--- is moved to
+-- Holds if a crash may leave this of a database being opened: what it is, or, with an earlier
+-- schema, its migration.
 abbrev pub IsCrashStateOfOpen : Windows → (db left : Trees) → Type 0
 IsCrashStateOfOpen w db left = (left ≡ db) ⊎ ((f : SchemaVersion) × IsSound (schema_of f) db
     × IsMovedFrom f w db left)
 
--- a database is refused: if it lists tables it is as it was, a crash leaves no more than it might,
--- and its windows were others if that is told
+-- Holds if a database is refused so. If it lists tables, it is unchanged, and a crash leaves what
+-- it might leave before, or its migration. `WindowsDiffer` implies other windows.
 pub record IsRefusedAs {S : Type 0} (g : Ghosts S) (w : Windows) (db : Trees) (fault : FileFault)
     (left : Refused S) : Type 0 where
   pub kept : ¬ IsSound no_schema db → StandsYet g left → trees_of g left ≡ db

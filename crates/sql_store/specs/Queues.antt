@@ -1,4 +1,4 @@
--- What the front of a queue is made of.
+-- Definitions for the first downloads of a queue.
 use Rattle.std.specs.Prelude.{◌≡◌, ◌⊎◌, ◌≤◌, ℕ, Bool, List, map, filter, take, length, Option, Some, None, true, is_some, All}
 use Rattle.std.specs.declared.cmp.Ordering.{Ordering}
 use Rattle.std.specs.declared.cmp.Ordering.TheVariants.{Less}
@@ -18,27 +18,28 @@ use Rattle.settle.specs.Reads.{IsToldBy, download_cmp}
 abbrev pub key_in : Download → DownloadKey
 key_in d = record { minute = d.minute; id = d.id; attempt = d.attempt }
 
--- what waits has a broadcast
+-- Whether a pending download has a broadcast.
 abbrev pub is_told : Content → DownloadKey → Bool
 is_told c wait = is_some (get c.broadcasts (record { id = wait.id; attempt = wait.attempt }))
 
--- the download is as its broadcast's row tells it
+-- Holds if the download is as its broadcast's row describes it.
 abbrev pub IsTold : Content → Download → Type 0
 IsTold c d = (row : BroadcastRow) × (get c.broadcasts (record { id = d.id; attempt = d.attempt })
     ≡ Some row) × IsToldBy row d
 
--- what waits as a download, or nothing where it has no broadcast
+-- Holds if this is the pending download, or none if it has no broadcast.
 abbrev pub IsNext : Content → DownloadKey → Option Download → Type 0
 IsNext c wait None = get c.broadcasts (record { id = wait.id; attempt = wait.attempt }) ≡ None
 IsNext c wait (Some d) = (key_in d ≡ wait) × IsTold c d
 
--- all that waits and has a broadcast, in its order
+-- Holds if these are the pending downloads that have a broadcast, in order.
 pub record AreTold (c : Content) (waits : List DownloadKey)
     (downloads : List Download) : Type 0 where
   pub keys : map key_in downloads ≡ filter (is_told c) waits
   pub told : All (IsTold c) downloads
 
--- the first of them: so many, or all where there are fewer
+-- Holds if these are the first `many` of the pending downloads that have a broadcast, or all if
+-- there are fewer.
 pub record AreFirstTold (c : Content) (many : ℕ) (waits : List DownloadKey)
     (downloads : List Download) : Type 0 where
   pub passed : ℕ
@@ -46,14 +47,14 @@ pub record AreFirstTold (c : Content) (many : ℕ) (waits : List DownloadKey)
   pub whole : (length waits ≤ passed) ⊎ (length downloads ≡ many)
   pub most : length downloads ≤ many
 
--- in the order of a queue
+-- The order of a queue.
 abbrev pub queue_order : DownloadKey → (minute id attempt : ℕ) → Ordering
 queue_order d minute id attempt =
     ordering_then (nat_cmp d.minute.number minute) (ordering_then (nat_cmp d.id id)
     (nat_cmp d.attempt attempt))
 
--- what waits for the carrier: each once, in the order of its queue; all of it, unless `Left`, and
--- then what is left is behind these
+-- Holds if these are downloads pending for the carrier, without duplicates, in the order of its
+-- queue. They are all of them, unless `Left` holds; then the others come after these.
 pub record AreQueued (c : Content) (carrier : ℕ) (Left : Type 0)
     (waits : List DownloadKey) : Type 0 where
   pub each : (minute id attempt : ℕ) → is_some (get c.waits (record {
@@ -78,14 +79,14 @@ pub record AreQueued (c : Content) (carrier : ℕ) (Left : Type 0)
 abbrev pub seen_wait : KeyedWait → WaitKey × Subject
 seen_wait w = (wait_key_of w.key, subject_of w.subject)
 
--- in the order of a queue
+-- The order of a queue, by keys.
 abbrev pub wait_order : WaitKey → WaitKey → Ordering
 wait_order a b =
     ordering_then (nat_cmp a.minute b.minute) (ordering_then (nat_cmp a.id b.id)
     (nat_cmp a.attempt b.attempt))
 
--- the items wait for the carrier, and what else waits for it is behind all of them, if they are so
--- many
+-- Holds if the items are pending for the carrier. All other downloads pending for it come after
+-- them, and there are others only if there are at least `n` items.
 pub record AreFront (c : Content) (spid n : ℕ) (items : List KeyedWait) : Type 0 where
   pub only : (x : KeyedWait) → Has items x → (get c.waits (seen_wait x).0 ≡ Some (seen_wait x).1)
       × ((seen_wait x).0.carrier ≡ spid)

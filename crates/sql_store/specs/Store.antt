@@ -1,4 +1,4 @@
--- What the store's connection keeps, and what its calls leave.
+-- The invariant of the store's connection, and what its calls leave.
 use Rattle.std.specs.Prelude.{◌≡◌, ◌⊎◌, ℕ, pos, [], ◌∷◌, Option, Some, None, false, true, Bool, IsTrue, refl, not}
 use Rattle.std.proofs.Common.{sym, ap, ◌∙◌, true≢false}
 use Rattle.sqlite.specs.Store.{Ghosts}
@@ -25,7 +25,7 @@ use Rattle.sqlite.specs.declared.types.Value.TheVariants.{Int}
 
 -- ---- between calls
 
--- the tables are ours, and nothing is pending
+-- Holds if the tables are the store's, and nothing is uncommitted.
 pub record HasStoreTables (s : State) : Type 0 where
   pub schema : s.now.schema ≡ the_schema
   pub shaped : AreShaped s.now.trees
@@ -49,28 +49,28 @@ HasStoreTables-prop s a b i = record {
   same_trees = Trees-set _ _ a.same_trees b.same_trees i;
 }
 
--- a ghost field wants a proposition
+-- The type of a ghost field must be a proposition.
 pub ours_if_open : (s : State) → IsProp (IsTrue s.is_open → HasStoreTables s)
 ours_if_open s = Π_prop (λ _. HasStoreTables-prop s)
 
--- the content of the tables
+-- The content of the tables.
 abbrev pub content_at : State → Content
 content_at s = content_in s.now.trees
 
--- the store is as it was
+-- Holds if the store is unchanged.
 pub record IsSame (old new : State) : Type 0 where
   pub was_open : IsTrue old.is_open
   pub now : new.now ≡ old.now
   pub committed : new.committed ≡ old.committed
 
--- a call read, and answered or not: a connection that is shut answers none
+-- Holds if a call only read. A shut connection answers no such call.
 pub record HasQueried (old new : State) (answered : Bool) : Type 0 where
   pub same : IsTrue new.is_open → IsSame old new
   pub honest : HasCleanDisk new → HasCleanDisk old
   pub stays : IsTrue answered → HasCleanDisk new → IsTrue new.is_open
   pub survives : Survives old new (λ _. ⊥)
 
--- a call committed this, or nothing
+-- Holds if a call committed this, or nothing.
 pub record HasCommitted (old new : State) (done : Bool) (Becomes : Content → Content
     → Type 0) : Type 0 where
   pub becomes : IsTrue done → IsTrue new.is_open → Becomes (content_at old) (content_at new)
@@ -81,53 +81,53 @@ pub record HasCommitted (old new : State) (done : Bool) (Becomes : Content → C
   pub ours : IsTrue new.is_open → HasStoreTables new
   pub crash : Survives old new (λ db. IsTrue old.is_open → Becomes (content_at old) (content_in db))
 
--- a crash leaves what it could leave before, or what the call made, also of a connection that is
--- shut
+-- Holds if a crash leaves what it could leave before, or what the call made. This covers a shut
+-- connection too.
 abbrev pub CommitLeaves : (old new : State) → (Content → Content → Type 0) → Type 0
 CommitLeaves old new Becomes = HasCleanDisk new → (db : Trees) → new.may_leave db → old.may_leave db
     ⊎ Becomes (content_at old) (content_in db)
 
 -- ---- in a transaction
 
--- the tables are ours while a transaction writes them
+-- Holds if a transaction writes the store's tables.
 pub record IsInTransaction (s : State) : Type 0 where
   pub is_open : IsTrue s.is_open
   pub inside : IsTrue s.in_transaction
   pub schema : s.now.schema ≡ the_schema
   pub shaped : AreShaped s.now.trees
 
--- statements were made, and the tables are this content now
+-- Holds if statements were executed, and the tables have this content now.
 pub record Stepped (old new : State) (content : Content) : Type 0 where
   pub inside : IsInTransaction new
   pub committed : new.committed ≡ old.committed
   pub is : content_at new ≡ content
 
--- nothing was committed, however it went
+-- Holds if nothing was committed, whether or not the call failed.
 pub record HasCommittedNothing (old new : State) : Type 0 where
   pub was_open : IsTrue old.is_open
   pub committed : new.committed ≡ old.committed
 
--- a statement made this of the tables
+-- Holds if a statement changed the tables so.
 pub record Wrote (old new : State) (Did : Database → Database → Type 0) : Type 0 where
   pub is_open : IsTrue new.is_open
   pub inside : IsTrue new.in_transaction
   pub committed : new.committed ≡ old.committed
   pub did : Did old.now new.now
 
--- a call in a transaction makes this of the tables, where it does not fail
+-- Holds if a call in a transaction changes the tables so, unless it fails.
 pub record WritesInTransaction (old new : State) (done : Bool) (Did : Database → Database
     → Type 0) : Type 0 where
   pub wrote : IsTrue done → HasCleanDisk new → IsInTransaction old → Wrote old new Did
   pub kept : IsTrue new.is_open → HasCommittedNothing old new
   pub survives : Survives old new (λ _. ⊥)
 
--- the routing that a version sends was put, or what stood there was taken away
+-- Holds if the routing that a version sends was written, or the stored one deleted.
 abbrev pub IsNextPut : ℕ → Option Routing → Database → Database → Type 0
 IsNextPut id None old new = Removed NextRouting (Int (pos id) ∷ []) old new
 IsNextPut id (Some r) old new = Replaced NextRouting (Int (pos id) ∷ []) (next_params id r) old new
     × (next_entry (stored (next_params id r)) ≡ Some (id, r))
 
--- a call in a transaction makes this change of the content, where it does not fail
+-- Holds if a call in a transaction changes the content so, unless it fails.
 pub record AppliesInTransaction (old new : State) (done : Bool) (change : Content
     → Content) : Type 0 where
   pub made : IsTrue done → HasCleanDisk new → IsInTransaction old
@@ -135,7 +135,7 @@ pub record AppliesInTransaction (old new : State) (done : Bool) (change : Conten
   pub kept : IsTrue new.is_open → HasCommittedNothing old new
   pub survives : Survives old new (λ _. ⊥)
 
--- calls so far, and those that are left, make together this change
+-- Holds if the calls so far, with the change `left` after them, make the change `whole`.
 pub record IsTransactionProgress (old new : State) (left whole : Content → Content) : Type 0 where
   pub inside : HasCleanDisk new → IsInTransaction old → IsInTransaction new
   pub committed : HasCleanDisk new → IsInTransaction old → new.committed ≡ old.committed
@@ -145,18 +145,18 @@ pub record IsTransactionProgress (old new : State) (left whole : Content → Con
 
 -- ---- a crash
 
--- the contents that stand in what a crash may leave of a database
+-- Holds of the contents of the databases that a crash may leave.
 abbrev pub left_by : {S : Type 0} → Ghosts S → Held S → Content → Type 0
 left_by g h m = (db : Trees) × (state g h).may_leave db × (m ≡ content_in db)
 
--- what is open is clean
+-- An open connection has a clean disk.
 pub clean_if_open : (clean is_open : Bool) → (clean ≡ false → is_open ≡ false) → IsTrue is_open
     → doubt clean ≡ 0
 clean_if_open true is_open law h = no_doubt true refl
 clean_if_open false is_open law h = absurd (let e = law refl in let f : is_open ≡ true = h in
     true≢false (sym f ∙ e))
 
--- where a crash leaves one database, it leaves one content
+-- If a crash leaves one database, it leaves one content.
 pub left_one : (m : Content) (db committed now : Trees) → m ≡ content_in db → db ≡ committed
     → now ≡ committed → m ≡ content_in now
 left_one m db committed now is left same = is ∙ ap content_in (left ∙ sym same)

@@ -1,4 +1,4 @@
--- What the code asks of a schema.
+-- Definitions for the check of a schema.
 use Rattle.sqlite_schema.specs.declared.schema.Column.{Column}
 use Rattle.sqlite_schema.specs.declared.schema.Index.{Index}
 use Rattle.sqlite_value.specs.Keys.{plain}
@@ -22,7 +22,7 @@ table_of w =
 abbrev pub index_of : WantedIndex → Index
 index_of w = an_index w.name.now w.tree w.table w.columns.now w.is_unique
 
--- what the steps led to
+-- The tables of all steps.
 abbrev pub tables_of : List Added → List Table
 tables_of [] = []
 tables_of (step ∷ steps) = map table_of step.tables.now ++ tables_of steps

@@ -1,4 +1,4 @@
--- A database of which each row was read once.
+-- A database whose rows have all been read once.
 use Rattle.std.specs.Prelude.{◌≡◌, Bool, true, List, [], Option, Some}
 use Rattle.sqlite.specs.Order.{Row}
 use Rattle.sqlite.specs.Tree.{Trees}
@@ -10,30 +10,30 @@ use Rattle.sql_rows.specs.Versions.{version_entry}
 use Rattle.sql_rows.specs.declared.statement.Query.TheVariants.{All}
 use Rattle.sql_rows.specs.declared.statement.Table.{Table}
 
--- all rows of the table read, and `blank` tells that there is none
+-- Holds if all rows of the table were read, and `blank` implies that there are none.
 abbrev pub IsRead : {X : Type 0} → Table → (Row → Option X) → Trees → (blank : Bool) → Type 0
 IsRead {X} t read db blank = (xs : List X) × IsListAnswer (All t) read db [] xs
     × (blank ≡ true → xs ≡ [])
 
--- each row is a key with its value
+-- Holds if each row reads as a key with its value.
 abbrev pub EachReads : {X : Type 0} → (Row → Option X) → List Row → Type 0
 EachReads {X} entry rows = (r : Row) → Has rows r → (e : X) × (entry r ≡ Some e)
 
--- the tables of the registry
+-- Holds if carriers, routing numbers, codes and blocks are readable.
 pub record AreRegistryRead (db : Trees) : Type 0 where
   pub carriers : EachReads carrier_entry (db 0)
   pub lrns : EachReads lrn_entry (db 2)
   pub codes : EachReads code_entry (db 3)
   pub blocks : EachReads block_entry (db 4)
 
--- those of the versions and of what is sent, and the clock's
+-- Holds if versions, broadcasts, pending downloads and the clock are readable.
 pub record AreVersionsRead (db : Trees) : Type 0 where
   pub versions : EachReads version_entry (db 18)
   pub broadcasts : EachReads broadcast_entry (db 8)
   pub waits : EachReads wait_entry (db 10)
   pub clock : EachReads clock_entry (db 21)
 
--- the routings that versions send, and the sets of windows
+-- Holds if the routings that versions send and the sets of windows are readable.
 pub record AreAddedRead (db : Trees) : Type 0 where
   pub nexts : EachReads next_entry (db 16)
   pub sets : EachReads set_entry (db 17)
@@ -54,12 +54,12 @@ pub record AreAddedBlank (db : Trees) : Type 0 where
   pub nexts : db 16 ≡ []
   pub sets : db 17 ≡ []
 
--- the tables of an earlier form have no row
+-- Holds if the tables of earlier schemas have no row.
 pub record IsMoved (db : Trees) : Type 0 where
   pub versions : db 5 ≡ []
   pub clock : db 12 ≡ []
 
--- the tables were read, and `blank` tells that they have no row
+-- Holds if the tables were read, and `blank` implies that they have no row.
 pub record ReadsRegistry (db : Trees) (blank : Bool) : Type 0 where
   pub read : AreRegistryRead db
   pub none : blank ≡ true → IsRegistryBlank db
@@ -72,7 +72,7 @@ pub record ReadsAdded (db : Trees) (blank : Bool) : Type 0 where
   pub read : AreAddedRead db
   pub none : blank ≡ true → AreAddedBlank db
 
--- no row of a database is left out of its content
+-- Holds if no row of a database is left out of its content.
 pub record IsWhole (db : Trees) : Type 0 where
   pub registry : AreRegistryRead db
   pub versions : AreVersionsRead db

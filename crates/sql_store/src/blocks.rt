@@ -1,4 +1,4 @@
-//! The numbers of a block that are in use.
+//! Finds the numbers of a block that are in use.
 ghost use Rattle.std.specs.Prelude.{◌≡◌, ◌++◌, false, IsTrue, IfOk, is_ok, map, option_map};
 ghost use Rattle.std.specs.List.{filter_map};
 ghost use Rattle.sqlite.specs.Held.{state};
@@ -16,7 +16,7 @@ use sqlite::{Alter, Connection};
 use std::alloc::Global;
 use version::NumberInUse;
 
-/// By which column a number's version is found.
+/// The column that finds a number's version.
 #[derive(Clone, Copy)]
 enum Role {
     InForce,
@@ -60,7 +60,7 @@ fn numbers_of(alloc: Global, standing: Role, found: &[NumberedRow]) -> Result<Ve
     Ok(tns)
 }
 
-// The numbers of the block that have such a version.
+// Returns the numbers of the block that have a version in this role.
 fn numbers<S: Alter>(
     conn: &mut Connection<S>,
     standing: Role,
@@ -117,8 +117,8 @@ fn in_use(
     Ok(numbers)
 }
 
-/// The numbers of a block that have a version in force or an open one, rising, and which of both. A
-/// block has a thousand at most.
+/// Returns the numbers of `block` that have a version in force or an open one, ascending, and which
+/// of the two each has. There are at most a thousand.
 pub(crate) fn in_block<S: Alter>(
     conn: &mut Connection<S>,
     block: BlockId,

@@ -1,4 +1,4 @@
-//! Rows put in and taken away, in a transaction.
+//! Writes and deletes rows in a transaction.
 ghost use Rattle.std.specs.Prelude.{◌≡◌, is_ok};
 ghost use Rattle.sqlite.specs.Held.{state};
 ghost use Rattle.sqlite.specs.Values.{bound};
@@ -9,7 +9,7 @@ use sql_rows::{Fault, Table};
 use sqlite::types::ValueRef;
 use sqlite::{Alter, Transaction};
 
-/// Takes the row with a key away, if there is one.
+/// Deletes the row with this key, if there is one.
 pub(crate) fn take<S: Alter>(
     tx: &mut Transaction<'_, S>,
     table: Table,
@@ -23,7 +23,7 @@ pub(crate) fn take<S: Alter>(
     Ok(())
 }
 
-/// Puts a row in.
+/// Inserts a row.
 fn insert<S: Alter>(
     tx: &mut Transaction<'_, S>,
     table: Table,
@@ -37,7 +37,7 @@ fn insert<S: Alter>(
     Ok(())
 }
 
-/// Puts a row in, in the place of the one with its key.
+/// Writes a row, replacing the one with its key.
 pub(crate) fn replace<S: Alter>(
     tx: &mut Transaction<'_, S>,
     table: Table,

@@ -1,4 +1,4 @@
-//! A commit.
+//! Commits a batch of changes in one transaction.
 ghost use Rattle.std.specs.Prelude.{◌≡◌, false, IsTrue, is_ok};
 ghost use Rattle.sqlite.specs.Held.{state};
 ghost use Rattle.numbers.specs.Abstraction.{subject_of};
@@ -19,7 +19,8 @@ use sql_rows::{Fault, StoredClock};
 use sqlite::{Alter, Connection, Transaction};
 use windows::WindowSet;
 
-// No row of these ids is left, so that none stands in the way of another.
+// Deletes the rows with these ids first, because the subjects that their new rows hold must be
+// unique.
 fn clear_versions<S: Alter>(
     tx: &mut Transaction<'_, S>,
     rows: &[(u64, VersionRow)],
@@ -164,8 +165,8 @@ fn donate<S: Alter>(
     }
 }
 
-// The clock's row as it was stands in `row`: a move keeps its set, and a set its minute and its
-// next id.
+// Writes the clock's row. `row` is the row before: a clock move keeps its windows, and new windows
+// keep its minute and its next id.
 fn set_clock<S: Alter>(
     tx: &mut Transaction<'_, S>,
     moved: Option<ClockMove>,
@@ -209,7 +210,7 @@ fn set_clock<S: Alter>(
     }
 }
 
-// The rows of which there is at most one.
+// Writes the optional single rows of a batch, such as the clock's.
 fn write_singles<S: Alter>(
     tx: &mut Transaction<'_, S>,
     changes: &Changes,
@@ -227,7 +228,7 @@ fn write_singles<S: Alter>(
     Ok(())
 }
 
-// All others. What is taken away is taken last.
+// Writes all other rows, and then deletes rows.
 fn write_lists<S: Alter>(tx: &mut Transaction<'_, S>, changes: &Changes) -> Result<(), Fault>
     ensures same_reference { tx.new.conn.ghost_name ≡ tx.old.conn.ghost_name }
     ensures applies { AppliesInTransaction (state S.Store tx.old.conn.now)
@@ -242,7 +243,7 @@ fn write_lists<S: Alter>(tx: &mut Transaction<'_, S>, changes: &Changes) -> Resu
     Ok(())
 }
 
-// All rows.
+// Writes all rows of a batch.
 fn write<S: Alter>(
     tx: &mut Transaction<'_, S>,
     changes: &Changes,
@@ -257,8 +258,8 @@ fn write<S: Alter>(
     Ok(())
 }
 
-// Makes all changes in one transaction, or none. Where they go by the clock's row, it stands in
-// `row`.
+// Applies all changes in one transaction, or none. `row` is the clock's row, for changes that
+// depend on it.
 fn commit_over<S: Alter>(
     conn: &mut Connection<S>,
     changes: &Changes,
@@ -277,8 +278,8 @@ fn commit_over<S: Alter>(
     Ok(())
 }
 
-/// Makes all changes in one transaction, or none. The clock's row is read first: a connection that
-/// is shut answers no look-up, and nothing is written to it.
+/// Applies all changes in one transaction, or none. Reads the clock's row first: a shut connection
+/// fails there, and nothing is written to it.
 pub(crate) fn commit<S: Alter>(conn: &mut Connection<S>, changes: &Changes) -> Result<(), Fault>
     requires ours { IsTrue (state S.Store conn.old).is_open
         → HasStoreTables (state S.Store conn.old) }

@@ -1,4 +1,4 @@
-//! A store over the file at a path.
+//! Opens and closes a store over the file at a path.
 ghost use Rattle.std.specs.Prelude.{◌≡◌, [], IsTrue, IfErr, IfOk};
 ghost use Rattle.model.specs.Content.{empty_content};
 ghost use Rattle.sql_rows.specs.Content.{content_in};
@@ -21,34 +21,36 @@ use sqlite::{Alter, Connection, FileFrom, FileStore, Files, Leftover, Start};
 use sqlite_disk::Disk;
 use windows::Windows;
 
-/// What is handed back with the fault, where a file is not opened.
+/// What is returned with the fault if a file could not be opened.
 #[derive(Drop)]
 pub enum Unopened<S: Alter, L> {
-    /// What is left of files that hold no database, if they were opened.
+    /// The files, if they were opened and hold no database.
     Files(L),
-    /// The database that they hold.
+    /// The database that the files hold.
     Database(Refused<S>),
 }
 
 /// The store over the file at a path.
 pub type StoreAt<S> = SqlStore<FileStore<FileFrom<S>>>;
 
-/// What `SqlStore::at` hands back with the fault.
+/// What `SqlStore::at` returns with the fault.
 pub type UnopenedAt<S> = Unopened<FileStore<FileFrom<S>>, Option<Leftover<FileFrom<S>>>>;
 
 impl<S: Start> SqlStore<FileStore<FileFrom<S>>> {
-    /// Opens the file at a path, or makes it: a new one is an empty store, one of this form has
-    /// what it had, and one of an earlier form is made one of this form first, in one transaction,
-    /// where it was made with these windows. `start` says what is supposed of the file, and of a
-    /// write that a crash cuts off, as `sqlite` says. The database is checked once, and each row
-    /// read once.
+    /// Opens the file at `path` as a store, or creates it. A new file is an empty store. A file
+    /// with the present schema keeps its content. A file with an earlier schema is migrated in one
+    /// transaction if it was created with these windows. `start` says what is assumed of the file,
+    /// and of a write that a crash interrupts, as in `sqlite`. Checks the database once, and reads
+    /// each row once.
     ///
     /// # Errors
     ///
-    /// `WindowsDiffer` where the file is of an earlier form and was made with other windows;
-    /// `Storage` where it cannot be opened as a database, is none of ours, has a row that does not
-    /// read, or the device failed; `NoMemory`. A database that lists tables and is refused is
-    /// handed back with what it had.
+    /// - `WindowsDiffer` if the file has an earlier schema and was created with other windows.
+    /// - `Storage` if the file is no database, has other tables or a row that cannot be read, or
+    ///   the device failed.
+    /// - `NoMemory` if an allocation fails.
+    ///
+    /// A refused database with tables is returned unchanged.
     pub fn at(
         rt: &HostRuntime,
         path: &str,
@@ -57,16 +59,16 @@ impl<S: Start> SqlStore<FileStore<FileFrom<S>>> {
     ) -> Result<StoreAt<S>, (FileFault, UnopenedAt<S>)>
         ensures open { IfOk result (λ s. HasCleanDisk (file_state s.conn) → IsTrue (file_state
             s.conn).is_open) }
-        // of a file that has no byte yet
+        // This holds of an empty file.
         ensures new { IfOk result (λ s. HasCleanDisk (file_state s.conn)
             → (image_at S.Start).db ≡ []
             → content_in (file_state s.conn).now.trees ≡ empty_content) }
-        // of a file that holds a database, by the tables that this lists
+        // This holds of a file with a database, by the tables that it lists.
         ensures taken { IfOk result (λ s. HasCleanDisk (file_state s.conn) → (db : Trees)
             → HoldsDatabase (image_at S.Start) db
             → IsTakenAs (windows_of windows.now) db (file_state s.conn).now.trees) }
         ensures none { IfOk result (λ s. s.failures ≡ 0) }
-        // nothing of it is lost, and other windows are told only of a file that had others
+        // Nothing of the database is lost, and only a file with other windows is refused for them.
         ensures refused { IfErr result (λ e. (db : Trees) → HoldsDatabase (image_at S.Start) db
             → IsRefusedAt over_files (windows_of windows.now) db e.0 e.1) }
     {
@@ -81,15 +83,15 @@ impl<S: Start> SqlStore<FileStore<FileFrom<S>>> {
 }
 
 impl<D: Disk + Drop> SqlStore<FileStore<D>> {
-    /// Copies the log into the file, and gives both back: the file holds the last commit alone, as
-    /// it reads now and after a crash.
+    /// Copies the log into the file, and returns both. The file by itself holds the last commit
+    /// then.
     ///
     /// # Errors
     ///
-    /// `Storage` where the device failed, with the database: what was committed stands in the file
-    /// and its log then.
+    /// `Storage` if the device failed. The database is returned, and its file and log hold the last
+    /// commit.
     pub fn close_files(self) -> Result<Files<D>, (StoreFault, FileStore<D>)>
-        // the file alone holds the last commit, now and after a crash
+        // The file by itself holds the last commit, now and after a crash.
         ensures copied { IfOk result (λ files. AreClean D.Disk files.log files.db
             → IsCopied self.conn files) }
         ensures usable { IfOk result (λ files. IsTrue (D.Disk.is_usable files.log)

@@ -1,16 +1,17 @@
-//! Why a file is refused.
+//! The faults of opening a file.
 ghost use Rattle.std.specs.Prelude.{◌≡◌};
 
 use settle::StoreFault;
 use sql_rows::Fault;
 
-/// Why a file is not opened.
+/// Why a file could not be opened.
 #[derive(Clone, Copy, Debug, PartialEq, Eq)]
 pub enum FileFault {
-    /// It is of an earlier form, and other windows than these are its own.
+    /// The file has an earlier schema and was created with other windows.
     WindowsDiffer,
-    /// The device failed, the file is none of ours, or a row of it does not read.
+    /// The device failed, the file is not a register's, or a row of it cannot be read.
     Storage,
+    /// An allocation failed.
     NoMemory,
 }
 

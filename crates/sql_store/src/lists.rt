@@ -1,4 +1,4 @@
-//! Lists of what stands in the tables, put in order in code.
+//! Lists of rows, sorted in code.
 ghost use Rattle.std.specs.Prelude.{◌≡◌, ◌==◌, false, IsTrue, IfOk, filter, is_ok, map};
 ghost use Rattle.std.specs.List.{list_all};
 ghost use Rattle.sqlite.specs.Held.{state};
@@ -22,7 +22,7 @@ use sql_rows::{
 use sqlite::{Alter, Connection};
 use std::alloc::Global;
 
-/// All carriers, rising.
+/// Returns all registered carriers, ascending.
 pub(crate) fn carriers<S: Alter>(conn: &mut Connection<S>) -> Result<Vec<Spid>, Fault>
     requires ours { IsTrue (state S.Store conn.old).is_open
         → HasStoreTables (state S.Store conn.old) }
@@ -62,7 +62,7 @@ fn subjects_of(alloc: Global, waits: &[KeyedWait]) -> Result<Vec<Subject>, Fault
     Ok(subjects)
 }
 
-/// The downloads of a subject that wait for a carrier, earliest first.
+/// Returns the downloads of `of` that are pending for `spid`, earliest first.
 pub(crate) fn waits_about<S: Alter>(
     conn: &mut Connection<S>,
     spid: Spid,
@@ -85,7 +85,7 @@ pub(crate) fn waits_about<S: Alter>(
     Ok(Few::Many(downloads))
 }
 
-/// The subjects of which a download waits for a carrier, each once, rising.
+/// Returns the subjects with downloads pending for `spid`, ascending, without duplicates.
 pub(crate) fn waits<S: Alter>(conn: &mut Connection<S>, spid: Spid) -> Result<Vec<Subject>, Fault>
     requires ours { IsTrue (state S.Store conn.old).is_open
         → HasStoreTables (state S.Store conn.old) }
@@ -128,7 +128,8 @@ fn waiting_among(
     Ok(waiters)
 }
 
-/// The registered carriers for which a broadcast of that minute waits, rising.
+/// Returns the registered carriers for which the broadcast `key`, sent at `minute`, is pending,
+/// ascending.
 pub(crate) fn waiters<S: Alter>(
     conn: &mut Connection<S>,
     minute: Minute,
@@ -159,7 +160,8 @@ fn are_all(carriers: &[Spid], carrier: Spid) -> bool
     carriers.iter().all(|other| *other == carrier)
 }
 
-/// Whether the download is the last of its broadcast: no other registered carrier waits for that.
+/// Returns whether `wait` is the last pending download of its broadcast: no other registered
+/// carrier has one.
 pub(crate) fn is_last_wait<S: Alter>(conn: &mut Connection<S>, wait: WaitKey) -> Result<bool, Fault>
     requires ours { IsTrue (state S.Store conn.old).is_open
         → HasStoreTables (state S.Store conn.old) }
@@ -211,7 +213,7 @@ fn put_in_order_by_key(broadcasts: &mut Vec<(BroadcastKey, Broadcast)>)
     broadcasts.sort_unstable_by_key(|broadcast| broadcast.0);
 }
 
-/// All open broadcasts, by key.
+/// Returns all open broadcasts, ordered by key.
 pub(crate) fn open_broadcasts<S: Alter>(
     conn: &mut Connection<S>,
 ) -> Result<Vec<(BroadcastKey, Broadcast)>, Fault>

@@ -1,4 +1,4 @@
-//! Rows by their keys.
+//! Reads rows by their keys.
 ghost use Rattle.std.specs.Prelude.{◌≡◌, false, IsTrue, IfOk, is_ok, is_some, option_map};
 ghost use Rattle.std.specs.FinMap.{get};
 ghost use Rattle.sqlite.specs.Held.{state};
@@ -29,7 +29,7 @@ use sqlite::{Alter, Connection};
 use version::Version;
 use windows::{WindowSet, Windows};
 
-/// Whether a carrier is registered.
+/// Returns whether `spid` is a registered carrier.
 pub(crate) fn carrier<S: Alter>(conn: &mut Connection<S>, spid: Spid) -> Result<bool, Fault>
     requires ours { IsTrue (state S.Store conn.old).is_open
         → HasStoreTables (state S.Store conn.old) }
@@ -45,7 +45,7 @@ pub(crate) fn carrier<S: Alter>(conn: &mut Connection<S>, spid: Spid) -> Result<
     Ok(found.is_some())
 }
 
-/// Who registered a routing number.
+/// Returns the carrier that registered `lrn`, if one did.
 pub(crate) fn lrn<S: Alter>(conn: &mut Connection<S>, lrn: Lrn) -> Result<Option<Spid>, Fault>
     requires ours { IsTrue (state S.Store conn.old).is_open
         → HasStoreTables (state S.Store conn.old) }
@@ -63,7 +63,7 @@ pub(crate) fn lrn<S: Alter>(conn: &mut Connection<S>, lrn: Lrn) -> Result<Option
     }
 }
 
-/// For whom a code was opened.
+/// Returns the carrier for which `code` was opened, if it was.
 pub(crate) fn code<S: Alter>(conn: &mut Connection<S>, code: CodeId) -> Result<Option<Spid>, Fault>
     requires ours { IsTrue (state S.Store conn.old).is_open
         → HasStoreTables (state S.Store conn.old) }
@@ -85,7 +85,7 @@ pub(crate) fn code<S: Alter>(conn: &mut Connection<S>, code: CodeId) -> Result<O
     }
 }
 
-/// A donated block's row.
+/// Returns the row of `block`, if the block has been donated.
 pub(crate) fn block<S: Alter>(
     conn: &mut Connection<S>,
     block: BlockId,
@@ -110,7 +110,7 @@ pub(crate) fn block<S: Alter>(
     }
 }
 
-/// The windows of the set of this number.
+/// Returns the windows of set `of`, if there is one.
 pub(crate) fn window_set<S: Alter>(
     conn: &mut Connection<S>,
     of: u16,
@@ -132,7 +132,7 @@ pub(crate) fn window_set<S: Alter>(
     }
 }
 
-// The clock's row as it is stored.
+// Returns the clock's row as stored.
 fn stored_clock<S: Alter>(conn: &mut Connection<S>) -> Result<Option<StoredClock>, Fault>
     requires ours { IsTrue (state S.Store conn.old).is_open
         → HasStoreTables (state S.Store conn.old) }
@@ -150,7 +150,7 @@ fn stored_clock<S: Alter>(conn: &mut Connection<S>) -> Result<Option<StoredClock
     }
 }
 
-/// The clock's row, if it was written. The windows are those of the set of its number.
+/// Returns the clock's row, if it has been written, with the windows of the set that it names.
 pub(crate) fn clock<S: Alter>(conn: &mut Connection<S>) -> Result<Option<ClockRow>, Fault>
     requires ours { IsTrue (state S.Store conn.old).is_open
         → HasStoreTables (state S.Store conn.old) }
@@ -179,7 +179,7 @@ pub(crate) fn clock<S: Alter>(conn: &mut Connection<S>) -> Result<Option<ClockRo
     }
 }
 
-// The routing that the version with this id sends.
+// Returns the routing that the version with this id sends, if it sends one.
 fn next_routing<S: Alter>(conn: &mut Connection<S>, id: u64) -> Result<Option<Routing>, Fault>
     requires ours { IsTrue (state S.Store conn.old).is_open
         → HasStoreTables (state S.Store conn.old) }
@@ -191,7 +191,7 @@ fn next_routing<S: Alter>(conn: &mut Connection<S>, id: u64) -> Result<Option<Ro
     ensures idle { conn.new.in_transaction ≡ false }
 {
     if id >= 9_223_372_036_854_775_808 {
-        // No row has such an id. A connection that is shut says so at a look-up alone.
+        // No row has such an id, but only a look-up detects a shut connection.
         clock(conn)?;
         return Ok(None);
     }
@@ -222,7 +222,7 @@ fn modified_to(row: &VersionRow, routing: Routing) -> VersionRow
     }
 }
 
-// The row with the routing that it sends, which has a table of its own.
+// Returns the row with the routing that its version sends, which is in a table of its own.
 fn whole<S: Alter>(conn: &mut Connection<S>, found: NumberedRow) -> Result<NumberedRow, Fault>
     requires ours { IsTrue (state S.Store conn.old).is_open
         → HasStoreTables (state S.Store conn.old) }
@@ -247,7 +247,7 @@ fn whole<S: Alter>(conn: &mut Connection<S>, found: NumberedRow) -> Result<Numbe
     }
 }
 
-// The only version that answers a query, if there is one, with the routing that it sends.
+// Returns the only version that answers a query, if there is one, with the routing that it sends.
 fn find_whole<S: Alter>(
     conn: &mut Connection<S>,
     query: Query,
@@ -272,7 +272,7 @@ fn find_whole<S: Alter>(
     }
 }
 
-/// The version with this id.
+/// Returns the version with this id, if there is one.
 pub(crate) fn version<S: Alter>(
     conn: &mut Connection<S>,
     id: u64,
@@ -286,7 +286,7 @@ pub(crate) fn version<S: Alter>(
     ensures idle { conn.new.in_transaction ≡ false }
 {
     if id >= 9_223_372_036_854_775_808 {
-        // No row has such an id. A connection that is shut says so at a look-up alone.
+        // No row has such an id, but only a look-up detects a shut connection.
         clock(conn)?;
         return Ok(None);
     }
@@ -297,7 +297,7 @@ pub(crate) fn version<S: Alter>(
     }
 }
 
-/// The subject's version in force.
+/// Returns the version of `of` that is in force, if there is one.
 pub(crate) fn version_in_force<S: Alter>(
     conn: &mut Connection<S>,
     of: Subject,
@@ -314,7 +314,7 @@ pub(crate) fn version_in_force<S: Alter>(
     Ok(found)
 }
 
-/// The subject's open version.
+/// Returns the open version of `of`, if there is one.
 pub(crate) fn open_version<S: Alter>(
     conn: &mut Connection<S>,
     of: Subject,
@@ -331,7 +331,7 @@ pub(crate) fn open_version<S: Alter>(
     Ok(found)
 }
 
-/// The version whose deadline is least, where that minute is not after `now`.
+/// Returns the version with the earliest deadline, if that minute is not after `now`.
 pub(crate) fn least_due<S: Alter>(
     conn: &mut Connection<S>,
     now: Minute,
@@ -348,7 +348,7 @@ pub(crate) fn least_due<S: Alter>(
     Ok(found)
 }
 
-/// A broadcast that is open, or that somebody has not acknowledged.
+/// Returns the broadcast `key`, if it is open or still pending for some carrier.
 pub(crate) fn broadcast<S: Alter>(
     conn: &mut Connection<S>,
     key: BroadcastKey,
@@ -363,7 +363,7 @@ pub(crate) fn broadcast<S: Alter>(
     ensures idle { conn.new.in_transaction ≡ false }
 {
     if key.id >= 9_223_372_036_854_775_808 || key.attempt >= 9_223_372_036_854_775_808 {
-        // As above: no row has such a key.
+        // No row has such a key, but only a look-up detects a shut connection.
         clock(conn)?;
         return Ok(None);
     }

@@ -1,4 +1,4 @@
-//! A file of an earlier form made one of this form, in one transaction.
+//! Migrates a file with an earlier schema to the present one, in one transaction.
 ghost use Rattle.std.specs.Prelude.{◌≡◌, ◌⊎◌, ◌<◌, ℕ, List, false, [], Err, IsTrue, IfOk, OnErr, OnOk, is_ok, map};
 ghost use Rattle.sqlite.specs.Given.{HasGiven, IsPlain};
 ghost use Rattle.sqlite.specs.Listing.{understood};
@@ -52,7 +52,7 @@ fn make_index<S: Alter>(tx: &mut Transaction<'_, S>) -> Result<(), Fault>
     Ok(())
 }
 
-// The tables of the sets of windows, of the versions that hold them and of the clock.
+// Creates the tables of the sets of windows, of the versions that name their set, and of the clock.
 fn make_set_tables<S: Alter>(tx: &mut Transaction<'_, S>) -> Result<(), Fault>
     ensures same_reference { tx.new.conn.ghost_name ≡ tx.old.conn.ghost_name }
     ensures alters { MigratesInTransaction (IsBegun (schema_of SchemaVersion.Modify))
@@ -77,7 +77,7 @@ fn make_all_tables<S: Alter>(tx: &mut Transaction<'_, S>) -> Result<(), Fault>
     Ok(())
 }
 
-// The tables that a file of the form lacks.
+// Creates the tables that an earlier schema lacks.
 fn create_tables<S: Alter>(tx: &mut Transaction<'_, S>, form: SchemaVersion) -> Result<(), Fault>
     ensures same_reference { tx.new.conn.ghost_name ≡ tx.old.conn.ghost_name }
     ensures alters { MigratesInTransaction (IsBegun (schema_of form))
@@ -90,7 +90,7 @@ fn create_tables<S: Alter>(tx: &mut Transaction<'_, S>, form: SchemaVersion) -> 
     }
 }
 
-// Puts a version's row as its table has it: the routing that it sends stays where it stands.
+// Writes a version's row. The routing that the version sends stays in its own table.
 fn put_bare<S: Alter>(tx: &mut Transaction<'_, S>, id: u64, row: &VersionRow) -> Result<(), Fault>
     ensures same_reference { tx.new.conn.ghost_name ≡ tx.old.conn.ghost_name }
     ensures writes { WritesInTransaction (state S.Store tx.old.conn.now)
@@ -106,7 +106,7 @@ fn put_bare<S: Alter>(tx: &mut Transaction<'_, S>, id: u64, row: &VersionRow) ->
     Ok(())
 }
 
-// Puts the version with an id as it stands in the table of the earlier forms.
+// Copies the version with this id from the table of earlier schemas.
 fn put_old<S: Alter>(tx: &mut Transaction<'_, S>, id: u64) -> Result<(), Fault>
     ensures same_reference { tx.new.conn.ghost_name ≡ tx.old.conn.ghost_name }
     ensures writes { WritesInTransaction (state S.Store tx.old.conn.now)
@@ -123,7 +123,7 @@ fn put_old<S: Alter>(tx: &mut Transaction<'_, S>, id: u64) -> Result<(), Fault>
     Ok(())
 }
 
-// Puts the versions with these ids, one at a time.
+// Copies the versions with these ids, one at a time.
 fn put_each<S: Alter>(tx: &mut Transaction<'_, S>, ids: &[u64]) -> Result<(), Fault>
     ensures same_reference { tx.new.conn.ghost_name ≡ tx.old.conn.ghost_name }
     ensures writes { WritesInTransaction (state S.Store tx.old.conn.now)
@@ -135,7 +135,7 @@ fn put_each<S: Alter>(tx: &mut Transaction<'_, S>, ids: &[u64]) -> Result<(), Fa
     Ok(())
 }
 
-// The windows of the clock's row are set 1.
+// Writes the windows of the clock's row as set 1.
 fn put_first_set<S: Alter>(
     tx: &mut Transaction<'_, S>,
     clock: Option<OldClock>,
@@ -169,7 +169,7 @@ fn clear<S: Alter>(tx: &mut Transaction<'_, S>, table: OldTable) -> Result<(), F
     Ok(())
 }
 
-// Takes the version with an id away from the table of the earlier forms.
+// Deletes the version with this id from the table of earlier schemas.
 fn take_old<S: Alter>(tx: &mut Transaction<'_, S>, id: u64) -> Result<(), Fault>
     ensures same_reference { tx.new.conn.ghost_name ≡ tx.old.conn.ghost_name }
     ensures writes { WritesInTransaction (state S.Store tx.old.conn.now)
@@ -181,7 +181,7 @@ fn take_old<S: Alter>(tx: &mut Transaction<'_, S>, id: u64) -> Result<(), Fault>
     take(tx, Table::OldVersion, &[number(id)])
 }
 
-// Takes the versions with these ids away from there, one at a time.
+// Deletes the versions with these ids from the table of earlier schemas, one at a time.
 fn take_each<S: Alter>(tx: &mut Transaction<'_, S>, ids: &[u64]) -> Result<(), Fault>
     ensures same_reference { tx.new.conn.ghost_name ≡ tx.old.conn.ghost_name }
     ensures writes { WritesInTransaction (state S.Store tx.old.conn.now)
@@ -193,8 +193,8 @@ fn take_each<S: Alter>(tx: &mut Transaction<'_, S>, ids: &[u64]) -> Result<(), F
     Ok(())
 }
 
-// Empties the table of the earlier forms' versions, of which these are the ids. Each is taken away
-// by its id first: one statement that takes a million away writes a log of many times the file.
+// Empties the versions' table of earlier schemas; `ids` are its ids. Deletes each by its id first:
+// one statement that deletes a million writes a log many times the size of the file.
 fn clear_versions<S: Alter>(tx: &mut Transaction<'_, S>, ids: &[u64]) -> Result<(), Fault>
     ensures same_reference { tx.new.conn.ghost_name ≡ tx.old.conn.ghost_name }
     ensures writes { WritesInTransaction (state S.Store tx.old.conn.now)
@@ -205,7 +205,8 @@ fn clear_versions<S: Alter>(tx: &mut Transaction<'_, S>, ids: &[u64]) -> Result<
     Ok(())
 }
 
-// The rows of the earlier form, put into the tables of this one: the versions with these ids.
+// Copies the versions with these ids and the clock's row into the tables of the present schema, and
+// empties the tables of the earlier one.
 fn copy_rows<S: Alter>(
     tx: &mut Transaction<'_, S>,
     ids: &[u64],
@@ -237,8 +238,8 @@ fn migrate_tables<S: Alter>(
     Ok(())
 }
 
-// Puts the versions with these ids and the clock's row into the tables of this form, which it
-// makes, and empties those of the earlier one: in one transaction.
+// Migrates in one transaction: creates the tables of the present schema, copies the versions with
+// these ids and the clock's row, and empties the tables of the earlier schema.
 fn move_rows<S: Alter>(
     conn: &mut Connection<S>,
     form: SchemaVersion,
@@ -258,7 +259,7 @@ fn move_rows<S: Alter>(
     Ok(())
 }
 
-// The rows of a table that a file of the form has.
+// Returns the rows of a table in a file with this schema.
 fn select_old<S: Alter>(
     conn: &mut Connection<S>,
     form: SchemaVersion,
@@ -278,7 +279,7 @@ fn select_old<S: Alter>(
     Ok(rows)
 }
 
-// The same, each read: one that does not read is a fault of the device.
+// Like `select_old`, and reads each row. A row that cannot be read is a fault of the device.
 fn read_old<T: FromRow + Drop, S: Alter>(
     conn: &mut Connection<S>,
     form: SchemaVersion,
@@ -299,7 +300,7 @@ fn read_old<T: FromRow + Drop, S: Alter>(
     Ok(items)
 }
 
-// The ids of the versions, each of which is read.
+// Reads each version, and returns their ids.
 fn ids_among<S: Alter>(alloc: Global, rows: &mut Rows<'_, S>) -> Result<Vec<u64>, Fault>
     ensures same_reference { rows.new.conn.ghost_name ≡ rows.old.conn.ghost_name }
     ensures all { HasCleanDisk (state S.Store rows.new.conn.now) → IfOk result (λ ids.
@@ -325,8 +326,8 @@ fn ids_among<S: Alter>(alloc: Global, rows: &mut Rows<'_, S>) -> Result<Vec<u64>
     Err(Fault::Device)
 }
 
-// The ids of the versions of a file of the form, each of which is read: so none but their ids is
-// held.
+// Reads each version of a file with this schema, and returns their ids. Keeps no more than the ids
+// in memory.
 fn ids_of<S: Alter>(
     alloc: Global,
     conn: &mut Connection<S>,
@@ -344,9 +345,9 @@ fn ids_of<S: Alter>(
     ids_among(alloc, &mut rows)
 }
 
-// ---- the tables that stay as they are
+// ---- the tables that are not migrated
 
-// Reads a table that stays as it is.
+// Reads a table that is not migrated.
 fn see<T: FromRow + Drop, S: Alter>(
     conn: &mut Connection<S>,
     form: SchemaVersion,
@@ -365,7 +366,7 @@ fn see<T: FromRow + Drop, S: Alter>(
     Ok(())
 }
 
-// Carriers, routing numbers, codes and blocks.
+// Reads carriers, routing numbers, codes and blocks.
 #[tactic(auto, using(crate::proofs::MigrationLemmas::old_still))]
 fn see_registry<S: Alter>(conn: &mut Connection<S>, form: SchemaVersion) -> Result<(), Fault>
     requires old { IsTrue (state S.Store conn.old).is_open
@@ -383,8 +384,8 @@ fn see_registry<S: Alter>(conn: &mut Connection<S>, form: SchemaVersion) -> Resu
     Ok(())
 }
 
-// What is sent: the broadcasts, the downloads that wait, and the routings that versions send, if
-// the form has a table of those.
+// Reads what is sent: the broadcasts, the pending downloads, and the routings that versions send,
+// if the schema has a table of those.
 #[tactic(auto, using(crate::proofs::MigrationLemmas::old_still))]
 fn see_sent<S: Alter>(conn: &mut Connection<S>, form: SchemaVersion) -> Result<(), Fault>
     requires old { IsTrue (state S.Store conn.old).is_open
@@ -404,7 +405,7 @@ fn see_sent<S: Alter>(conn: &mut Connection<S>, form: SchemaVersion) -> Result<(
     Ok(())
 }
 
-// Reads the tables that stay as they are: a row that does not read is a fault of the device.
+// Reads the tables that are not migrated. A row that cannot be read is a fault of the device.
 #[tactic(auto, using(crate::proofs::MigrationLemmas::old_still))]
 fn see_staying<S: Alter>(conn: &mut Connection<S>, form: SchemaVersion) -> Result<(), Fault>
     requires old { IsTrue (state S.Store conn.old).is_open
@@ -420,9 +421,9 @@ fn see_staying<S: Alter>(conn: &mut Connection<S>, form: SchemaVersion) -> Resul
     Ok(())
 }
 
-// ---- all
+// ---- the whole migration
 
-// Whether these windows are the file's own, where it has a clock.
+// Returns whether these windows are the file's, if it has a clock.
 fn has_windows<S: Alter>(
     conn: &mut Connection<S>,
     form: SchemaVersion,
@@ -447,7 +448,7 @@ fn has_windows<S: Alter>(
     }
 }
 
-// Carries the versions and the clock over.
+// Migrates the versions and the clock.
 #[tactic(auto, using(crate::proofs::MigrationLemmas::old_still))]
 fn carry_over<S: Alter>(
     alloc: Global,
@@ -470,10 +471,10 @@ fn carry_over<S: Alter>(
     }
 }
 
-/// Makes a file of an earlier form one of this form, in one transaction: its windows are set 1,
-/// each version holds that, and the tables of the earlier form are empty. Every row is read first.
-/// A row that does not read is a fault of the device, and with other windows than the file's own it
-/// is refused: neither changes anything.
+/// Migrates a file with an earlier schema in one transaction: its windows become set 1, each
+/// version names that set, and the tables of the earlier schema are emptied. Reads every row first.
+/// A row that cannot be read is a fault of the device, and other windows than the file's are
+/// refused; neither changes anything.
 #[tactic(auto, using(crate::proofs::MigrationLemmas::old_still))]
 pub(crate) fn migrate<S: Alter>(
     alloc: Global,

@@ -1,4 +1,4 @@
-//! That no key stands twice, by the database's own rules.
+//! The uniqueness of keys, by the database's own rules.
 ghost use Rattle.std.specs.Prelude.{IsTrue};
 ghost use Rattle.sqlite.specs.Held.{state};
 ghost use Rattle.sql_rows.specs.Once.{HasUniqueKeys};
@@ -6,8 +6,8 @@ ghost use Rattle.sql_store.specs.Store.{HasStoreTables};
 
 use sqlite::{Alter, Connection};
 
-/// It does nothing: the rules of the schema keep it so. A list that is read by other columns than
-/// those of the key rests on it.
+/// Does nothing: the rules of the schema keep each key unique. A list that is read by other columns
+/// than those of the key depends on it.
 pub(crate) fn keys_are_unique<S: Alter>(conn: &Connection<S>)
     requires { IsTrue (state S.Store conn.now).is_open → HasStoreTables (state S.Store conn.now) }
     ensures { IsTrue (state S.Store conn.now).is_open

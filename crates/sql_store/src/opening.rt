@@ -1,4 +1,4 @@
-//! A store over what was opened.
+//! Opens a store over a database.
 ghost use Rattle.std.specs.Prelude.{◌≡◌, ◌⊎◌, ◌≤◌, true, false, IsTrue, IfOk, IfErr};
 ghost use Rattle.sqlite.specs.Held.{IsNew, state};
 ghost use Rattle.sqlite.specs.State.{HasCleanDisk};
@@ -30,8 +30,8 @@ use sqlite_schema::schema::Schema;
 use std::alloc::Global;
 use windows::Windows;
 
-// The tables of the first form, and then their indexes; then those that came later, as a file of an
-// earlier form gets them: so the trees have the numbers of the schema.
+// The tables of the first schema and their indexes, then the tables added later, as a migration
+// adds them. So each tree has the number that the schema gives it.
 const TABLES: &str = "\
     BEGIN; \
     CREATE TABLE carrier (spid TEXT NOT NULL PRIMARY KEY) STRICT; \
@@ -77,7 +77,7 @@ const TABLES: &str = "\
     CREATE INDEX version2_deadline ON version2 (deadline); \
     COMMIT";
 
-// Whether nothing is listed yet.
+// Returns whether a schema lists nothing.
 fn is_blank(schema: &Schema) -> bool
     ensures yes { IsTrue result → schema.now ≡ no_schema }
     ensures no { result ≡ false → ¬ (schema.now ≡ no_schema) }
@@ -85,7 +85,8 @@ fn is_blank(schema: &Schema) -> bool
     schema.tables.is_empty() && schema.indexes.is_empty() && schema.views.is_empty()
 }
 
-// What the store answers for an error of the database: want of memory alone is told as such.
+// Returns the store's fault for an error of the database: `NoMemory` for a failed allocation,
+// otherwise `Storage`.
 pub(crate) fn fault_of(error: Error) -> StoreFault
     ensures { result ≡ store_fault_of (fault_of error) }
 {
@@ -93,7 +94,7 @@ pub(crate) fn fault_of(error: Error) -> StoreFault
 }
 
 impl<S: Alter + Drop> SqlStore<S> {
-    // Rolls back, and checks the database anew, as an open of files does: its lists, its rules and
+    // Rolls back, and checks the database again as when files are opened: its schema, its rules and
     // the order of its rows.
     fn checked(alloc: Global, conn: Connection<S>) -> Result<Connection<S>, (StoreFault, S)>
         ensures opened { IfOk result (λ c. HasCleanDisk (state S.Store c)
@@ -120,7 +121,7 @@ impl<S: Alter + Drop> SqlStore<S> {
         }
     }
 
-    // Takes a connection as it was opened, if its tables are the schema's.
+    // Takes a newly opened connection, if its tables are the schema's.
     fn with_tables(conn: Connection<S>) -> Result<SqlStore<S>, Connection<S>>
         requires opened { HasCleanDisk (state S.Store conn) → WasOpened (state S.Store conn) }
         requires fresh { IsNew conn }
@@ -136,8 +137,8 @@ impl<S: Alter + Drop> SqlStore<S> {
         }
     }
 
-    // Reads every row once, and tells whether there is none. A row that does not read is refused,
-    // with the database.
+    // Reads every row once. Returns whether the database has no row. Refuses a row that cannot be
+    // read, and returns the database with that fault.
     fn read(mut self) -> Result<(SqlStore<S>, bool), (StoreFault, S)>
         ensures open { IfOk result (λ e. HasCleanDisk (state S.Store e.0.conn) → IsTrue (state
             S.Store self.conn).is_open → IsTrue (state S.Store e.0.conn).is_open) }
@@ -161,7 +162,7 @@ impl<S: Alter + Drop> SqlStore<S> {
         }
     }
 
-    // Makes the tables in one transaction, and takes the connection: the store is empty.
+    // Creates the tables in one transaction, and takes the connection as an empty store.
     fn create(alloc: Global, mut conn: Connection<S>) -> Result<SqlStore<S>, (StoreFault, S)>
         ensures open { IfOk result (λ s. HasCleanDisk (state S.Store s.conn) → IsTrue (state
             S.Store s.conn).is_open) }
@@ -189,7 +190,7 @@ impl<S: Alter + Drop> SqlStore<S> {
         }
     }
 
-    // Makes a database of an earlier form one of this form, and takes it.
+    // Migrates a database with an earlier schema, and takes it.
     fn moved(
         alloc: Global,
         mut conn: Connection<S>,
@@ -224,7 +225,7 @@ impl<S: Alter + Drop> SqlStore<S> {
         }
     }
 
-    // Takes a connection whose tables are ours.
+    // Takes a connection to a database with the present schema.
     fn found(conn: Connection<S>) -> Result<SqlStore<S>, (StoreFault, Refused<S>)>
         requires opened { HasCleanDisk (state S.Store conn) → WasOpened (state S.Store conn) }
         requires fresh { IsNew conn }
@@ -254,7 +255,7 @@ impl<S: Alter + Drop> SqlStore<S> {
         }
     }
 
-    // Takes a connection as it was opened, by the tables that it lists.
+    // Takes a newly opened connection, by the tables that it lists.
     pub(crate) fn opened(
         alloc: Global,
         conn: Connection<S>,
@@ -294,16 +295,18 @@ impl<S: Alter + Drop> SqlStore<S> {
         }
     }
 
-    /// Takes a connection as a store. What is not committed is rolled back, and the database is
-    /// checked anew. One that lists nothing gets the tables and is an empty store; one of this form
-    /// is taken once each row of it was read; one of an earlier form that was made with these
-    /// windows is made one of this form, in one transaction.
+    /// Takes a connection as a store, after rolling back what is not committed and checking the
+    /// database again. A database without tables becomes an empty store. One with the present
+    /// schema is taken after each row has been read. One with an earlier schema that was created
+    /// with these windows is migrated in one transaction.
     ///
     /// # Errors
     ///
-    /// `WindowsDiffer` where the database is of an earlier form and was made with other windows;
-    /// `Storage` where its tables are none of these, a row does not read, or the device failed;
-    /// `NoMemory`. What is handed back is as the last commit left it.
+    /// - `WindowsDiffer` if the database has an earlier schema and was created with other windows.
+    /// - `Storage` if it has other tables or a row that cannot be read, or the device failed.
+    /// - `NoMemory` if an allocation fails.
+    ///
+    /// What is returned with the fault is as the last commit left it.
     pub fn adopt(
         alloc: Global,
         conn: Connection<S>,
@@ -311,7 +314,8 @@ impl<S: Alter + Drop> SqlStore<S> {
     ) -> Result<SqlStore<S>, (FileFault, Refused<S>)>
         ensures open { IfOk result (λ s. HasCleanDisk (state S.Store s.conn) → IsTrue (state
             S.Store s.conn).is_open) }
-        // by the tables that the last commit lists: what is not committed is rolled back
+        // This holds by the tables of the last commit, because what is not committed is rolled
+        // back.
         ensures taken { IfOk result (λ s. HasCleanDisk (state S.Store s.conn)
             → IsTakenAs (windows_of windows.now) (state S.Store conn).committed.trees
             (state S.Store s.conn).now.trees) }
@@ -320,11 +324,12 @@ impl<S: Alter + Drop> SqlStore<S> {
             → HasCleanDisk (state S.Store conn)) }
         ensures err_honest { IfErr result (λ e. IsCleanYet S.Store e.1
             → HasCleanDisk (state S.Store conn)) }
-        // where it lists tables: those of an empty database may have been made
+        // This holds if the database lists tables; those of an empty database may have been
+        // created.
         ensures kept { IfErr result (λ e. ¬ IsSound no_schema (state S.Store conn).committed.trees
             → StandsYet S.Store e.1
             → trees_of S.Store e.1 ≡ (state S.Store conn).committed.trees) }
-        // a crash leaves what it might before, or, of an earlier form, the moved database whole
+        // A crash leaves what it might leave before, or the whole migrated database.
         ensures crash { IfErr result (λ e. ¬ IsSound no_schema (state S.Store conn).committed.trees
             → IsCleanYet S.Store e.1 → (db : Trees) → may_leave_of S.Store e.1 db
             → (state S.Store conn).may_leave db
@@ -342,7 +347,7 @@ impl<S: Alter + Drop> SqlStore<S> {
         }
     }
 
-    /// The connection, for what else is to be done with the database.
+    /// Returns the connection, for other uses of the database.
     pub fn release(self) -> Connection<S>
         ensures { result ≡ self.conn }
     {
@@ -352,11 +357,11 @@ impl<S: Alter + Drop> SqlStore<S> {
 }
 
 impl SqlStore<MemStore> {
-    /// An empty store in memory.
+    /// Creates an empty store in memory.
     ///
     /// # Errors
     ///
-    /// `NoMemory` where there is too little memory.
+    /// `NoMemory` if an allocation fails.
     pub fn in_memory(alloc: Global) -> Result<SqlStore<MemStore>, StoreFault>
         ensures open { IfOk result (λ s. IsTrue (state over_memory s.conn).is_open) }
         ensures content { IfOk result (λ s. content_in (state over_memory s.conn).now.trees

@@ -1,4 +1,4 @@
-//! The front of a carrier's queue.
+//! Reads the first downloads of a carrier's queue.
 ghost use Rattle.std.specs.Prelude.{◌≡◌, ◌<◌, ◌++◌, false, IsTrue, IfOk, IfSome, OnOk, is_ok, option_to_list};
 ghost use Rattle.sqlite.specs.Held.{state};
 ghost use Rattle.sqlite.specs.State.{HasCleanDisk};
@@ -18,7 +18,7 @@ use sql_rows::{Fault, KeyedWait, Query, number, spid_bytes, text};
 use sqlite::{Alter, Connection};
 use std::alloc::Global;
 
-// All that waits for a carrier, in the order of its queue.
+// Returns all downloads pending for a carrier, in the order of its queue.
 fn queue<S: Alter>(conn: &mut Connection<S>, spid: Spid) -> Result<Vec<DownloadKey>, Fault>
     requires ours { IsTrue (state S.Store conn.old).is_open
         → HasStoreTables (state S.Store conn.old) }
@@ -36,8 +36,7 @@ fn queue<S: Alter>(conn: &mut Connection<S>, spid: Spid) -> Result<Vec<DownloadK
     Ok(waits)
 }
 
-// The first of what waits for a carrier, so many rows, in the order of its queue, and whether that
-// is all.
+// Returns the first `many` rows of a carrier's queue, in order, and whether these are all.
 fn page<S: Alter>(
     conn: &mut Connection<S>,
     spid: Spid,
@@ -62,7 +61,8 @@ fn page<S: Alter>(
     Ok((waits, is_all))
 }
 
-// What waits, as its broadcast's row tells it, or nothing where it has none.
+// Returns the pending download as its broadcast's row describes it, or `None` if it has no
+// broadcast.
 fn next<S: Alter>(conn: &mut Connection<S>, wait: DownloadKey) -> Result<Option<Download>, Fault>
     requires ours { IsTrue (state S.Store conn.old).is_open
         → HasStoreTables (state S.Store conn.old) }
@@ -100,7 +100,7 @@ fn put_behind(downloads: &mut Vec<Download>, download: Option<Download>) -> Resu
     Ok(())
 }
 
-// The first of what waits: so many, or all where there are fewer.
+// Returns the first `many` pending downloads that have a broadcast, or all if there are fewer.
 fn first_told<S: Alter>(
     alloc: Global,
     conn: &mut Connection<S>,
@@ -129,8 +129,8 @@ fn first_told<S: Alter>(
     Ok(downloads)
 }
 
-// The first downloads, by the first rows alone, or nothing where some of those have no broadcast
-// and others may be left.
+// Returns the first downloads by the first rows of the queue. Returns `None` if some of these have
+// no broadcast and there may be more rows.
 fn first_page<S: Alter>(
     conn: &mut Connection<S>,
     spid: Spid,
@@ -155,7 +155,7 @@ fn first_page<S: Alter>(
     }
 }
 
-// The same by all that waits for the carrier.
+// Returns the first downloads by all rows of the queue.
 fn first_of_all<S: Alter>(
     conn: &mut Connection<S>,
     spid: Spid,
@@ -175,9 +175,10 @@ fn first_of_all<S: Alter>(
     Ok(downloads)
 }
 
-/// The first downloads that wait for a carrier, in the order of its queue: so many, or all where
-/// there are fewer. It reads so many rows of the queue, each with its broadcast; all of the queue
-/// only where one of these has none, which no register leaves.
+/// Returns the first `many` downloads of the queue of `spid`, or all if there are fewer.
+///
+/// Reads `many` rows of the queue, each with its broadcast. Reads the whole queue only if one of
+/// these rows has no broadcast, which never holds in a register's file.
 pub(crate) fn front<S: Alter>(
     conn: &mut Connection<S>,
     spid: Spid,

@@ -1,4 +1,4 @@
-//! What is handed back with the fault, where a database is refused.
+//! What is returned with the fault if a database is refused.
 ghost use Rattle.std.specs.Prelude.{◌≡◌, IsTrue};
 ghost use Rattle.sqlite.specs.Tree.{Trees};
 ghost use Rattle.sqlite_trees.specs.View.{IsClean};
@@ -6,7 +6,7 @@ ghost use Rattle.sql_store.specs.Refusal.{IsCleanYet, may_leave_of, trees_of};
 
 use sqlite::{Alter, Connection};
 
-/// What is handed back with the fault, where a database is refused.
+/// The refused database: as a connection, or as the storage under it.
 #[derive(Drop)]
 pub enum Refused<S: Alter> {
     Connection(Connection<S>),
@@ -14,7 +14,7 @@ pub enum Refused<S: Alter> {
 }
 
 impl<S: Alter + Drop> Refused<S> {
-    /// The database alone, as the last commit left it.
+    /// Returns the database without the connection, as the last commit left it.
     pub fn into_store(self) -> S
         ensures kept { IsClean (S.Store.view result) → IsTrue (S.Store.view result).is_open
             → (S.Store.view result).trees ≡ trees_of S.Store self }

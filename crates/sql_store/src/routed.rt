@@ -1,4 +1,4 @@
-//! Everything that is in force.
+//! Reads everything in force.
 ghost use Rattle.std.specs.Prelude.{◌≡◌, false, IsTrue, IfOk, is_ok, map, option_map};
 ghost use Rattle.std.specs.List.{filter_map};
 ghost use Rattle.std.specs.List.Sorted.{IsPermutation, IsStrictlySortedBy};
@@ -16,10 +16,10 @@ use sql_rows::{Fault, Query, number};
 use sqlite::{Alter, Connection};
 use std::alloc::Global;
 
-// Above the number of each subject, and the greatest that a column holds.
+// The greatest number that a column holds; above the number of each subject.
 const HIGHEST: u64 = 9_223_372_036_854_775_807;
 
-// Where the version's subject is routed, if the version is in force.
+// Returns the routing of the version's subject, if the version is in force and has one.
 fn routed(row: &VersionRow) -> Option<RoutedRow>
     ensures { option_map routed_model result ≡ routed_in row.now }
 {
@@ -62,7 +62,7 @@ fn rise(rows: &[RoutedRow]) -> bool
     true
 }
 
-/// Everything in force that has a routing, by subject.
+/// Returns every version in force that has a routing, ordered by subject.
 pub(crate) fn in_force<S: Alter>(conn: &mut Connection<S>) -> Result<Vec<RoutedRow>, Fault>
     requires ours { IsTrue (state S.Store conn.old).is_open
         → HasStoreTables (state S.Store conn.old) }

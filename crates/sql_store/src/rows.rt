@@ -1,4 +1,4 @@
-//! A row of each table put or taken away.
+//! Writes or deletes a row of each table.
 ghost use Rattle.std.specs.Prelude.{◌≡◌, ◌<◌, Some, None, is_ok};
 ghost use Rattle.sqlite.specs.Held.{state};
 ghost use Rattle.numbers.specs.Abstraction.{routing_of, subject_of};
@@ -23,7 +23,7 @@ use sql_rows::{
 use sqlite::{Alter, Transaction};
 use windows::{WindowSet, Windows};
 
-/// Registers a carrier.
+/// Writes a registered carrier.
 pub(crate) fn put_carrier<S: Alter>(tx: &mut Transaction<'_, S>, spid: Spid) -> Result<(), Fault>
     ensures same_reference { tx.new.conn.ghost_name ≡ tx.old.conn.ghost_name }
     ensures applies { AppliesInTransaction (state S.Store tx.old.conn.now)
@@ -34,7 +34,7 @@ pub(crate) fn put_carrier<S: Alter>(tx: &mut Transaction<'_, S>, spid: Spid) -> 
     Ok(())
 }
 
-/// Puts whose a routing number is.
+/// Writes an LRN and the carrier that registered it.
 pub(crate) fn put_lrn<S: Alter>(
     tx: &mut Transaction<'_, S>,
     lrn: Lrn,
@@ -50,7 +50,7 @@ pub(crate) fn put_lrn<S: Alter>(
     Ok(())
 }
 
-/// Puts whose a code is.
+/// Writes a code and its holder.
 pub(crate) fn put_code<S: Alter>(
     tx: &mut Transaction<'_, S>,
     code: CodeId,
@@ -66,7 +66,7 @@ pub(crate) fn put_code<S: Alter>(
     Ok(())
 }
 
-/// Puts a donated block's row.
+/// Writes the row of a donated block.
 pub(crate) fn put_block<S: Alter>(
     tx: &mut Transaction<'_, S>,
     block: BlockId,
@@ -87,7 +87,7 @@ pub(crate) fn put_block<S: Alter>(
     Ok(())
 }
 
-/// Puts the clock's row, with the number of its set.
+/// Writes the clock's row, with the number of its windows.
 pub(crate) fn put_clock<S: Alter>(
     tx: &mut Transaction<'_, S>,
     row: &StoredClock,
@@ -103,7 +103,7 @@ pub(crate) fn put_clock<S: Alter>(
     Ok(())
 }
 
-/// Puts a set of windows, and the clock's row with its number: it is the present set from then on.
+/// Writes a set of windows, and the clock's row with its number, which makes it the present set.
 pub(crate) fn put_set<S: Alter>(
     tx: &mut Transaction<'_, S>,
     row: &StoredClock,
@@ -152,7 +152,7 @@ fn delete_routing<S: Alter>(tx: &mut Transaction<'_, S>, id: u64) -> Result<(), 
     Ok(())
 }
 
-// Puts the routing that the version sends, or takes away what stands there.
+// Writes the routing that the version sends, or deletes the routing stored for it.
 fn put_next<S: Alter>(tx: &mut Transaction<'_, S>, id: u64, status: Status) -> Result<(), Fault>
     requires { id < 9223372036854775808 }
     ensures same_reference { tx.new.conn.ghost_name ≡ tx.old.conn.ghost_name }
@@ -165,7 +165,7 @@ fn put_next<S: Alter>(tx: &mut Transaction<'_, S>, id: u64, status: Status) -> R
     }
 }
 
-/// Puts a version's row, and the routing that it sends.
+/// Writes a version's row, and the routing that it sends.
 pub(crate) fn put_version<S: Alter>(
     tx: &mut Transaction<'_, S>,
     id: u64,
@@ -186,7 +186,7 @@ pub(crate) fn put_version<S: Alter>(
     Ok(())
 }
 
-/// Takes a version's row away, and the routing that it sends.
+/// Deletes a version's row, and the routing that it sends.
 pub(crate) fn delete_version<S: Alter>(tx: &mut Transaction<'_, S>, id: u64) -> Result<(), Fault>
     ensures same_reference { tx.new.conn.ghost_name ≡ tx.old.conn.ghost_name }
     ensures applies { AppliesInTransaction (state S.Store tx.old.conn.now)
@@ -200,7 +200,7 @@ pub(crate) fn delete_version<S: Alter>(tx: &mut Transaction<'_, S>, id: u64) -> 
     Ok(())
 }
 
-/// Puts a broadcast's row.
+/// Writes a broadcast's row.
 pub(crate) fn put_broadcast<S: Alter>(
     tx: &mut Transaction<'_, S>,
     key: BroadcastKey,
@@ -220,7 +220,7 @@ pub(crate) fn put_broadcast<S: Alter>(
     Ok(())
 }
 
-/// Takes a broadcast's row away.
+/// Deletes a broadcast's row.
 pub(crate) fn delete_broadcast<S: Alter>(
     tx: &mut Transaction<'_, S>,
     key: BroadcastKey,
@@ -236,7 +236,7 @@ pub(crate) fn delete_broadcast<S: Alter>(
     Ok(())
 }
 
-/// Puts a download that waits.
+/// Writes a pending download.
 pub(crate) fn put_wait<S: Alter>(
     tx: &mut Transaction<'_, S>,
     key: WaitKey,
@@ -257,7 +257,7 @@ pub(crate) fn put_wait<S: Alter>(
     Ok(())
 }
 
-/// Takes a download away that waited.
+/// Deletes a pending download.
 pub(crate) fn delete_wait<S: Alter>(tx: &mut Transaction<'_, S>, key: WaitKey) -> Result<(), Fault>
     ensures same_reference { tx.new.conn.ghost_name ≡ tx.old.conn.ghost_name }
     ensures applies { AppliesInTransaction (state S.Store tx.old.conn.now)

@@ -1,7 +1,7 @@
-//! The tables and the indexes of a register's file, as values, and whether a schema has them.
+//! The tables and indexes of a register's file, as values, and the check of a schema against them.
 //!
-//! A form of the file is the steps that led to it: what the first form had, and what each later one
-//! added behind that. A table once made keeps its place, so that the trees keep their numbers.
+//! A schema is a list of steps: the first version, and what each later version added. A table keeps
+//! its place once it is created, so the trees keep their numbers.
 ghost use Rattle.std.specs.Prelude.{◌≡◌, map, ◌++◌, IsTrue, IfSome};
 ghost use Rattle.sqlite_value.specs.Keys.{plain};
 ghost use Rattle.sql_rows.specs.Tables.{a_table, the_schema};
@@ -14,7 +14,7 @@ use sqlite_schema::schema::{Column, Index, Kind, Schema, Table};
 use sqlite_value::keys::{Collation, Order};
 use sqlite_value::value::Value;
 
-/// A column that a table is to have.
+/// A column that a table must have.
 #[derive(Clone, Copy)]
 pub(crate) struct WantedColumn<'a> {
     name: &'a [u8],
@@ -22,19 +22,19 @@ pub(crate) struct WantedColumn<'a> {
     not_null: bool,
 }
 
-/// A table that a file is to have, with no rules but its keys.
+/// A table that a file must have, with no rules but its keys.
 #[derive(Clone, Copy)]
 pub(crate) struct WantedTable<'a> {
     tree: u32,
     name: &'a [u8],
-    /// The column that is the number of the row, where one is.
+    /// The column that is the row's number, if there is one.
     key: Option<usize>,
     primary: &'a [usize],
     uniques: &'a [&'a [usize]],
     columns: &'a [WantedColumn<'a>],
 }
 
-/// An index that a file is to have.
+/// An index that a file must have.
 #[derive(Clone, Copy)]
 pub(crate) struct WantedIndex<'a> {
     tree: u32,
@@ -44,7 +44,7 @@ pub(crate) struct WantedIndex<'a> {
     is_unique: bool,
 }
 
-/// What a form of the file has beyond the one before.
+/// The tables and indexes that a schema version adds to the version before.
 #[derive(Clone, Copy)]
 pub(crate) struct Added<'a> {
     tables: &'a [WantedTable<'a>],
@@ -91,7 +91,7 @@ macro_rules! text_or_null {
     };
 }
 
-// A table whose first column is the number of its row.
+// A table whose first column is the row's number.
 macro_rules! numbered {
     ($tree:literal, $name:literal, $uniques:expr, $columns:expr) => {
         WantedTable {
@@ -105,7 +105,7 @@ macro_rules! numbered {
     };
 }
 
-// A table that is kept by the key of its first columns.
+// A table with a key of its first columns.
 macro_rules! keyed {
     ($tree:literal, $name:literal, $key:expr, $columns:expr) => {
         WantedTable {
@@ -143,7 +143,7 @@ macro_rules! rising {
     };
 }
 
-// The columns of a row of the clock or of a set, with the nine windows behind the others.
+// The columns of the clock's row or of a set: these, then the nine windows.
 macro_rules! with_windows {
     ($($column:expr),*) => {
         &[
@@ -161,7 +161,7 @@ macro_rules! with_windows {
     };
 }
 
-// The columns of a version, and what is behind them.
+// The columns of a version, then these.
 macro_rules! of_version {
     ($($column:expr),*) => {
         &[
@@ -190,7 +190,7 @@ macro_rules! of_version {
     };
 }
 
-/// The first form, which knows no modify.
+/// The first schema version, before modify.
 const FIRST: Added<'static> = Added {
     tables: &[
         keyed!(0, b"carrier", &[1], &[text!(b"spid")]),
@@ -258,7 +258,7 @@ const FIRST: Added<'static> = Added {
     ],
 };
 
-/// The next, which knows one: where a version that sends a modify is to be routed.
+/// The step to modify: the routing of a version that sends a modify.
 const MODIFY: Added<'static> = Added {
     tables: &[numbered!(
         16,
@@ -273,8 +273,8 @@ const MODIFY: Added<'static> = Added {
     indexes: &[],
 };
 
-/// The present one, which knows sets of windows: these, and which set the clock and each version
-/// goes by. The tables `version` and `clock` of the first form have no rows in it.
+/// The step to the present schema: sets of windows, and the set of the clock and of each version.
+/// The tables `version` and `clock` of the first version have no rows in it.
 const SETS: Added<'static> = Added {
     tables: &[
         numbered!(
@@ -320,7 +320,7 @@ fn are_places(places: &Items<usize>, wanted: &[usize]) -> bool
     places.as_slice() == wanted
 }
 
-// Whether the unique keys are those of these columns, and rise.
+// Returns whether the unique keys have these columns, in ascending order.
 fn are_keys(keys: &[Items<usize>], orders: &[Order], wanted: &[&[usize]]) -> bool
     ensures keys { IsTrue result → keys.now ≡ map (λ places. places.now) wanted.now }
     ensures orders { IsTrue result → orders.now ≡ map (λ places. plain) wanted.now }
@@ -334,7 +334,7 @@ fn are_keys(keys: &[Items<usize>], orders: &[Order], wanted: &[&[usize]]) -> boo
     }
 }
 
-// Whether a table has no rules but its keys.
+// Returns whether a table has no rules but its keys.
 fn has_no_rules(table: &Table) -> bool
     ensures { IsTrue result → table.now ≡ a_table table.now.tree table.now.name
         table.now.columns table.now.key table.now.primary table.now.uniques table.now.orders }
@@ -348,7 +348,7 @@ fn has_no_rules(table: &Table) -> bool
         && !table.is_counted
 }
 
-// What a file is to have, as its schema lists it.
+// A table, index or column that a file must have, as its schema lists it.
 trait Wanted<T> {
     ghost listed: { Self → T };
 
@@ -369,7 +369,7 @@ impl Wanted<Column> for WantedColumn<'_> {
     }
 }
 
-// What stands behind these in the schema's list, if they are there.
+// Returns the items after these in the schema's list, if it begins with them.
 fn behind<'a, T, W: Wanted<T>>(listed: &'a [T], wanted: &[W]) -> Option<&'a [T]>
     ensures { IfSome result (λ more. listed.now ≡ map W.listed wanted.now ++ more.now) }
 {
@@ -423,7 +423,7 @@ impl Wanted<Index> for WantedIndex<'_> {
     }
 }
 
-// Whether these are the tables and the indexes that the steps led to.
+// Returns whether these are the tables and indexes of all steps.
 fn are_of(tables: &[Table], indexes: &[Index], steps: &[Added<'_>]) -> bool
     ensures tables { IsTrue result → tables.now ≡ tables_of steps.now }
     ensures indexes { IsTrue result → indexes.now ≡ indexes_of steps.now }
@@ -443,14 +443,14 @@ fn is_by(schema: &Schema, steps: &[Added<'_>]) -> bool
     are_of(schema.tables.as_slice(), schema.indexes.as_slice(), steps) && schema.views.is_empty()
 }
 
-/// Whether the schema is that of a register's file.
+/// Returns whether the schema is the present one of a register's file.
 pub(crate) fn is_ours(schema: &Schema) -> bool
     ensures { IsTrue result → schema.now ≡ the_schema }
 {
     is_by(schema, &[FIRST, MODIFY, SETS])
 }
 
-/// The earlier form whose schema this is, if it is one's.
+/// Returns the earlier schema version that this schema has, if it is one.
 pub(crate) fn schema_version_of(schema: &Schema) -> Option<SchemaVersion>
     ensures { IfSome result (λ f. schema.now ≡ schema_of f) }
 {

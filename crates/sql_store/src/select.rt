@@ -1,4 +1,4 @@
-//! Queries.
+//! Runs queries.
 ghost use Rattle.std.specs.Prelude.{◌≡◌, false, [], IsTrue, IfOk, is_ok, map, option_map};
 ghost use Rattle.sqlite.specs.Held.{state};
 ghost use Rattle.sqlite.specs.Values.{bound};
@@ -14,7 +14,7 @@ use sql_rows::{Fault, FromRow, Query, all, sole};
 use sqlite::types::ValueRef;
 use sqlite::{Alter, Connection, Row};
 
-/// The rows that answer a query.
+/// Returns the rows that answer a query.
 pub(crate) fn select<S: Alter>(
     conn: &mut Connection<S>,
     query: Query,
@@ -34,7 +34,7 @@ pub(crate) fn select<S: Alter>(
     Ok(rows)
 }
 
-/// The only row that answers a query, if there is one.
+/// Returns the only row that answers a query, if there is one.
 pub(crate) fn find<T: FromRow, S: Alter>(
     conn: &mut Connection<S>,
     query: Query,
@@ -55,7 +55,8 @@ pub(crate) fn find<T: FromRow, S: Alter>(
     Ok(found)
 }
 
-/// The rows that answer a query, each read: one that does not read is a fault of the device.
+/// Returns the rows that answer a query, each read. A row that cannot be read is a fault of the
+/// device.
 pub(crate) fn find_all<T: FromRow + Drop, S: Alter>(
     conn: &mut Connection<S>,
     query: Query,

@@ -17,11 +17,11 @@ use sqlite::{Alter, Connection};
 use version::NumberInUse;
 use windows::Windows;
 
-/// The rows of a register in the tables of a database. `S` is where the database stands: a file, or
+/// The rows of a register in the tables of a database. `S` stores the database: in a file, or in
 /// memory.
 ///
-/// The count of failures rises by one with each answer of the database that is neither success nor
-/// want of memory, and with each stored value that is none of its column's type.
+/// The count of failures rises by one with each result of the database that is neither success nor
+/// a failed allocation. It also rises with each stored value that is not of its column's type.
 pub struct SqlStore<S: Alter> {
     pub(crate) conn: Connection<S>,
     pub(crate) failures: u64,
@@ -29,7 +29,7 @@ pub struct SqlStore<S: Alter> {
     ghost idle: { conn.in_transaction ≡ false },
 }
 
-// The answer as the store gives it. Each failure of the device is counted.
+// Returns the result as the store reports it, and counts each failure of the device.
 fn counted<A>(failures: &mut u64, answer: Result<A, Fault>) -> Result<A, StoreFault>
     ensures ok { IfOk result (λ a. answer ≡ Ok a) }
     ensures err { OnErr result (is_ok answer ≡ false) }

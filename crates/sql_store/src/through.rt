@@ -1,4 +1,4 @@
-//! The rows of a table read one at a time, so that none is held whole.
+//! Reads the rows of a table one at a time, so that no table is held in memory.
 ghost use Rattle.std.specs.Prelude.{◌≡◌, ◌⊎◌, ℕ, false, [], List, IsTrue, IfOk, OnErr, OnOk, option_map};
 ghost use Rattle.sqlite.specs.Given.{HasGiven, IsPlain};
 ghost use Rattle.sqlite.specs.Held.{state};
@@ -11,7 +11,7 @@ ghost use Rattle.sql_store.specs.Through.{HasReadAll, ReadsOn, TellsNone, Unmove
 use sql_rows::{Fault, FromRow, Query, Table};
 use sqlite::{Alter, Connection, Rows};
 
-/// The next row, read, if there is one: one that does not read is a fault of the device.
+/// Returns the next row, read, if there is one. A row that cannot be read is a fault of the device.
 pub(crate) fn next_read<T: FromRow, S: Alter>(rows: &mut Rows<'_, S>) -> Result<Option<T>, Fault>
     ensures same_reference { rows.new.conn.ghost_name ≡ rows.old.conn.ghost_name }
     ensures reads { HasCleanDisk (state S.Store rows.new.conn.now) → IfOk result (λ o.
@@ -38,7 +38,7 @@ pub(crate) fn next_read<T: FromRow, S: Alter>(rows: &mut Rows<'_, S>) -> Result<
     }
 }
 
-// Reads the rows that are left, and tells whether there is none.
+// Reads the rows that are left. Returns whether there were none.
 fn read_rows<T: FromRow + Drop, S: Alter>(rows: &mut Rows<'_, S>) -> Result<bool, Fault>
     ensures same_reference { rows.new.conn.ghost_name ≡ rows.old.conn.ghost_name }
     ensures all { HasCleanDisk (state S.Store rows.new.conn.now) → IfOk result (λ blank.
@@ -64,7 +64,7 @@ fn read_rows<T: FromRow + Drop, S: Alter>(rows: &mut Rows<'_, S>) -> Result<bool
     Err(Fault::Device)
 }
 
-/// Reads every row of a table, and tells whether it has none.
+/// Reads every row of a table. Returns whether it has none.
 pub(crate) fn read_table<T: FromRow + Drop, S: Alter>(
     conn: &mut Connection<S>,
     table: Table,

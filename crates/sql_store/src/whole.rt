@@ -1,4 +1,4 @@
-//! All rows of a database read once.
+//! Reads all rows of a database once.
 ghost use Rattle.std.specs.Prelude.{◌≡◌, false, IsTrue, IfOk, OnOk, is_ok};
 ghost use Rattle.std.specs.List.{list_all};
 ghost use Rattle.sqlite.specs.Held.{state};
@@ -14,7 +14,7 @@ use sql_rows::{
 };
 use sqlite::{Alter, Connection};
 
-// Reads a table, and tells whether it has no row.
+// Reads a table. Returns whether it has no row.
 fn read<T: FromRow + Drop, S: Alter>(conn: &mut Connection<S>, table: Table) -> Result<bool, Fault>
     requires ours { IsTrue (state S.Store conn.old).is_open
         → HasStoreTables (state S.Store conn.old) }
@@ -33,7 +33,7 @@ fn are_blank(tables: &[bool]) -> bool
     tables.iter().all(|is_blank| *is_blank)
 }
 
-// Reads the tables of the registry, and tells whether they have no row.
+// Reads carriers, routing numbers, codes and blocks. Returns whether their tables have no row.
 fn read_registry<S: Alter>(conn: &mut Connection<S>) -> Result<bool, Fault>
     requires ours { IsTrue (state S.Store conn.old).is_open
         → HasStoreTables (state S.Store conn.old) }
@@ -50,8 +50,8 @@ fn read_registry<S: Alter>(conn: &mut Connection<S>) -> Result<bool, Fault>
     Ok(are_blank(&[carriers, lrns, codes, blocks]))
 }
 
-// Reads the tables of the versions, of what is sent and of the clock, and tells whether they have
-// no row.
+// Reads versions, broadcasts, pending downloads and the clock. Returns whether their tables have no
+// row.
 fn read_versions<S: Alter>(conn: &mut Connection<S>) -> Result<bool, Fault>
     requires ours { IsTrue (state S.Store conn.old).is_open
         → HasStoreTables (state S.Store conn.old) }
@@ -68,7 +68,7 @@ fn read_versions<S: Alter>(conn: &mut Connection<S>) -> Result<bool, Fault>
     Ok(are_blank(&[versions, broadcasts, waits, clock]))
 }
 
-// Reads the routings that versions send and the sets of windows, and tells whether there is none.
+// Reads the routings that versions send and the sets of windows. Returns whether there are none.
 fn read_added<S: Alter>(conn: &mut Connection<S>) -> Result<bool, Fault>
     requires ours { IsTrue (state S.Store conn.old).is_open
         → HasStoreTables (state S.Store conn.old) }
@@ -83,7 +83,7 @@ fn read_added<S: Alter>(conn: &mut Connection<S>) -> Result<bool, Fault>
     Ok(are_blank(&[nexts, sets]))
 }
 
-// Sees that the tables of an earlier form have no row: one that stands there is a fault.
+// Checks that the tables of earlier schemas have no row. A row in them is a fault.
 fn see_moved<S: Alter>(conn: &mut Connection<S>) -> Result<(), Fault>
     requires ours { IsTrue (state S.Store conn.old).is_open
         → HasStoreTables (state S.Store conn.old) }
@@ -101,8 +101,8 @@ fn see_moved<S: Alter>(conn: &mut Connection<S>) -> Result<(), Fault>
     Ok(())
 }
 
-/// Reads every row once, and tells whether there is none. A row that does not read is a fault of
-/// the device, and so is one in a table of an earlier form.
+/// Reads every row once. Returns whether the database has no row. A row that cannot be read is a
+/// fault of the device, and so is a row in a table of an earlier schema.
 pub(crate) fn read_all<S: Alter>(conn: &mut Connection<S>) -> Result<bool, Fault>
     requires ours { IsTrue (state S.Store conn.old).is_open
         → HasStoreTables (state S.Store conn.old) }

@@ -1,7 +1,7 @@
-//! What is done with a database, whatever it stands in, and one function that does it with one in
-//! files. Where a function knows the files as those of the tests, each call of it for which they
-//! have to be a database takes forty seconds to prove, and twenty where it knows them as any files:
-//! so `with_database` alone makes such a call.
+//! Operations on a database, and the one function that runs them on a database in files.
+//!
+//! A call that needs files to hold a database takes forty seconds to prove over the files of the
+//! tests. Over any files it takes twenty. So only `with_database` makes such a call.
 use crate::rows::rows_of;
 use crate::said::{Said, Story, WINDOWS, ask, begin, tell_all, windows_of};
 use register::OpenFault;
@@ -11,7 +11,7 @@ use sqlite_disk::Disk;
 use std::alloc::Global;
 use windows::Windows;
 
-/// The log is not copied into the database file while a request is carried out.
+/// Options that keep the commits of a request from copying the log into the database file.
 pub const PLAIN: Options = Options {
     cache_pages: 2000,
     spill_pages: 2000,
@@ -19,7 +19,7 @@ pub const PLAIN: Options = Options {
     seed: 7,
 };
 
-/// The log is copied into the database file after each commit, and written before it.
+/// Options that make each commit write the log first, and then copy it into the database file.
 pub const NARROW: Options = Options {
     cache_pages: 2,
     spill_pages: 2,
@@ -27,12 +27,12 @@ pub const NARROW: Options = Options {
     seed: 7,
 };
 
-/// What is done with a database.
+/// An operation on a database.
 pub trait DbOperation: Copy {
-    /// What comes of it.
+    /// The result of the operation.
     type Made: Drop;
 
-    /// Does it, and gives the database back with no call of what it stands in.
+    /// Runs the operation, and returns the database without a further call of what it is stored in.
     fn carry_out<S: Alter + Drop>(
         self,
         alloc: Global,
@@ -40,7 +40,7 @@ pub trait DbOperation: Copy {
     ) -> (Option<Self::Made>, S);
 }
 
-// A connection over files, or the files where they are refused or stop.
+// Opens a connection over files. Returns the files if they are refused or stop.
 fn connect<F: Disk + Drop>(
     alloc: Global,
     files: Files<F>,
@@ -55,8 +55,9 @@ fn connect<F: Disk + Drop>(
     }
 }
 
-/// What comes of a deed that is done with a database in files, if they are neither refused nor
-/// stop before, and the files then.
+/// Runs an operation on a database in files. Returns its result, and the files afterwards.
+///
+/// The result is `None` if the files are refused or stop first.
 pub fn with_database<F: Disk + Drop, D: DbOperation>(
     alloc: Global,
     files: Files<F>,
@@ -72,7 +73,7 @@ pub fn with_database<F: Disk + Drop, D: DbOperation>(
     }
 }
 
-/// Every row is read, and what is listed.
+/// The operation that reads every row, and the schema.
 #[derive(Clone, Copy)]
 pub struct Rows;
 
@@ -89,7 +90,7 @@ impl DbOperation for Rows {
     }
 }
 
-/// Statements are carried out, as by hand.
+/// The operation that executes statements, as by hand.
 #[derive(Clone, Copy)]
 pub struct Run<'a>(pub &'a str);
 
@@ -119,7 +120,7 @@ fn texts_of<S: Alter>(alloc: Global, conn: &mut Connection<S>) -> Option<String>
     Some(texts)
 }
 
-/// The statements are read that make the tables and the indexes.
+/// The operation that reads the statements that make the tables and the indexes.
 #[derive(Clone, Copy)]
 pub struct Texts;
 
@@ -139,14 +140,14 @@ impl DbOperation for Texts {
 /// How a connection is offered as a store.
 #[derive(Clone, Copy)]
 pub enum Offer {
-    /// Where the tables of a store are there.
+    /// With `SqlStore::adopt`, if the tables of a store exist.
     Adopt,
     Open,
-    /// As `Open` is, with the windows of a text in place of those of the tests.
+    /// As `Open`, with the windows of a text instead of those of the tests.
     OpenWith(&'static str),
 }
 
-// Whether the tables of a store are there.
+// Returns whether the tables of a store exist.
 fn is_store<S: Alter>(conn: &mut Connection<S>) -> bool {
     conn.query_all("SELECT present FROM clock2", &[]).is_ok()
 }
@@ -173,7 +174,7 @@ fn adopted<S: Alter + Drop>(
     }
 }
 
-// A store over a connection, or why it is refused, and its database.
+// Makes a store of a connection. If it is refused, returns why, and its database.
 fn offered<S: Alter + Drop>(
     alloc: Global,
     conn: Connection<S>,
@@ -190,12 +191,12 @@ fn offered<S: Alter + Drop>(
     }
 }
 
-// The database under a store.
+// Returns the database under a store.
 fn database_of<S: Alter + Drop>(store: SqlStore<S>) -> S {
     store.release().into_store()
 }
 
-/// Why it is refused, if it is.
+/// The result is why the connection is refused, if it is.
 impl DbOperation for Offer {
     type Made = Option<FileFault>;
 
@@ -211,8 +212,8 @@ impl DbOperation for Offer {
     }
 }
 
-/// What is taken as a store is opened as a register with these windows: why it is not, if it is
-/// not.
+/// The operation that adopts a store, and opens it as a register with these windows. The result is
+/// why it is not opened, if it is not.
 #[derive(Clone, Copy)]
 pub struct Begin<'a>(pub &'a Windows);
 
@@ -234,7 +235,7 @@ impl DbOperation for Begin<'_> {
     }
 }
 
-/// A register answers a message.
+/// The operation that sends one message to a register. The result is its answer.
 #[derive(Clone, Copy)]
 pub struct Ask<'a>(pub &'a Said<'a>);
 
@@ -256,7 +257,7 @@ impl DbOperation for Ask<'_> {
     }
 }
 
-/// A register accepts stories.
+/// The operation that sends stories to a register, which has to accept each message.
 #[derive(Clone, Copy)]
 pub struct Tell<'a>(pub &'a [Story<'a>]);
 

@@ -1,5 +1,5 @@
-//! Files of the first form, as the program wrote them that knew no other, each in the middle of a
-//! worked story: today's program moves the file, and then answers as the story tells.
+//! Tests files in the first format, each written in the middle of a worked story. The program
+//! migrates the file, and then answers as the rest of the story says.
 use crate::deeds::{Ask, Offer, PLAIN};
 use crate::failed_block::{FAILING, GOING_ON, JUMPED_OVER, Row, Rows};
 use crate::files::{Held, done_in};
@@ -7,10 +7,10 @@ use crate::moved::changed;
 use crate::said::Said;
 use std::alloc::{AllocError, Global};
 
-// The statements stand here alone: `tests/moved_files.py` reads them from this file, and has stock
-// SQLite carry them out.
+// Only the statements are here: `tests/moved_files.py` reads them from this file, and executes them
+// in stock SQLite.
 
-// The tables and indexes of that program, in its order.
+// The tables and indexes of the first format, in its order.
 const SCHEMA: &str = "\
     BEGIN; \
     CREATE TABLE carrier (spid TEXT NOT NULL PRIMARY KEY) STRICT; \
@@ -40,7 +40,7 @@ const SCHEMA: &str = "\
     CREATE INDEX wait_broadcast ON wait (id, attempt); \
     COMMIT";
 
-// The carriers, their routing numbers and a code, as every file has them.
+// The carriers, their routing numbers and a code, which every file has.
 static REGISTRY: [&str; 7] = [
     "INSERT INTO carrier VALUES ('AAAA')",
     "INSERT INTO carrier VALUES ('BBBB')",
@@ -51,8 +51,8 @@ static REGISTRY: [&str; 7] = [
     "INSERT INTO code VALUES (202533, 'BBBB')",
 ];
 
-// After 16 messages of the story `failed-block`: a block is sent to three carriers, and their
-// downloads wait.
+// The rows after 16 messages of the story `failed-block`: a block is being sent to three carriers,
+// and their downloads are pending.
 static SENDING: [&str; 9] = [
     "INSERT INTO block VALUES (2025337, 'BBBB', 3)",
     "INSERT INTO version VALUES (1, 2025337001, 'BBBB', 'BBBB', 0, 2025330000, NULL, NULL, NULL, \
@@ -68,7 +68,8 @@ static SENDING: [&str; 9] = [
     "INSERT INTO clock VALUES (0, 22, 4, 60, 60, 30, 120, 1000, 60, 60, 500, 15)",
 ];
 
-// After 34: it has failed, and is sent for another holder.
+// The rows after 34 messages: the block's version has failed, and the next is being sent for
+// another holder.
 static FAILED: [&str; 10] = [
     "INSERT INTO block VALUES (2025337, 'BBBB', 4)",
     "INSERT INTO version VALUES (1, 2025337001, 'BBBB', 'BBBB', 0, 2025330000, NULL, NULL, NULL, \
@@ -86,8 +87,8 @@ static FAILED: [&str; 10] = [
     "INSERT INTO clock VALUES (0, 40, 5, 60, 60, 30, 120, 1000, 60, 60, 500, 15)",
 ];
 
-// After 14 messages of `failed-block-jump`: the block is sent, and two of its numbers, which have
-// failed for one carrier, still wait for it.
+// The rows after 14 messages of `failed-block-jump`: the block is being sent, and two of its
+// numbers, which are partial failures, are pending for one carrier.
 static PARTLY_FAILED: [&str; 13] = [
     "INSERT INTO block VALUES (2025337, 'BBBB', 3)",
     "INSERT INTO version VALUES (1, 2025337001, 'BBBB', 'BBBB', 0, 2025330000, NULL, NULL, NULL, \
@@ -107,7 +108,7 @@ static PARTLY_FAILED: [&str; 13] = [
     "INSERT INTO clock VALUES (0, 22, 4, 60, 60, 30, 120, 1000, 60, 60, 500, 15)",
 ];
 
-// A file of that program with these rows, as it is once today's has moved it.
+// Makes a file in the first format with these rows, and returns it once it is migrated.
 fn moved_with(alloc: Global, rows: &[&str]) -> Option<Held> {
     let made = changed(alloc, Held::nothing(alloc), &[SCHEMA])?;
     let opened = changed(alloc, made, &REGISTRY)?;
@@ -121,7 +122,7 @@ fn moved_with(alloc: Global, rows: &[&str]) -> Option<Held> {
     }
 }
 
-// The bytes of an answer.
+// Returns the bytes of an answer.
 fn answer(alloc: Global, status: &str, body: &str) -> Result<String, AllocError> {
     let kind = "application/json";
     let length = body.len();
@@ -130,7 +131,7 @@ fn answer(alloc: Global, status: &str, body: &str) -> Result<String, AllocError>
     )
 }
 
-// The files after a message, if it is answered as the row tells.
+// Sends one message. Returns the files afterwards, if the row's answer comes.
 fn after_row(alloc: Global, held: &Held, row: &Row<'_>) -> Option<Held> {
     let (said, status, body) = row;
     let (heard, after) = done_in(alloc, held, PLAIN, Ask(said))?;
@@ -141,8 +142,8 @@ fn after_row(alloc: Global, held: &Held, row: &Row<'_>) -> Option<Held> {
     }
 }
 
-// Asks the messages of the rows, one after the other: the files then, or the first message that is
-// answered otherwise.
+// Sends the messages of the rows in order. Returns the files afterwards, or the first message with
+// another answer.
 fn after_rows(alloc: Global, held: Held, rows: Rows<'static>) -> Result<Held, Said<'static>> {
     let mut files = held;
     for row in rows {
@@ -156,7 +157,7 @@ fn after_rows(alloc: Global, held: Held, rows: Rows<'static>) -> Result<Held, Sa
 
 const NOT_MOVED: Said<'static> = ("", "the file is not moved", "");
 
-// The first message that is answered otherwise, after the move of a file with these rows.
+// Migrates a file with these rows. Returns the first message that is then answered differently.
 fn first_other(alloc: Global, rows: &[&str], parts: &[Rows<'static>]) -> Option<Said<'static>> {
     let Some(moved) = moved_with(alloc, rows) else {
         return Some(NOT_MOVED);

@@ -1,11 +1,11 @@
-//! What the worked stories `failed-block` and `failed-block-jump` (`tests/stories`) tell from an
-//! assignment on.
+//! The messages and answers of the stories `failed-block` and `failed-block-jump`
+//! (`tests/stories`), from an assignment on.
 use crate::said::Said;
 
 /// A message, and the status and the body of its answer.
 pub type Row<'a> = (Said<'a>, &'a str, &'a str);
 
-/// One after the other.
+/// Rows of a story, in order.
 pub type Rows<'a> = &'a [Row<'a>];
 
 const ASSIGN: &str = "/blocks/assign";
@@ -30,7 +30,7 @@ const CONFLICT: &str = "409 Conflict";
 
 const NOT_FOUND: &str = "404 Not Found";
 
-// The block is sent to the carriers, and has failed when none of them has acknowledged it.
+// The block's version while it is being sent, and after nobody has acknowledged it.
 const SENT_TO_CCCC: &str = concat!(
     r#"{"attempt":1,"cic":null,"due":22,"id":3,"lrn":"2025550000","new":"CCCC","old":"BBBB","#,
     r#""phase":null,"release":null,"since":22,"status":"sending","subject":"2025337"}"#
@@ -41,7 +41,8 @@ const FAILED_AT_37: &str = concat!(
     r#""phase":null,"release":null,"since":37,"status":"failed","subject":"2025337"}"#
 );
 
-// Its next version, for another carrier: while it is sent, in force, and while it is given back.
+// The block's next version, for another carrier: while it is being sent, in force, and while it is
+// being released.
 const SENT_TO_AAAA: &str = concat!(
     r#"{"attempt":1,"cic":null,"due":40,"id":4,"lrn":"2025440000","new":"AAAA","old":"BBBB","#,
     r#""phase":null,"release":null,"since":40,"status":"sending","subject":"2025337"}"#
@@ -65,7 +66,7 @@ const WRONG_STATUS: &str = r#"{"error":"wrong_status","number":13}"#;
 
 const NO_VERSION: &str = r#"{"error":"not_found","number":10}"#;
 
-/// From the first assignment of `failed-block` to the second.
+/// The part of `failed-block` from the first assignment to the second.
 pub const FAILING: Rows<'static> = &[
     (("NPAC", "/clock", r#"{"minute":36}"#), OK, r#"{"now":36}"#),
     (("CCCC", "/versions/3", ""), OK, SENT_TO_CCCC),
@@ -123,7 +124,7 @@ pub const FAILING: Rows<'static> = &[
     ),
 ];
 
-/// From there to its end.
+/// The part of `failed-block` from the second assignment to its end.
 pub const GOING_ON: Rows<'static> = &[
     (("CCCC", "/versions/3", ""), OK, FAILED_AT_37),
     (("AAAA", ACKNOWLEDGE, OF_FOURTH), OK, SENT_TO_AAAA),
@@ -153,7 +154,8 @@ const PARTLY_FAILED_AT_15: &str = concat!(
     r#""subject":"2025337001"}"#
 );
 
-// Two numbers of the block, of which some carriers know, and the block as it was assigned last.
+// Two numbers of the block that one carrier has not acknowledged, and the block as it was assigned
+// last.
 const WAITING: &str = concat!(
     r#"{"downloads":["#,
     r#"{"action":"create","attempt":1,"cic":null,"id":1,"lrn":"2025330000","minute":0,"#,
@@ -164,7 +166,7 @@ const WAITING: &str = concat!(
     r#""subject":"2025337"}]}"#
 );
 
-/// From the assignment of `failed-block-jump` to its end.
+/// The part of `failed-block-jump` from the assignment to its end.
 pub const JUMPED_OVER: Rows<'static> = &[
     (
         ("NPAC", "/clock", r#"{"minute":2000}"#),

@@ -1,11 +1,11 @@
-//! A database file and its log in memory, each of which may be made to stop.
+//! A database file and its log in memory. Either can be made to stop.
 use crate::deeds::{DbOperation, PLAIN, Rows, Tell, with_database};
 use crate::said::Story;
 use sqlite::{Files, Options};
 use sqlite_disk::{Disk, Fuse, Memory};
 use std::alloc::Global;
 
-/// A file in memory that passes so many calls on, and fails each one after.
+/// A file in memory that passes on a number of calls, and fails each later one.
 pub type Fused = Fuse<Memory>;
 
 /// The bytes of a database file and of its log.
@@ -28,7 +28,7 @@ pub const ENDLESS: Calls = Calls {
     db: u64::MAX,
 };
 
-/// Bytes of their own.
+/// Copies the bytes.
 pub fn copy_of(alloc: Global, bytes: &[u8]) -> Option<Vec<u8>> {
     let mut copy = Vec::new(alloc);
     copy.extend_from_slice(bytes).ok()?;
@@ -36,7 +36,7 @@ pub fn copy_of(alloc: Global, bytes: &[u8]) -> Option<Vec<u8>> {
 }
 
 impl Held {
-    /// No bytes, as before the first open.
+    /// Creates empty files, as before the first open.
     pub fn nothing(alloc: Global) -> Held {
         Held {
             log: Vec::new(alloc),
@@ -45,7 +45,7 @@ impl Held {
     }
 }
 
-/// The bytes that both files have.
+/// Copies the bytes of both files.
 pub fn held_in(alloc: Global, files: &Files<Fused>) -> Option<Held> {
     Some(Held {
         log: copy_of(alloc, files.log.inner().bytes())?,
@@ -53,7 +53,7 @@ pub fn held_in(alloc: Global, files: &Files<Fused>) -> Option<Held> {
     })
 }
 
-// A file with these bytes, which are there after any crash.
+// Creates a file with these bytes, which survive a crash.
 fn file_with(alloc: Global, bytes: &[u8], calls: u64) -> Option<Fused> {
     let mut file = Memory::new(alloc);
     file.write_at(0, bytes).ok()?;
@@ -61,7 +61,7 @@ fn file_with(alloc: Global, bytes: &[u8], calls: u64) -> Option<Fused> {
     Some(Fuse::new(file, calls))
 }
 
-/// Files with these bytes, which pass so many calls on.
+/// Creates files with these bytes that pass on this many calls.
 pub fn files_with(alloc: Global, held: &Held, calls: Calls) -> Option<Files<Fused>> {
     Some(Files {
         log: file_with(alloc, &held.log, calls.log)?,
@@ -69,7 +69,7 @@ pub fn files_with(alloc: Global, held: &Held, calls: Calls) -> Option<Files<Fuse
     })
 }
 
-/// What comes of a deed that is done with a database in these bytes, and the bytes then.
+/// Runs an operation on a database in these bytes. Returns its result, and the bytes afterwards.
 pub fn done_in<D: DbOperation>(
     alloc: Global,
     held: &Held,
@@ -80,13 +80,13 @@ pub fn done_in<D: DbOperation>(
     Some((made?, held_in(alloc, &files)?))
 }
 
-/// What stands in these bytes: every row, and what is listed.
+/// Returns the content of these bytes: every row, and the schema.
 pub fn rows_in(alloc: Global, held: &Held) -> Option<Vec<u8>> {
     let (rows, _held) = done_in(alloc, held, PLAIN, Rows)?;
     Some(rows)
 }
 
-/// The bytes of a new register to which the stories were told.
+/// Returns the bytes of a new register that accepted these stories.
 pub fn told_stories(alloc: Global, stories: &[Story<'_>], options: Options) -> Option<Held> {
     let (_told, held) = done_in(alloc, &Held::nothing(alloc), options, Tell(stories))?;
     Some(held)

@@ -1,5 +1,5 @@
-//! The proved tests of a register in a file, what a stop at each call of the files leaves and which
-//! files are refused; and those of the program.
+//! Tests of a register in a file: what a stop at each call of the files leaves, which files are
+//! refused, and which are migrated. Tests of the program too.
 #![tactic(auto)]
 
 #[cfg(test)]

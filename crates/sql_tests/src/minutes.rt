@@ -1,11 +1,11 @@
-//! The machine's minutes, over a clock that stands still.
+//! Tests the minutes of the machine's clock, over a clock that does not run.
 use api::Ticks;
 use cli::MachineMinutes;
 use numbers::Minute;
 use std::io;
 use std::time::{Clock, Duration};
 
-// A clock that shows one time since 1970.
+// A clock that always shows the same time since 1970.
 #[derive(Clone, Copy)]
 struct Still(Duration);
 
@@ -25,8 +25,8 @@ fn minute_at(seconds: u64) -> Option<Minute> {
     minutes.next()
 }
 
-// A minute begins with its sixtieth second. The thousand millionth second is in the night of
-// 9 September 2001, at 01:46:40.
+// A minute begins with its sixtieth second. The thousand millionth second falls in the night of 9
+// September 2001, at 01:46:40.
 #[test]
 fn a_minute_has_sixty_seconds(rt: HostRuntime) {
     assert_eq!(rt; minute_at(0), Minute::new(0));

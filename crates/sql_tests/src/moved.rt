@@ -1,4 +1,4 @@
-//! Files of the two earlier forms, which are moved as they are opened.
+//! Tests the migration of files in the two older formats.
 use crate::deeds::{Ask, Offer, PLAIN, Run};
 use crate::files::{Held, done_in, rows_in, told_stories};
 use crate::said::Said;
@@ -7,7 +7,7 @@ use crate::stories::JUMP;
 use sql_store::FileFault;
 use std::alloc::Global;
 
-// Makes a file of this form one that has no sets of windows yet.
+// The statements that turn a file into the format without sets of windows.
 const WITHOUT_SETS: &str = "\
     INSERT INTO version SELECT id, subject, old, new, due, lrn, cic, old_at, new_at, status, sends, \
     since, attempt, release, spent, protective, cancelled_by, deadline, holds, opens FROM version2; \
@@ -17,13 +17,13 @@ const WITHOUT_SETS: &str = "\
     window_set; \
     DROP TABLE clock2; DROP TABLE version2; DROP TABLE window_set";
 
-// And makes it one that has no modifies yet.
+// The statement that turns that file into the first format, which has no modifies.
 const WITHOUT_MODIFIES: &str = "DROP TABLE next_routing";
 
-// The statements that make a file of each earlier form.
+// The statements that make a file in each older format.
 static FORMS: [&[&str]; 2] = [&[WITHOUT_SETS], &[WITHOUT_SETS, WITHOUT_MODIFIES]];
 
-/// The files after these statements, one after the other.
+/// Executes these statements in order. Returns the files afterwards.
 pub fn changed(alloc: Global, held: Held, statements: &[&str]) -> Option<Held> {
     let mut files = held;
     for statement in statements {
@@ -33,12 +33,12 @@ pub fn changed(alloc: Global, held: Held, statements: &[&str]) -> Option<Held> {
     Some(files)
 }
 
-// The files of a register of which five windows are yet to end.
+// Returns the files of a register with five windows yet to end.
 fn files(alloc: Global) -> Option<Held> {
     told_stories(alloc, JUMP.stories, PLAIN)
 }
 
-// What a register over these files answers to a message, and the rows then.
+// Returns the register's answer to a message, and the rows afterwards.
 fn answered(alloc: Global, held: &Held, said: &Said<'_>) -> Option<(Vec<u8>, Vec<u8>)> {
     let (answer, after) = done_in(alloc, held, PLAIN, Ask(said))?;
     Some((answer, rows_in(alloc, &after)?))
@@ -46,8 +46,9 @@ fn answered(alloc: Global, held: &Held, said: &Said<'_>) -> Option<(Vec<u8>, Vec
 
 const SHOWN: Said<'static> = ("NPAC", "/versions/4", "");
 
-// A file of the form is taken, has then the rows that it had before it was made one of that form,
-// and its register goes on as before; what is no store yet is not adopted.
+// Returns whether a file in this format is migrated: its rows are those of the present format, and
+// its register continues as before. `Offer::Adopt` refuses it, since it does not have a store's
+// tables yet.
 fn is_moved(alloc: Global, form: &[&str]) -> Option<bool> {
     let held = files(alloc)?;
     let rows = rows_in(alloc, &held)?;
@@ -60,7 +61,7 @@ fn is_moved(alloc: Global, form: &[&str]) -> Option<bool> {
     Some(is_taken && rows_in(alloc, &moved)? == rows && goes_on)
 }
 
-// Whether each form is.
+// Returns whether a file in each older format is migrated.
 fn are_moved(alloc: Global) -> Option<[bool; 2]> {
     Some([is_moved(alloc, FORMS[0])?, is_moved(alloc, FORMS[1])?])
 }
@@ -70,14 +71,14 @@ fn files_of_earlier_forms_are_moved(rt: HostRuntime) {
     assert_eq!(rt; are_moved(rt.alloc()), Some([true; 2]));
 }
 
-// ---- what refuses a file of an earlier form leaves it as it was
+// ---- a refused file in an older format stays as it was
 
-// Other windows than those of the tests, in minutes.
+// Windows that differ from those of the tests, in minutes.
 const OTHERS: &str =
     "initial_concurrence = 60\nfinal_concurrence = 60\nconflict_restriction = 30\nconflict_resolution = 120\nconflict_expiration = 1000\ncancellation_initial = 60\ncancellation_final = 60\npending_retention = 500\nbroadcast = 16\n";
 
-// Why a file is not opened, if it is not; and whether its register then goes on as before, once
-// these statements have run.
+// Returns why a file is refused, if it is. Returns too whether it keeps its format, and its
+// register continues as before once these statements have mended it.
 fn is_refused_whole(
     alloc: Global,
     held: &Held,
@@ -108,7 +109,7 @@ fn an_earlier_form_with_other_windows_stays(rt: HostRuntime) {
     );
 }
 
-// A statement after which a row of a table does not read, and one that takes it back.
+// Statements that make a row unreadable, each with one that undoes it.
 static SPOILED: [(&str, &str); 9] = [
     (
         "INSERT INTO carrier VALUES ('x')",
@@ -148,7 +149,8 @@ static SPOILED: [(&str, &str); 9] = [
     ),
 ];
 
-// The first of them with which the file is taken, or its register does not go on once it is mended.
+// Returns the first statement that leaves the file accepted, or after whose undoing its register
+// does not continue.
 fn first_taken(alloc: Global) -> Option<Option<&'static str>> {
     let earlier = changed(alloc, files(alloc)?, FORMS[0])?;
     for (spoils, mends) in SPOILED {
@@ -166,10 +168,10 @@ fn a_row_that_does_not_read_stays_in_its_form(rt: HostRuntime) {
     assert_eq!(rt; first_taken(rt.alloc()), Some(None));
 }
 
-// ---- a stop at each call of its files while one is moved
+// ---- a stop at each call of the files during a migration
 
-// Whether the file is of the earlier form still, or of this one with these rows; and its register
-// goes on as before.
+// Returns whether the file is still in the older format, or in the present one with these rows, and
+// its register continues as before.
 fn is_of_one_form(alloc: Global, held: &Held, rows: &[u8], before: &(Vec<u8>, Vec<u8>)) -> bool {
     let Some((refused, left)) = done_in(alloc, held, PLAIN, Offer::Adopt) else {
         return false;
@@ -178,7 +180,7 @@ fn is_of_one_form(alloc: Global, held: &Held, rows: &[u8], before: &(Vec<u8>, Ve
     is_one && answered(alloc, &left, &SHOWN).as_ref() == Some(before)
 }
 
-// The bytes that stops have left so far. Most leave the same, which are looked at once.
+// Returns whether an earlier stop left the same bytes. Most do, so each result is checked once.
 fn is_known(known: &[Held], held: &Held) -> bool {
     for other in known {
         if other.log == held.log && other.db == held.db {
@@ -188,7 +190,7 @@ fn is_known(known: &[Held], held: &Held) -> bool {
     false
 }
 
-// Looks at what a stop leaves of the files, where it is not known yet.
+// Checks what a stop leaves of the files, unless the bytes are known.
 fn are_whole(
     alloc: Global,
     left: [Held; 5],
@@ -206,8 +208,8 @@ fn are_whole(
     Some(true)
 }
 
-// The first stop of a file, after so many of its calls, that leaves something else; and how many
-// different files the stops leave.
+// Returns the first stop, by its file and the number of calls before it, that leaves something
+// else; and how many different files the stops leave.
 fn first_wrong_stop(alloc: Global) -> Option<(Option<(Stops, u64)>, usize)> {
     let held = files(alloc)?;
     let moved = (rows_in(alloc, &held)?, answered(alloc, &held, &SHOWN)?);

@@ -1,4 +1,4 @@
-//! Files that were changed by hand: which are refused, and that a refusal changes nothing.
+//! Tests files that were changed by hand: which are refused, and that a refusal changes nothing.
 use crate::deeds::{Ask, Begin, Offer, PLAIN, Run, Texts};
 use crate::files::{Held, done_in, rows_in, told_stories};
 use crate::said::{Said, WINDOWS, is_accepted, windows_of};
@@ -7,7 +7,7 @@ use register::OpenFault;
 use sql_store::FileFault;
 use std::alloc::Global;
 
-// Files, and what stands in them.
+// Files, and their content.
 #[derive(Drop)]
 struct Shown {
     held: Held,
@@ -19,18 +19,18 @@ fn show(alloc: Global, held: Held) -> Option<Shown> {
     Some(Shown { held, rows })
 }
 
-// The files after statements that were carried out by hand.
+// Returns the files after statements that are executed by hand.
 fn changed(alloc: Global, held: &Held, statements: &str) -> Option<Held> {
     let (_ran, held) = done_in(alloc, held, PLAIN, Run(statements))?;
     Some(held)
 }
 
-// Why the files are refused, if they are, and the files then.
+// Returns why the files are refused, if they are, and the files afterwards.
 fn offered(alloc: Global, held: &Held, offer: Offer) -> Option<(Option<FileFault>, Held)> {
     done_in(alloc, held, PLAIN, offer)
 }
 
-// Whether the files are answered so by `adopt` and by `open`, which change nothing.
+// Returns whether `Offer::Adopt` and `Offer::Open` give this answer and change nothing.
 fn are_answered(alloc: Global, shown: &Shown, wanted: Option<FileFault>) -> Option<bool> {
     for offer in [Offer::Adopt, Offer::Open] {
         let (fault, left) = offered(alloc, &shown.held, offer)?;
@@ -45,7 +45,7 @@ fn port(alloc: Global) -> Option<Shown> {
     show(alloc, told_stories(alloc, &PORT, PLAIN)?)
 }
 
-// Whether the port's files are answered so when the statements have changed something in them.
+// Returns whether the port's files get this answer after the statements changed something in them.
 fn is_answered(
     alloc: Global,
     port: &Shown,
@@ -57,7 +57,7 @@ fn is_answered(
     Some(is_other && are_answered(alloc, &changed, wanted)?)
 }
 
-// The first of the statements after which the port's files are answered otherwise.
+// Returns the first of the statements after which the port's files get another answer.
 fn first_other(
     alloc: Global,
     all: &[&'static str],
@@ -74,7 +74,7 @@ fn first_other(
     None
 }
 
-// A value that is none of its column's type.
+// Values that are not of their column's type.
 static SPOILED: [&str; 33] = [
     "UPDATE carrier SET spid = 'AAAAA' WHERE spid = 'AAAA'",
     "UPDATE carrier SET spid = 'aaaa' WHERE spid = 'AAAA'",
@@ -119,7 +119,7 @@ fn a_value_of_no_type_is_refused(rt: HostRuntime) {
     );
 }
 
-// The last value that is one of its column's type.
+// The last values that are of their column's type.
 static TAKEN: [&str; 9] = [
     "UPDATE carrier SET spid = 'ZZ99' WHERE spid = 'AAAA'",
     "UPDATE version2 SET deadline = 0 WHERE id = 1",
@@ -137,8 +137,8 @@ fn the_last_value_of_a_type_is_taken(rt: HostRuntime) {
     assert_eq!(rt; first_other(rt.alloc(), &TAKEN, None), None);
 }
 
-// Keys of no subject, routing number, code or block, another clock than the one, and what stands
-// for no subject in another row.
+// Keys of no subject, routing number, code or block, a second clock, and the code for no subject in
+// another row.
 static KEYS: [&str; 7] = [
     "UPDATE clock2 SET one = 1",
     "UPDATE version2 SET holds = -7 WHERE id = 2",
@@ -162,7 +162,7 @@ static NOT_IN_FORCE: [&str; 1] = ["UPDATE version2 SET holds = -1 - id WHERE id 
 
 const NULL_IN_FORCE: &str = "UPDATE version2 SET holds = NULL WHERE id = 1";
 
-// The database itself refuses the statement.
+// Returns whether the database itself refuses the statement.
 fn is_no_statement(alloc: Global, statement: &str) -> Option<bool> {
     let port = port(alloc)?;
     Some(changed(alloc, &port.held, statement).is_none())
@@ -174,7 +174,7 @@ fn what_is_not_in_force_has_a_number_of_its_own(rt: HostRuntime) {
     assert!(rt; is_no_statement(rt.alloc(), NULL_IN_FORCE) == Some(true));
 }
 
-// A row in a table that an earlier form of the file had in place of another.
+// Rows in a table that an older format had.
 static EARLIER_ROWS: [&str; 2] = [
     "INSERT INTO version SELECT id, subject, old, new, due, lrn, cic, old_at, new_at, status, \
      sends, since, attempt, release, spent, protective, cancelled_by, deadline, holds, opens FROM \
@@ -188,7 +188,7 @@ fn a_row_of_an_earlier_form_is_refused(rt: HostRuntime) {
     assert_eq!(rt; first_other(rt.alloc(), &EARLIER_ROWS, wanted), None);
 }
 
-// Something more or less than the tables and the indexes.
+// One more or one less than the tables and the indexes of a store.
 static LISTED_OTHERWISE: [&str; 5] = [
     "CREATE TABLE more (one INTEGER PRIMARY KEY) STRICT",
     "CREATE INDEX more ON version2 (old)",
@@ -203,14 +203,14 @@ fn another_schema_is_refused(rt: HostRuntime) {
     assert_eq!(rt; first_other(rt.alloc(), &LISTED_OTHERWISE, wanted), None);
 }
 
-// What makes the tables and the indexes of a new file.
+// Returns the statements that make the tables and the indexes of a new file.
 fn texts(alloc: Global) -> Option<String> {
     let (_fault, held) = offered(alloc, &Held::nothing(alloc), Offer::Open)?;
     let (texts, _held) = done_in(alloc, &held, PLAIN, Texts)?;
     Some(texts)
 }
 
-// One part of the texts is another.
+// A part of the statements, and its replacement.
 type Edit<'a> = (&'a str, &'a str);
 
 fn is_made_so(
@@ -228,7 +228,7 @@ fn is_made_so(
     are_answered(alloc, &show(alloc, made)?, wanted)
 }
 
-// A column of another type, or with another rule, and one more.
+// A column with another type or another rule, and one more column.
 static EDITS: [Edit<'static>; 8] = [
     ("donor TEXT NOT NULL", "donor BLOB NOT NULL"),
     ("due INTEGER NOT NULL", "due ANY NOT NULL"),
@@ -243,7 +243,7 @@ static EDITS: [Edit<'static>; 8] = [
     ("present INTEGER NOT NULL", "present ANY NOT NULL"),
 ];
 
-// The first of the edits with which a file is not refused; and one that changes nothing is taken.
+// Returns the first edit that leaves a file accepted. A file with the same text must be accepted.
 fn first_taken(alloc: Global) -> Option<&'static str> {
     let Some(texts) = texts(alloc) else {
         return Some("no texts");
@@ -265,8 +265,8 @@ fn another_column_is_refused(rt: HostRuntime) {
     assert_eq!(rt; first_taken(rt.alloc()), None);
 }
 
-// An empty connection is none of ours, which `adopt` says and leaves empty; `open` makes of it one
-// that is taken, with no row.
+// Tests an empty connection: `Offer::Adopt` refuses it and leaves it empty, and `Offer::Open` makes
+// a store without rows of it.
 fn is_made(alloc: Global) -> Option<bool> {
     let nothing = Held::nothing(alloc);
     let (refused, left) = offered(alloc, &nothing, Offer::Adopt)?;
@@ -282,13 +282,14 @@ fn an_empty_connection_is_made_a_store(rt: HostRuntime) {
     assert!(rt; is_made(rt.alloc()) == Some(true));
 }
 
-// Why a register is not opened over the files with these windows, if it is not, and the files then.
+// Returns why no register is opened over the files with these windows, if none is, and the files
+// afterwards.
 fn begun(alloc: Global, held: &Held, windows: &str) -> Option<(Option<OpenFault>, Held)> {
     let windows = windows_of(alloc, windows)?;
     done_in(alloc, held, PLAIN, Begin(&windows))
 }
 
-// The windows of the tests, but for the broadcast's.
+// Returns the windows of the tests with another broadcast window.
 fn other_windows(alloc: Global) -> Option<String> {
     WINDOWS
         .replace(alloc, "broadcast = 15", "broadcast = 16")
@@ -302,7 +303,8 @@ fn goes_on(alloc: Global, held: &Held) -> Option<bool> {
     Some(is_accepted(&heard))
 }
 
-// Other windows are refused, and nothing changes; with its own the register goes on.
+// Tests that other windows are refused without a change, and that the register continues with its
+// own.
 fn are_other_windows_refused(alloc: Global) -> Option<bool> {
     let port = port(alloc)?;
     let windows = other_windows(alloc)?;

@@ -1,10 +1,10 @@
-//! All rows of a register's tables, and what its file lists, as a text.
+//! All rows of a register's tables, and the schema of its file, as a text.
 use sqlite::types::ValueRef;
 use sqlite::{Alter, Connection, Row};
 use std::alloc::Global;
 use std::io::Write;
 
-// What the file lists, and each table in the order of its key.
+// The schema, and each table in the order of its key.
 static QUERIES: [&str; 13] = [
     "SELECT type, name, tbl_name, sql FROM sqlite_schema",
     "SELECT * FROM carrier ORDER BY spid",
@@ -31,7 +31,7 @@ fn add_value(value: ValueRef<'_>, text: &mut Vec<u8>) -> Option<()> {
     }
 }
 
-// The first byte tells a text from other bytes.
+// Appends a value. Its first byte distinguishes a text from other bytes.
 fn add_bytes(first: &[u8], bytes: &[u8], text: &mut Vec<u8>) -> Option<()> {
     text.extend_from_slice(first).ok()?;
     text.extend_from_slice(bytes).ok()?;
@@ -45,7 +45,7 @@ fn add_row(row: &Row, text: &mut Vec<u8>) -> Option<()> {
     text.extend_from_slice(b"\n").ok()
 }
 
-// Puts what a query shows behind a text, a line for each row.
+// Appends the result of a query to a text, one line for each row.
 fn add_shown<S: Alter>(conn: &mut Connection<S>, query: &str, text: &mut Vec<u8>) -> Option<()> {
     let rows = conn.query_all(query, &[]).ok()?;
     for row in &rows {
@@ -54,7 +54,7 @@ fn add_shown<S: Alter>(conn: &mut Connection<S>, query: &str, text: &mut Vec<u8>
     Some(())
 }
 
-/// What is listed, and every row of every table.
+/// Returns the schema, and every row of every table.
 pub fn rows_of<S: Alter>(alloc: Global, conn: &mut Connection<S>) -> Option<Vec<u8>> {
     let mut text = Vec::new(alloc);
     for query in QUERIES {

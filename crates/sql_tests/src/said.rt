@@ -5,22 +5,22 @@ use settle::Store;
 use std::alloc::{AllocError, Global};
 use windows::Windows;
 
-/// A caller, a path and a body; where the body is empty, it is a GET.
+/// The caller, path and body of a message. Without a body it is a GET.
 pub type Said<'a> = (&'a str, &'a str, &'a str);
 
-/// Messages, one after the other.
+/// Messages, in order.
 pub type Story<'a> = &'a [Said<'a>];
 
 /// The windows of the tests, in minutes.
 pub const WINDOWS: &str =
     "initial_concurrence = 60\nfinal_concurrence = 60\nconflict_restriction = 30\nconflict_resolution = 120\nconflict_expiration = 1000\ncancellation_initial = 60\ncancellation_final = 60\npending_retention = 500\nbroadcast = 15\n";
 
-/// The windows of a text.
+/// Reads windows from a text.
 pub fn windows_of(alloc: Global, text: &str) -> Option<Windows> {
     Windows::from_toml(alloc, text).ok()
 }
 
-/// The bytes of a message.
+/// Returns the bytes of a message.
 pub fn message(alloc: Global, said: &Said<'_>) -> Result<String, AllocError> {
     let (caller, path, body) = *said;
     if body.is_empty() {
@@ -32,7 +32,7 @@ pub fn message(alloc: Global, said: &Said<'_>) -> Result<String, AllocError> {
     )
 }
 
-// What a register answers to a message.
+// Returns a register's answer to a message.
 fn answer<S: Store>(alloc: Global, register: &mut Register<S>, said: &Said<'_>) -> Option<Vec<u8>> {
     let message = message(alloc, said).ok()?;
     let mut heard = Vec::new(alloc);
@@ -42,17 +42,17 @@ fn answer<S: Store>(alloc: Global, register: &mut Register<S>, said: &Said<'_>) 
     Some(heard)
 }
 
-/// Whether an answer is that of a message which was accepted.
+/// Returns whether an answer says that the message was accepted.
 pub fn is_accepted(heard: &[u8]) -> bool {
     heard.starts_with(b"HTTP/1.1 200 ")
 }
 
-/// Whether an answer says that the store's device failed.
+/// Returns whether an answer says that the store's device failed.
 pub fn is_unavailable(heard: &[u8]) -> bool {
     heard.starts_with(b"HTTP/1.1 503 ") && heard.ends_with(b"{\"error\":\"storage\",\"number\":29}")
 }
 
-// Messages that are all accepted.
+// Sends messages. Returns `None` unless all are accepted.
 fn tell<S: Store>(alloc: Global, register: &mut Register<S>, story: Story<'_>) -> Option<()> {
     for said in story {
         if !is_accepted(&answer(alloc, register, said)?) {
@@ -62,7 +62,7 @@ fn tell<S: Store>(alloc: Global, register: &mut Register<S>, story: Story<'_>) -
     Some(())
 }
 
-// Stories of which each message is accepted.
+// Sends stories. Returns `None` unless all their messages are accepted.
 fn tell_each<S: Store>(
     alloc: Global,
     register: &mut Register<S>,
@@ -74,7 +74,8 @@ fn tell_each<S: Store>(
     Some(())
 }
 
-/// Why a register is not opened over a store with these windows, if it is not, and the store then.
+/// Opens a register over a store. Returns why it is not opened, if it is not, and the store
+/// afterwards.
 pub fn begin<S: Store>(alloc: Global, store: S, windows: &Windows) -> (Option<OpenFault>, S) {
     match Register::open(alloc, store, windows) {
         Ok(register) => (None, register.close()),
@@ -82,7 +83,7 @@ pub fn begin<S: Store>(alloc: Global, store: S, windows: &Windows) -> (Option<Op
     }
 }
 
-// A register over a store, or the store where none is opened.
+// Opens a register over a store. Returns the store if it is not opened.
 fn register_over<S: Store>(alloc: Global, store: S) -> Result<Register<S>, S> {
     let Some(windows) = windows_of(alloc, WINDOWS) else {
         return Err(store);
@@ -93,7 +94,7 @@ fn register_over<S: Store>(alloc: Global, store: S) -> Result<Register<S>, S> {
     }
 }
 
-/// What a register over a store answers to a message, and the store then.
+/// Returns the answer of a register over a store to a message, and the store afterwards.
 pub fn ask<S: Store>(alloc: Global, store: S, said: &Said<'_>) -> (Option<Vec<u8>>, S) {
     match register_over(alloc, store) {
         Ok(mut register) => {
@@ -104,7 +105,8 @@ pub fn ask<S: Store>(alloc: Global, store: S, said: &Said<'_>) -> (Option<Vec<u8
     }
 }
 
-/// Whether a register over a store accepts each message of the stories, and the store then.
+/// Sends stories to a register over a store. Returns whether all messages are accepted, and the
+/// store afterwards.
 pub fn tell_all<S: Store>(alloc: Global, store: S, stories: &[Story<'_>]) -> (Option<()>, S) {
     match register_over(alloc, store) {
         Ok(mut register) => {

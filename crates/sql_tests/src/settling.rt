@@ -1,4 +1,5 @@
-//! What a call settles of a register over a database: the subjects that it reads, and no other.
+//! Tests that a call to a register over a database settles the subjects that it reads, and no
+//! other.
 use crate::said::{Said, Story, WINDOWS, message, windows_of};
 use api::{NoTicks, Options, serve};
 use register::Register;
@@ -15,7 +16,7 @@ static OPENING: Story<'static> = &[
     ("NPAC", "/codes", r#"{"code":"202533","spid":"BBBB"}"#),
 ];
 
-// The old provider's create of a number, due at 300.
+// Appends the old provider's create of a number, due at 300.
 fn offer(alloc: Global, line: u64, out: &mut String) -> Result<(), AllocError> {
     let body = format!(in alloc;
         "{{\"authorized\":true,\"due\":300,\"new\":\"AAAA\",\"old\":\"BBBB\",\"tn\":\"202533{line}\"}}"
@@ -26,8 +27,8 @@ fn offer(alloc: Global, line: u64, out: &mut String) -> Result<(), AllocError> {
 
 static AT_120: Said<'static> = ("NPAC", "/clock", r#"{"minute":120}"#);
 
-// What opens a register, a thousand creates, whose windows end at 120, and the clock at that
-// minute: so many messages.
+// The number of messages that open a register, make a thousand creates whose windows end at 120,
+// and move the clock to that minute.
 const UNTIL_120: u64 = 1004;
 
 fn ask_until_120(alloc: Global) -> Result<String, AllocError> {
@@ -42,7 +43,7 @@ fn ask_until_120(alloc: Global) -> Result<String, AllocError> {
     Ok(text)
 }
 
-// What is answered to messages, and to how many.
+// Returns the answers to messages, and how many there are.
 fn heard<S: Store>(alloc: Global, register: &mut Register<S>, text: &str) -> (Vec<u8>, u64) {
     let mut heard = Vec::new(alloc);
     let options = Options { clock_route: true };
@@ -62,33 +63,33 @@ fn is_told_until_120<S: Store>(alloc: Global, register: &mut Register<S>) -> boo
     }
 }
 
-// What is said, the answer's body, and how often the store is asked for a commit.
+// A message, the body of its answer, and how many commits the store gets.
 type Step = (Said<'static>, &'static str, u64);
 
 static STEPS: [Step; 6] = [
-    // a number that no version is of is asked for
+    // A query of a number without a version.
     (
         ("AAAA", "/query", r#"{"uri":"tel:+12025339999"}"#),
         r#"{"uri":"tel:+12025339999;npdi"}"#,
         0,
     ),
-    // the first version is shown: canceled at 120
+    // The first version is shown: canceled at 120.
     (
         ("AAAA", "/versions/1", ""),
         r#"{"attempt":0,"cic":null,"due":300,"id":1,"lrn":null,"new":"AAAA","old":"BBBB","phase":null,"release":null,"since":120,"status":"canceled","subject":"2025331000"}"#,
         1,
     ),
-    // the clock is refused to go back
+    // The clock may not go back.
     (
         ("NPAC", "/clock", r#"{"minute":119}"#),
         r#"{"error":"clock_back","number":27}"#,
         0,
     ),
-    // the clock is moved to the minute at which it stands
+    // The clock moves to its present minute.
     (("NPAC", "/clock", r#"{"minute":120}"#), r#"{"now":120}"#, 0),
-    // the new provider fetches: the other 999 end, and nothing waits
+    // The new provider fetches: the other 999 versions end, and nothing is pending.
     (("AAAA", "/downloads/10", ""), r#"{"downloads":[]}"#, 999),
-    // a carrier is registered
+    // A carrier is registered.
     (
         ("NPAC", "/carriers", r#"{"spid":"CCCC"}"#),
         r#"{"rows":[],"spid":"CCCC"}"#,
@@ -103,7 +104,7 @@ fn takes<S: Store>(alloc: Global, register: &mut Register<S>, step: &Step) -> Op
     Some(count == 1 && heard.ends_with(wanted.as_bytes()))
 }
 
-// The first step that is answered otherwise, or with other commits.
+// Returns the first step with another answer, or another number of commits.
 fn taken_otherwise<S: Store>(
     alloc: Global,
     register: &mut Register<S>,
@@ -118,7 +119,8 @@ fn taken_otherwise<S: Store>(
     None
 }
 
-// Nothing, if the thousand creates are not told; and the store then.
+// Runs the steps over a store. Returns nothing if the thousand creates are not accepted; and the
+// store afterwards.
 fn settled_over<S: Store>(
     alloc: Global,
     store: S,

@@ -1,5 +1,5 @@
-//! A stop at each call of the database file and of its log while a request is carried out: whatever
-//! the machine leaves of them, what is opened again is the register before the request or after it.
+//! Tests a stop at each call of the database file and of its log during a request. Whatever the
+//! machine leaves of them opens as the register before the request or after it.
 use crate::deeds::{Ask, DbOperation, NARROW, PLAIN, Tell, with_database};
 use crate::files::{
     Calls, ENDLESS, Fused, Held, copy_of, done_in, files_with, held_in, rows_in, told_stories,
@@ -14,13 +14,13 @@ use sqlite::{Files, Options};
 use sqlite_disk::{Crash, Disk};
 use std::alloc::Global;
 
-// More calls than a file takes in a run.
+// More calls than a file gets in a run.
 const MOST: Calls = Calls {
     log: 20_000,
     db: 20_000,
 };
 
-// What a message made: its answer, the rows, and the bytes that both files have then.
+// The result of a message: its answer, the rows, and the bytes of both files afterwards.
 #[derive(Drop)]
 struct After {
     answer: Vec<u8>,
@@ -28,9 +28,9 @@ struct After {
     held: Held,
 }
 
-// What a run without a stop shows: the bytes before the request, the rows before it and after each
-// of its commits, its answer, and that to what is asked then; and how many calls the files take
-// until the register is opened, and until the request is answered.
+// A run without a stop: the bytes before the request, the rows before it and after each of its
+// commits, its answer, and the answer to the next message. The files get `opened` calls until the
+// register is open, and `answered` calls until the request is answered.
 #[derive(Drop)]
 struct Told {
     held: Held,
@@ -41,14 +41,15 @@ struct Told {
     again: Vec<u8>,
 }
 
-// What a message makes of a register that stands in these bytes.
+// Sends a message to a register in these bytes.
 fn tell_once(alloc: Global, held: &Held, said: &Said<'_>) -> Option<After> {
     let (answer, held) = done_in(alloc, held, PLAIN, Ask(said))?;
     let rows = rows_in(alloc, &held)?;
     Some(After { answer, rows, held })
 }
 
-// What the request makes, and the answer to what is asked then, which changes nothing.
+// Sends the request and then the next message, which must change nothing. Returns the result of the
+// one and the answer to the other.
 fn tell_twice(alloc: Global, held: &Held, trial: &Trial<'_>) -> Option<(After, Vec<u8>)> {
     let done = tell_once(alloc, held, &trial.request)?;
     let again = tell_once(alloc, &done.held, &trial.again)?;
@@ -59,7 +60,7 @@ fn tell_twice(alloc: Global, held: &Held, trial: &Trial<'_>) -> Option<(After, V
     }
 }
 
-// Puts the rows after a step behind those that there are, and gives the bytes after it.
+// Appends the rows after a step to the states. Returns the bytes after it.
 fn add_step(
     alloc: Global,
     held: &Held,
@@ -71,7 +72,7 @@ fn add_step(
     Some(next.held)
 }
 
-// Does so with each step.
+// Appends the rows after each step.
 fn add_steps(
     alloc: Global,
     held: &Held,
@@ -85,7 +86,7 @@ fn add_steps(
     Some(())
 }
 
-// The rows in these bytes, and after each step.
+// Returns the rows in these bytes, and those after each step.
 fn states_of(alloc: Global, held: &Held, steps: Story<'_>) -> Option<Vec<Vec<u8>>> {
     let mut states = Vec::new(alloc);
     states.push(rows_in(alloc, held)?).ok()?;
@@ -114,7 +115,7 @@ fn tell_whole(alloc: Global, trial: &Trial<'_>, options: Options) -> Option<Told
     tell_request(alloc, held, trial, options)
 }
 
-// Which state the rows are.
+// Returns the state that has these rows.
 fn place_of(states: &[Vec<u8>], rows: &[u8]) -> Option<usize> {
     for place in 0..states.len() {
         if states.get(place)?.as_slice() == rows {
@@ -124,7 +125,7 @@ fn place_of(states: &[Vec<u8>], rows: &[u8]) -> Option<usize> {
     None
 }
 
-// Whether each state is another one.
+// Returns whether no two states are equal.
 fn are_different(states: &[Vec<u8>]) -> Option<bool> {
     for place in 0..states.len() {
         if place_of(states, states.get(place)?)? != place {
@@ -134,7 +135,7 @@ fn are_different(states: &[Vec<u8>]) -> Option<bool> {
     Some(true)
 }
 
-// How many calls a file would still take.
+// Returns how many calls a file would still pass on.
 fn calls_left(file: &mut Fused, most: u64) -> u64 {
     for count in 0..most {
         if !file.may_be_used() || file.len().is_err() {
@@ -144,7 +145,7 @@ fn calls_left(file: &mut Fused, most: u64) -> u64 {
     most
 }
 
-// How many calls the files have taken, of which each may take `MOST`.
+// Returns how many calls the files have passed on, if each may pass on `MOST`.
 fn calls_taken(mut files: Files<Fused>) -> Calls {
     Calls {
         log: MOST
@@ -154,7 +155,7 @@ fn calls_taken(mut files: Files<Fused>) -> Calls {
     }
 }
 
-/// How many calls the files take until a deed is done.
+/// Returns how many calls the files get until an operation is done.
 pub fn calls_of<D: DbOperation>(
     alloc: Global,
     held: &Held,
@@ -166,15 +167,15 @@ pub fn calls_of<D: DbOperation>(
     Some(calls_taken(files))
 }
 
-/// What a stop leaves: the bytes of both files, as they were read last and as they were last
-/// synced.
+/// What a stop leaves: the bytes of both files, as last written and as last synced.
 #[derive(Drop)]
 pub struct Left {
     seen: Held,
     synced: Held,
 }
 
-/// The files stop after so many calls: what was made, if anything, and what is left.
+/// Runs an operation on files that stop after this many calls. Returns its result, if it has one,
+/// and what is left.
 pub fn stop<D: DbOperation>(
     alloc: Global,
     held: &Held,
@@ -191,7 +192,7 @@ pub fn stop<D: DbOperation>(
     Some((made, Left { seen, synced }))
 }
 
-// The files stop while a request is carried out.
+// Sends a request to a register whose files stop.
 fn stop_asked(
     alloc: Global,
     held: &Held,
@@ -202,7 +203,7 @@ fn stop_asked(
     stop(alloc, held, Ask(request), options, calls)
 }
 
-// Where two texts differ first, or the shorter ends.
+// Returns where two texts first differ, or where the shorter one ends.
 fn first_difference(one: &[u8], other: &[u8]) -> usize {
     let mut same = 0usize;
     for (byte, another) in one.iter().zip(other.iter()) {
@@ -214,7 +215,7 @@ fn first_difference(one: &[u8], other: &[u8]) -> usize {
     same
 }
 
-// The first half of what was written is there, and the rest is as it was.
+// Returns the bytes with the first half of what was written, and the rest as it was.
 fn torn(alloc: Global, seen: &[u8], synced: &[u8]) -> Option<Vec<u8>> {
     let first = first_difference(seen, synced);
     let middle = first.saturating_add(seen.len().saturating_sub(first) / 2);
@@ -232,8 +233,9 @@ fn pair(alloc: Global, log: &[u8], db: &[u8]) -> Option<Held> {
     })
 }
 
-/// What may be left of both files: where the program died, all that was written; where the machine
-/// did, what was synced, or more of one of them, or a part of what was written to the log.
+/// Returns what may be left of both files. If the program died, it is all that was written. If the
+/// machine did, it is what was synced, or more of one of them, or a part of what was written to the
+/// log.
 pub fn images(alloc: Global, left: &Left) -> Option<[Held; 5]> {
     let (seen, synced) = (&left.seen, &left.synced);
     let torn_log = torn(alloc, &seen.log, &synced.log)?;
@@ -246,7 +248,7 @@ pub fn images(alloc: Global, left: &Left) -> Option<[Held; 5]> {
     ])
 }
 
-// The states that may be found after such an answer, from the first to the last.
+// Returns the first and the last state that may be found after such an answer.
 fn bounds(told: &Told, answer: &Option<Vec<u8>>) -> Option<(usize, usize)> {
     let last = told.states.len().checked_sub(1)?;
     match answer {
@@ -257,7 +259,8 @@ fn bounds(told: &Told, answer: &Option<Vec<u8>>) -> Option<(usize, usize)> {
     }
 }
 
-// The request is made where it was not, and then the rows are those after it.
+// Returns whether the register continues: it answers the request, if it was not executed, and then
+// has the rows after it.
 fn goes_on(
     alloc: Global,
     told: &Told,
@@ -275,14 +278,14 @@ fn goes_on(
     Some(next.answer == *wanted && Some(&next.rows) == told.states.get(last))
 }
 
-// Bytes that a stop has left, and the state that stands in them.
+// Bytes that a stop has left, and their state.
 #[derive(Drop)]
 struct Judged {
     held: Held,
     place: usize,
 }
 
-// Which state stands in these bytes, if it is one that goes on.
+// Returns the state of these bytes, if the register continues from it.
 fn judge(alloc: Global, told: &Told, trial: &Trial<'_>, held: &Held) -> Option<usize> {
     let rows = rows_in(alloc, held)?;
     let place = place_of(&told.states, &rows)?;
@@ -302,7 +305,7 @@ fn known(judged: &[Judged], held: &Held) -> Option<usize> {
     None
 }
 
-// Which state stands in these bytes. Most stops leave the same, which are judged once.
+// Returns the state of these bytes. Most stops leave the same bytes, which are judged once.
 fn judge_once(
     alloc: Global,
     told: &Told,
@@ -318,7 +321,7 @@ fn judge_once(
     Some(place)
 }
 
-// Whether each image is a state that may be found after the answer.
+// Returns whether each image has a state that may be found after the answer.
 fn are_whole(
     alloc: Global,
     told: &Told,
@@ -336,7 +339,7 @@ fn are_whole(
     Some(true)
 }
 
-/// Which of the files stops.
+/// The file that stops.
 #[derive(Clone, Copy, Debug, PartialEq, Eq)]
 pub enum Stops {
     Log,
@@ -344,7 +347,7 @@ pub enum Stops {
 }
 
 impl Stops {
-    /// The stopped file takes so many calls, and the other all.
+    /// Returns the calls if this file stops after `count` of them and the other never does.
     pub fn after(self, count: u64) -> Calls {
         match self {
             Stops::Log => Calls {
@@ -358,7 +361,7 @@ impl Stops {
         }
     }
 
-    /// The calls of that file.
+    /// Returns the calls of this file.
     pub fn count(self, calls: Calls) -> u64 {
         match self {
             Stops::Log => calls.log,
@@ -367,7 +370,8 @@ impl Stops {
     }
 }
 
-// The first stop of a file, after so many of its calls, that leaves something else.
+// Returns the first stop of a file, as the number of its calls before it, that leaves something
+// else.
 fn first_wrong_stop(
     alloc: Global,
     told: &Told,
@@ -402,7 +406,7 @@ fn is_found(place: usize, judged: &[Judged]) -> bool {
     false
 }
 
-// Whether each state was found.
+// Returns whether each state was found.
 fn are_all_found(count: usize, judged: &[Judged]) -> bool {
     for place in 0..count {
         if !is_found(place, judged) {
@@ -415,15 +419,15 @@ fn are_all_found(count: usize, judged: &[Judged]) -> bool {
 /// Where a trial goes wrong.
 #[derive(Clone, Copy, Debug, PartialEq, Eq)]
 enum Wrong {
-    /// The run without a stop does not go as it should.
+    /// The run without a stop is not as it should be.
     Told,
-    /// A stop of a file after so many calls leaves something else.
+    /// A stop of this file after this many calls leaves something else.
     Stop(Stops, u64),
     /// No stop leaves one of the states.
     Found,
 }
 
-// Each commit makes another state.
+// Returns whether each commit makes another state.
 fn is_told_so(told: &Told, trial: &Trial<'_>) -> bool {
     let commits = trial.steps.len().saturating_add(1);
     let count = told.states.len();
@@ -472,7 +476,7 @@ fn first_wrong(alloc: Global, trial: &Trial<'_>) -> Option<Wrong> {
     }
 }
 
-// As `first_wrong_stop`, of the stops before the register is opened.
+// Runs `first_wrong_stop` for the stops before the register is opened.
 fn wrong_opening(alloc: Global, trial: &Trial<'_>, options: Options) -> Option<Wrong> {
     let Some(mut told) = tell_whole(alloc, trial, options) else {
         return Some(Wrong::Told);

@@ -1,16 +1,15 @@
-//! What is told to a register before it is stopped, and the request in which it is.
+//! The messages to a register before it is stopped, and the request during which it is stopped.
 use crate::said::{Said, Story};
 
-/// A request in which the files stop.
+/// A request during which the files stop.
 #[derive(Clone, Copy)]
 pub struct Trial<'a> {
-    /// What is told before.
+    /// The messages before the request.
     pub stories: &'a [Story<'a>],
-    /// What the request does first, each in a commit of its own: asked one by one, these do the
-    /// same.
+    /// Messages that do what the request does first, each in a commit of its own.
     pub steps: Story<'a>,
     pub request: Said<'a>,
-    /// What is asked where the request was made already. It changes nothing.
+    /// The next message once the request is executed. It changes nothing.
     pub again: Said<'a>,
 }
 
@@ -46,7 +45,7 @@ const SENT: Story<'static> = &[
     ("CCCC", "/downloads/acknowledge", r#"{"attempt":1,"id":1}"#),
 ];
 
-// A block is donated of which one number is in use, and each carrier acknowledges that number.
+// A block with one number in use is donated, and each carrier acknowledges that number.
 const DONATED: Story<'static> = &[
     (
         "BBBB",
@@ -58,10 +57,10 @@ const DONATED: Story<'static> = &[
     ("CCCC", "/downloads/acknowledge", r#"{"attempt":1,"id":1}"#),
 ];
 
-// By themselves end: the second version's broadcast, which AAAA alone has acknowledged, at 15; the
-// fifth's, which nobody has, at 20; the first, with the old provider's create alone, when both
-// concurrence windows have, at 120; the fourth, which nobody activates, 500 minutes after its due
-// minute, at 600; and the conflict of the third at 1000.
+// Windows that end: at 15 the second version's broadcast, which only AAAA has acknowledged; at 20
+// the fifth's, which nobody has; at 120 the concurrence windows of the first, which has only the
+// old provider's create; at 600, which is 500 minutes after its due minute, the retention of the
+// fourth; at 1000 the conflict of the third.
 const WINDOWED: Story<'static> = &[
     (
         "BBBB",
@@ -117,7 +116,7 @@ const WINDOWED: Story<'static> = &[
 
 const JUMPED: Said<'static> = ("NPAC", "/clock", r#"{"minute":2000}"#);
 
-// After the jump a sixth port is sent, so that a newcomer has to acknowledge it too.
+// After the jump a sixth port is sent, which a newcomer has to acknowledge too.
 const SENT_AFTERWARDS: Story<'static> = &[
     JUMPED,
     (
@@ -133,7 +132,7 @@ const SENT_AFTERWARDS: Story<'static> = &[
     ("AAAA", "/subscriptionVersionActivate", r#"{"id":6}"#),
 ];
 
-// A question about each version of which a window has ended, the earliest first.
+// A question about each version whose window has ended, the earliest first.
 const SETTLED: Story<'static> = &[
     ("NPAC", "/versions/2", ""),
     ("NPAC", "/versions/5", ""),
@@ -150,7 +149,7 @@ const THREE_DONATED: Said<'static> = (
     r#"{"block":"2025337","lrn":"2025330000","used":["001","002","003"]}"#,
 );
 
-// The number is routed with no carrier code from now on.
+// From now on the number is routed without a carrier code.
 const REROUTED: Said<'static> = (
     "AAAA",
     "/subscriptionVersionModify",
@@ -186,7 +185,8 @@ const RELEASED: Story<'static> = &[
 
 const NOW: Said<'static> = ("AAAA", "/subscriptionVersionDisconnect", r#"{"id":1}"#);
 
-// At 30 both providers create it again. The third carrier's download of its release still waits.
+// At 30 both providers create it again. The download of its release is still pending for the third
+// carrier.
 const CREATED_AGAIN: Story<'static> = &[
     ASKED,
     (
@@ -205,15 +205,15 @@ const ACTIVATED_AGAIN: Said<'static> = ("AAAA", "/subscriptionVersionActivate", 
 
 const LATE: Said<'static> = ("BBBB", "/downloads/acknowledge", r#"{"attempt":2,"id":1}"#);
 
-// The windows that the register was opened with, as it is opened with them again.
+// The windows that the register was opened with, set again.
 const NINE: Said<'static> = (
     "NPAC",
     "/windows",
     r#"{"broadcast":15,"cancellation_final":60,"cancellation_initial":60,"conflict_expiration":1000,"conflict_resolution":120,"conflict_restriction":30,"final_concurrence":60,"initial_concurrence":60,"pending_retention":500}"#,
 );
 
-/// A number in force with a carrier code, which is being taken from it, and a block of which three
-/// numbers are sent.
+/// A number in force whose carrier code is being removed, and a block with three numbers being
+/// sent.
 pub static PORT: [Story<'static>; 4] = [
     OPENING,
     CREATED,
@@ -245,7 +245,7 @@ pub static MODIFY: Trial<'static> = Trial {
     again: REROUTED,
 };
 
-/// The last acknowledgement of a modify puts the routing in the place of the earlier one.
+/// The last acknowledgement of a modify replaces the routing.
 pub static MODIFIED: Trial<'static> = Trial {
     stories: &[OPENING, CREATED, SENT, REROUTED_SENT],
     steps: &[],
@@ -253,7 +253,8 @@ pub static MODIFIED: Trial<'static> = Trial {
     again: ("BBBB", "/downloads/acknowledge", r#"{"attempt":2,"id":1}"#),
 };
 
-/// Three numbers of a block are in use: each is made a version, and sent to each carrier.
+/// A block with three numbers in use is donated: each gets a version, which is sent to each
+/// carrier.
 pub static DONATION: Trial<'static> = Trial {
     stories: &[OPENING],
     steps: &[],
@@ -261,7 +262,7 @@ pub static DONATION: Trial<'static> = Trial {
     again: THREE_DONATED,
 };
 
-/// A donated block is given to a carrier.
+/// A donated block is assigned to a carrier.
 pub static ASSIGNMENT: Trial<'static> = Trial {
     stories: &[OPENING, DONATED],
     steps: &[],
@@ -345,7 +346,7 @@ pub static DISCONNECT: Trial<'static> = Trial {
     again: NOW,
 };
 
-/// A released number is ported again, while a carrier has not heard of its release.
+/// A released number is ported again while its release is pending for a carrier.
 pub static PORTED_AGAIN: Trial<'static> = Trial {
     stories: &[
         OPENING,
@@ -360,7 +361,7 @@ pub static PORTED_AGAIN: Trial<'static> = Trial {
     again: ACTIVATED_AGAIN,
 };
 
-/// That carrier acknowledges the release, behind which the next port waits for it.
+/// That carrier acknowledges the release, and the download of the next port is pending after it.
 pub static LATE_ACKNOWLEDGEMENT: Trial<'static> = Trial {
     stories: &[
         OPENING,
@@ -376,8 +377,8 @@ pub static LATE_ACKNOWLEDGEMENT: Trial<'static> = Trial {
     again: LATE,
 };
 
-/// The windows are set anew, which makes a further set of the same ones. Set once more they would
-/// be a third, so that a version is asked for in its place.
+/// The windows are set again, which makes another set of the same windows. Setting them once more
+/// would make a third, so the next message is a question about a version.
 pub static NEW_WINDOWS: Trial<'static> = Trial {
     stories: &[OPENING, CREATED],
     steps: &[],

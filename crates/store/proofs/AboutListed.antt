@@ -1,4 +1,4 @@
--- The broadcasts about a subject that wait for a carrier, listed by the index.
+-- The broadcasts of a subject that are pending for a carrier, as the index lists them.
 use Rattle.std.proofs.Common.{◌≡◌, ◌<◌, ℕ, Bool, true, false, cond, List, [], ◌++◌, Option, Some, None, refl, ap, sym, ◌∙◌, subst}
 use Rattle.std.specs.Prelude.{◌==◌, ◌&&◌, not, option_map, is_some, if◌then◌else◌}
 use Rattle.std.specs.declared.cmp.Ordering.TheVariants.{Less, Equal}
@@ -44,7 +44,7 @@ is-subject s None e = let f : false ≡ true = e in cc
 is-subject s (Some t) e =
     ap (λ x. Some x) (subject_key-exact t s (equal_number (subject_key t) (subject_key s) e))
 
--- an option of the code, compared
+-- Comparing subjects of the code is comparing their models.
 pub compared : (r : Option SubjectImpl) (s : SubjectImpl) → option_eq (on key_of ◌==◌) r (Some s)
     ≡ is_subject (subject_of s) (option_map subject_of r)
 compared None s = refl
@@ -56,7 +56,7 @@ two true true x d e = (refl, refl, (let f : Some x ≡ Some d = e in cc))
 two true false x d e = let f : None ≡ Some d = e in cc
 two false q x d e = let f : None ≡ Some d = e in cc
 
--- a row of which a download is awaited
+-- Holds if there is a row, of this subject.
 abbrev IsAwaited : Option Waiting → Subject → Type 0
 IsAwaited o s = (w : Waiting) × (o ≡ Some w) × (w.0 ≡ s)
 

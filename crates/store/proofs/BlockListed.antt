@@ -1,4 +1,4 @@
--- The numbers of a block that are in use, as walks over the indexes gather them.
+-- The numbers of a block in use, as the loops over the indexes gather them.
 use Rattle.std.proofs.Common.{◌≡◌, ◌<◌, ◌≤◌, ◌⊎◌, inl, inr, ℕ, Bool, true, false, cond, List, [], ◌∷◌, map, Option, Some, None, refl, ap, sym, ◌∙◌, subst, arith}
 use Rattle.std.specs.Prelude.{◌==◌, ◌||◌, ◌&&◌, not, is_some, option_map}
 use Rattle.std.specs.declared.cmp.Ordering.TheVariants.{Less}
@@ -31,9 +31,9 @@ use Rattle.store.proofs.Listed.{Among, contained, all-places, among-mapped}
 use Rattle.store.proofs.SubjectsListed.{all-of, filtered-among, found-entry}
 use Rattle.numbers.proofs.Small.{or_true, same_number, equal_number, tied, true_both, or_false}
 
--- ---- what a walk has gathered
+-- ---- what a loop gathers
 
--- the number is the one that is there
+-- Whether the number is the one that is there.
 abbrev is_number : ℕ → Option ℕ → Bool
 is_number n None = false
 is_number n (Some k) = eq_by_cmp nat_cmp k n
@@ -60,7 +60,8 @@ module _ (mark : Option Marks → Marks) where
     abbrev names : SubjectVersionImpl × Unit {0} → Bool
     names e = is_number n (number_at column block (get versions e.0.id))
 
-    -- what a mark says of each number that is met
+    -- A property that the mark gives is true of a number if it was so before or the loop met the
+    -- number.
     met : (see : Option Marks → Bool) → ((o : Option Marks) → see (Some (mark o)) ≡ true)
         → (es : List (SubjectVersionImpl × Unit {0})) (m : FinMap nat_cmp Marks) →
         see (get (marked mark column block versions es m) n) ≡ (see (get m n) || list_any names es)
@@ -76,7 +77,7 @@ module _ (mark : Option Marks → Marks) where
         by_cases true = says (get m n) ∙ sym (or_true (see (get m n)))
         by_cases false = sym (or_false (see (get m n)))
 
-    -- what it leaves as it is
+    -- A property that the mark keeps stays.
     kept : (see : Option Marks → Bool) → ((o : Option Marks) → see (Some (mark o)) ≡ see o)
         → (es : List (SubjectVersionImpl × Unit {0})) (m : FinMap nat_cmp Marks) →
         see (get (marked mark column block versions es m) n) ≡ see (get m n)
@@ -89,7 +90,7 @@ module _ (mark : Option Marks → Marks) where
         by_cases true = says (get m n)
         by_cases false = refl
 
-    -- what it says of none
+    -- A property that the mark never gives stays false.
     never : (see : Option Marks → Bool) → ((o : Option Marks) → see (Some (mark o)) ≡ false)
         → (es : List (SubjectVersionImpl × Unit {0})) (m : FinMap nat_cmp Marks) →
         see (get m n) ≡ false → see (get (marked mark column block versions es m) n) ≡ false
@@ -138,7 +139,7 @@ module _ (block : ℕ) (lo hi : SubjectVersionImpl) (low : subject_version_of lo
       (is_lt (subject_version_cmp (high i) (same i))))
       ∙ true_both _ _ (from_first block n id own) (to_last block n id own small)
 
-  -- ---- what the part says of the number's rows
+  -- ---- the number's rows in the part
 
   module _ (column : VersionRow → Option Subject) (versions : FinMap nat_cmp VersionRow)
       (index : BTreeMap SubjectVersionImpl (Unit {0}))
@@ -147,7 +148,7 @@ module _ (block : ℕ) (lo hi : SubjectVersionImpl) (low : subject_version_of lo
       (part : List (SubjectVersionImpl × Unit {0})) (is_part : part ≡ entries_between
       (on subject_version_of subject_version_cmp) (Included lo) (Included hi) index.entries)
       (n : ℕ) where
-    -- a row has the number in the column
+    -- Holds if a row has the number in the column.
     abbrev Has : Type 0
     Has = (id : ℕ) × (row : VersionRow) × (get versions id ≡ Some row)
         × (column row ≡ Some (Number n))
@@ -224,12 +225,12 @@ module _ (block : ℕ) (lo hi : SubjectVersionImpl) (low : subject_version_of lo
         ∙ same_number block) ∙ (eq_by_cmp_equiv nat_cmp_total).refl n in
         among-met part e.0 inside here
 
-    -- a mark that was given to each number that was met tells whether a row has it
+    -- A number is met if and only if it is of the block and a row has it in the column.
     told : (b : Bool) → b ≡ list_any is_met part → Reflects b ((block_of n ≡ block) × Has)
     told true is = met-from part (sym is)
     told false is = λ p. let f : false ≡ true = is ∙ has-met p.0 p.1 in cc
 
--- ---- which versions stand
+-- ---- the marks of all numbers
 
 module _ (t : Tables) (block : ℕ) (indexed : AreIndexed t)
     (low high : SubjectVersionImpl) (is_low : subject_version_of low ≡ lowest block)
@@ -285,7 +286,7 @@ module _ (t : Tables) (block : ℕ) (indexed : AreIndexed t)
     in_use = λ n. has-some n ∙ (λ i. sym (has-held n) i || sym (has-opened n) i);
   }
 
--- a number passed
+-- A loop step marks the number of its key.
 pub marked-step : (mark : Option Marks → Marks) (column : VersionRow
     → Option Subject) (block : ℕ) (versions : FinMap nat_cmp VersionRow) (e : SubjectVersionImpl
     × Unit {0}) (rest : List (SubjectVersionImpl × Unit {0})) (old new : BTreeMap Tn Marks)
@@ -331,7 +332,7 @@ among-told e [] is = absurd is
 among-told e (x ∷ xs) (inl same) = inl (ap number_told same)
 among-told e (x ∷ xs) (inr there) = inr (among-told e xs there)
 
--- the list is in the order of the entries' keys
+-- The list is in the order of the entries' keys.
 sorted-told : (es : List (Tn × Marks)) → IsStrictlySortedBy (on tn_of nat_cmp) (keys_of es)
     → IsStrictlySortedBy (on (λ (x : NumberInUse). x.tn.number) nat_cmp) (map number_told es)
 unfolding IsStrictlySortedBy
@@ -354,7 +355,7 @@ picked P (x ∷ xs) e all (inr there) = picked P xs e all.1 there
 not-at : (a b : ℕ) → nat_cmp a b ≡ Less → is_eq (nat_cmp b a) ≡ false
 not-at a b e = grind (arith, nat_tests)
 
--- an entry is what a look-up of its key finds
+-- A look-up of an entry's key finds its value.
 own-value : (es : List (Tn × Marks)) (e : Tn × Marks)
     → IsStrictlySortedBy (on tn_of nat_cmp) (keys_of es) → Among e es
     → lookup (is_at (on tn_of nat_cmp e.0)) es ≡ Some e.1

@@ -25,7 +25,7 @@ pub to_last : (c m i a : ℕ) → m < 1099511627776 → i < 18446744073709551616
     (ordering_then (nat_cmp 18446744073709551615 i) (nat_cmp 18446744073709551615 a))))) ≡ true
 to_last c m i a p q r = grind (arith, nat_tests)
 
--- what stands between is the carrier's own
+-- A key between the two is the carrier's.
 own_carrier : (c k : ℕ) (x y : Ordering)
     → (is_le (ordering_then (nat_cmp c k) x) && not (is_lt (ordering_then (nat_cmp c k) y))) ≡ true
     → c ≡ k

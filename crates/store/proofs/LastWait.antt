@@ -1,4 +1,4 @@
--- Whether another registered carrier waits for a broadcast: it is enough to ask those of its row.
+-- Whether a broadcast is pending for another registered carrier: only those of its row matter.
 use Rattle.std.proofs.Common.{◌≡◌, ℕ, Bool, true, false, List, [], ◌∷◌, map, refl, ap, sym, ◌∙◌, ◌&&◌, ◌||◌}
 use Rattle.std.specs.Prelude.{filter, not, is_some, ◌==◌}
 use Rattle.std.specs.Cmp.{nat_cmp_total}
@@ -20,7 +20,7 @@ use Rattle.numbers.proofs.Small.{or_right, same_number, numbers_turned, equal_nu
 
 -- ---- lists of numbers
 
--- a number that passes is among them
+-- If any number passes, one that is in the list does.
 passing : (p : ℕ → Bool) (xs : List ℕ) → list_any p xs ≡ true → (x : ℕ) × (is_among x xs ≡ true)
     × (p x ≡ true)
 passing p [] e = let no : false ≡ true = e in cc
@@ -33,7 +33,7 @@ passing p (x ∷ xs) e = by_cases (passing p xs) (p x) refl e
     by_cases later false is f = let more = later f in
         (more.0, or_right (x == more.0) (is_among more.0 xs) more.1, more.2)
 
--- a number among them passes
+-- A number that is in the list and passes is found.
 passes : (p : ℕ → Bool) (xs : List ℕ) (k : ℕ) → is_among k xs ≡ true → p k ≡ true
     → list_any p xs ≡ true
 passes p [] k e is = e
@@ -66,7 +66,7 @@ among-seen k cs =
 
 -- ---- a broadcast's row
 
--- those of some numbers that wait are all one, unless another of those that wait is among them
+-- Only `own` is pending among `ks`, unless another registered carrier of `cs` is pending.
 alone : (own : ℕ) (waits registered : ℕ → Bool) (ks cs : List ℕ)
     → ((k : ℕ) → is_among k ks ≡ registered k) → ((k : ℕ) → waits k ≡ is_among k cs) →
     list_all (λ k. k == own) (filter waits ks) ≡ not (list_any (λ k. not (k == own) && registered k)

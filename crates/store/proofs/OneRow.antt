@@ -1,4 +1,4 @@
--- A broadcast's row, with a carrier more or less.
+-- The row of a broadcast with one carrier more or less.
 use Rattle.std.proofs.Common.{◌≡◌, ℕ, Bool, true, false, cond, List, [], ◌∷◌, ◌++◌, map, Some, None, refl, ap, sym, ◌∙◌, ◌||◌, arith}
 use Rattle.std.specs.Prelude.{◌==◌, not, filter}
 use Rattle.std.specs.List.{list_any}
@@ -14,7 +14,7 @@ pub any-seen : (c : ℕ) (ks : List Spid) → list_any (λ k. c == k) (map spid_
 any-seen c [] = refl
 any-seen c (k ∷ ks) = ap (λ b. (c == k.number) || b) (any-seen c ks)
 
--- one more at the end
+-- One carrier more at the end.
 any-more : (c d : ℕ) (ks : List Spid) (k : Spid) → k.number ≡ d
     → list_any (λ x. c == x) (map spid_of (ks ++ k ∷ []))
     ≡ ((c == d) || list_any (λ x. c == x) (map spid_of ks))
@@ -45,7 +45,7 @@ equals c d n p q = grind (arith, nat_tests)
 other : (c d n : ℕ) → (c == d) ≡ false → (d == n) ≡ true → (c == n) ≡ false
 other c d n p q = grind (arith, nat_tests)
 
--- all of one number are left out
+-- All carriers with one number removed.
 any-less : (c d : ℕ) (ks : List Spid)
     → list_any (λ x. c == x) (map spid_of (filter (λ (k : Spid). not (d == k.number)) ks))
     ≡ cond (c == d) false (list_any (λ x. c == x) (map spid_of ks))

@@ -1,4 +1,4 @@
--- The index of the carriers' queues, as a download is put or taken away.
+-- The index of the carriers' queues when a download is added or deleted.
 use Rattle.std.proofs.Common.{◌≡◌, Bool, true, false, cond, [], Option, Some, None, refl, ap, sym, ◌∙◌, subst}
 use Rattle.std.specs.Prelude.{is_some, option_map}
 use Rattle.std.specs.Ordering.{on, eq_by_cmp}
@@ -29,7 +29,7 @@ none-ordered order none = record {
         wait_cmp} (seen_entries wait_key_of (λ (u : Unit {0}). u) es)) k) none
         ∙ get-empty wait_cmp k
 
--- one key written
+-- Writing one key of the ordered map writes it in the finite map.
 pub order-written : (old new : BTreeMap WaitKeyImpl (Unit {0})) (key : WaitKeyImpl)
     (v : Option (Unit {0})) → IsSet (on wait_key_of wait_cmp) old new key v →
     (q : WaitKey) → get (order_of new) q ≡ cond (eq_by_cmp wait_cmp (wait_key_of key) q)
@@ -41,7 +41,7 @@ order-written old new key v is q =
 
 module _ (waits : FinMap wait_cmp Subject) (order new : FinMap wait_cmp (Unit {0})) (k : WaitKey)
     (old : AreOrdered waits order) where
-  -- the same key written in both, or taken out of both
+  -- Writing the same key in both, or deleting it from both, keeps them in agreement.
   pub ordered-set : (w : Option Subject) (v : Option (Unit {0})) → is_some v ≡ is_some w
       → (is_some v ≡ true → IsDownload (download_of k)) →
       ((q : WaitKey) → get new q ≡ cond (eq_by_cmp wait_cmp k q) v (get order q))
@@ -64,7 +64,7 @@ module _ (waits : FinMap wait_cmp Subject) (order new : FinMap wait_cmp (Unit {0
           (small there)
       own q false e there = old.small q there
 
-  -- a key written that was there
+  -- Writing a key that was there keeps the agreement.
   pub ordered-again : is_some (get order k) ≡ true
       → ((q : WaitKey) → get new q ≡ cond (eq_by_cmp wait_cmp k q) (Some tt) (get order q))
       → AreOrdered waits new
@@ -72,7 +72,7 @@ module _ (waits : FinMap wait_cmp Subject) (order new : FinMap wait_cmp (Unit {0
       subst (λ m. AreOrdered m new) (set-same wait_total wait_exact waits k (get waits k) refl)
       (ordered-set (get waits k) (Some tt) (sym there ∙ old.same k) (λ _. old.small k there) is)
 
-  -- a key written that was not there, and taken out again
+  -- Deleting a key that was not there before keeps the agreement.
   pub ordered-back : is_some (get order k) ≡ false
       → ((q : WaitKey) → get new q ≡ cond (eq_by_cmp wait_cmp k q) None (get order q))
       → AreOrdered waits new
@@ -85,7 +85,7 @@ module _ (waits : FinMap wait_cmp Subject) (order new : FinMap wait_cmp (Unit {0
       nothing None e = e
       nothing (Some s) e = let f : false ≡ true = sym gone ∙ old.same k ∙ ap is_some e in cc
 
--- a key written, and then taken away
+-- Writing a key and deleting it amounts to deleting it.
 pub order-gone : (old mid new : FinMap wait_cmp (Unit {0})) (k : WaitKey) (v : Option (Unit {0}))
     → ((q : WaitKey) → get mid q ≡ cond (eq_by_cmp wait_cmp k q) v (get old q)) →
     ((q : WaitKey) → get new q ≡ cond (eq_by_cmp wait_cmp k q) None (get mid q)) → (q : WaitKey)
@@ -97,7 +97,7 @@ order-gone old mid new k v put taken q = taken q ∙ by_cases (eq_by_cmp wait_cm
     by_cases true t = refl
     by_cases false t = put q ∙ ap (λ b. cond b v (get old q)) t
 
--- what the code found at a key
+-- What the code found at a key.
 pub order-at : (order : BTreeMap WaitKeyImpl (Unit {0})) (key : WaitKeyImpl) (v : Option (Unit {0}))
     → v ≡ tree.get (on wait_key_of wait_cmp) order key
     → is_some (get (order_of order) (wait_key_of key)) ≡ is_some v

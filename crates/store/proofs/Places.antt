@@ -1,4 +1,4 @@
--- A row put into a table that no index goes with, and put back.
+-- A row written into a table without an index, and the write undone.
 use Rattle.std.proofs.Common.{rules, ◌≡◌, ℕ, Option, Some, ap, sym, ◌∙◌, subst}
 use Rattle.std.specs.Prelude.{IsSome, OnErr, Result, Ok, Err}
 use Rattle.std.specs.declared.cmp.Ordering.{Ordering}
@@ -22,7 +22,7 @@ pub on-err : {V E : Type 0} {P : Type 0} (r : Result V E) → P → OnErr r P
 on-err (Ok v) p = tt
 on-err (Err e) p = p
 
--- the table is its map in the content, and nothing else changes with it
+-- Holds if the table is its map in the content, and writing it changes nothing else.
 pub record IsPlace {K X L Y : Type 0} {R : L → L
     → Ordering} (place : TableLens K X L Y R) : Type 0 where
   pub total : IsTotalOrder R
@@ -53,7 +53,7 @@ module _ {K X L Y : Type 0} {R : L → L → Ordering} (place : TableLens K X L 
   abbrev shown : BTreeMap K X → FinMap R Y
   shown m = map_of {R = R} place.key place.row m
 
-  -- a put that was refused
+  -- A refused write keeps the tables.
   pub kept : (old : Tables) (m : BTreeMap K X) → IsSame (on place.key R) (place.table old) m
       → IsKept old (place.with_table old m)
   kept old m same = record {
@@ -74,7 +74,7 @@ module _ {K X L Y : Type 0} {R : L → L → Ordering} (place : TableLens K X L 
       (place.table old) m key (Some row) put
       ∙ ap (λ x. set x (place.key key) (Some (place.row row))) (sym (is.seen old)))
 
-  -- the table is still what it was put to
+  -- The table is as it was written while the tables are kept.
   still : (start mid now : Tables) (m : BTreeMap K X) → mid ≡ place.with_table start m
       → IsKept mid now → shown (place.table now) ≡ shown m
   still start mid now m e later =
@@ -111,7 +111,7 @@ module _ {K X L Y : Type 0} {R : L → L → Ordering} (place : TableLens K X L 
             (is.keeps start put.0).1));
       }
 
-  -- no key goes with it, so none is to be forgotten
+  -- A write without keys leaves nothing to forget.
   pub unindexed : (key : K) (before : Option X) (least : ℕ) (start mid now : Tables)
       → IsPutAt place key before start mid → IsKeptBelow least mid now
       → IsKeptBelow least start now
@@ -122,7 +122,7 @@ module _ {K X L Y : Type 0} {R : L → L → Ordering} (place : TableLens K X L 
 
 -- ---- each of the tables
 
--- a download that was put
+-- A download that was added leaves nothing to forget.
 pub wait-unindexed : (least : ℕ) (start mid now : Tables) (w : FinMap wait_cmp Subject)
     → mid ≡ record start { waits = w } → IsKeptBelow least mid now → IsKeptBelow least start now
 wait-unindexed least start mid now w put =

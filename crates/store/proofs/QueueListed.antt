@@ -1,4 +1,4 @@
--- The front of a carrier's queue, as a walk over the index lists it.
+-- The first downloads of a carrier's queue, as a loop over the index lists them.
 use Rattle.std.proofs.Common.{◌≡◌, ◌≤◌, ◌⊎◌, inl, inr, ℕ, Bool, true, false, cond, List, [], ◌∷◌, ◌++◌, length, Option, Some, None, refl, ap, sym, ◌∙◌, subst}
 use Rattle.std.specs.Prelude.{option_map, is_some, IsSome, Contains}
 use Rattle.std.specs.declared.cmp.Ordering.{Ordering}
@@ -77,7 +77,7 @@ sorted-before D (x ∷ xs) ys y is there = (
 )
 
 module _ {K X A : Type 0} (F : K → Option A) (P : A → Type 0) where
-  -- what is listed of entries, by an entry that each is of
+  -- What is true of each entry that yields a value is true of the list of values.
   all-members : (es : List (K × X)) → ((e : K × X) → Among e es → (a : A) → F e.0 ≡ Some a → P a)
       → AllByRecursion P (filter_map (λ e. F e.0) es)
   unfolding Among
@@ -165,7 +165,7 @@ module _ (waits : FinMap wait_cmp Subject) (order : BTreeMap WaitKeyImpl (Unit {
     abbrev listed : WaitKeyImpl → Option Download
     listed k = cond (is_between lo hi k) (download_at broadcasts k) None
 
-    -- an entry of the index that is listed waits for the carrier
+    -- A listed entry is a download pending for the carrier.
     waits-is : (e : WaitKeyImpl × Unit {0}) → Among e order.entries → (d : Download)
         → listed e.0 ≡ Some d → IsWaitingDownload content carrier.number d
     waits-is e there d is =
@@ -219,7 +219,7 @@ module _ (waits : FinMap wait_cmp Subject) (order : BTreeMap WaitKeyImpl (Unit {
       sorted = subst (IsStrictlySortedBy queue_cmp) (sym all)
           (listed-sorted listed (on wait_key_of wait_cmp) queue_cmp rise order.entries ordered)
 
-      -- what waits is listed
+      -- A pending download is listed.
       listed-there : (minute id attempt : ℕ) (row : BroadcastRow)
           → IsQueued content carrier.number minute id attempt row →
           (d : Download) × Among d (found ++ later) × ((d.minute.number ≡ minute) × (d.id ≡ id)
@@ -287,7 +287,7 @@ module _ (waits : FinMap wait_cmp Subject) (order : BTreeMap WaitKeyImpl (Unit {
                   (all-places (λ x. queue_cmp x d ≡ Less) found (sorted-before queue_cmp found later
                   d sorted there))))
 
-  -- the walk's own list is the listed part
+  -- The loop's list is the list of the part.
   pub walked : (lo hi : WaitKeyImpl) (found : List Download) (rest part : List (WaitKeyImpl
       × Unit {0})) → wait_key_of lo ≡ lowest carrier.number
       → wait_key_of hi ≡ highest carrier.number →

@@ -1,4 +1,4 @@
--- A subject stands at the place that its key says.
+-- A subject is at the place that its key gives.
 use Rattle.std.proofs.Common.{◌≡◌, ℕ, Bool, true, false, refl, arith}
 use Rattle.std.specs.Prelude.{◌==◌, ◌/◌, ◌%◌, ◌*◌, ◌+◌, ◌-◌, ◌≤◌, if◌then◌else◌}
 use Rattle.std.proofs.lemmas.Bool.Decides.{nat_tests}

@@ -1,4 +1,4 @@
--- One broadcast's row changed: what the downloads are then, and that the index by subjects agrees.
+-- One broadcast's row changed: the downloads after it, and the agreement of the index by subjects.
 use Rattle.std.proofs.Common.{◌≡◌, ℕ, Bool, true, false, cond, Option, Some, None, refl, ap, sym, ◌∙◌, subst, ◌&&◌}
 use Rattle.std.specs.Prelude.{◌==◌, is_some, option_map}
 use Rattle.std.specs.Ordering.{nat_cmp, ordering_then, is_eq, eq_by_cmp}
@@ -39,12 +39,12 @@ subject_download_exact a b e =
       attempt = nat_cmp-IsAntisymmetric a.attempt b.attempt r.1 i;
     }
 
--- the row of one broadcast is w now
+-- Holds if only the broadcast's row changes, to `w`.
 abbrev pub IsRow : FinMap download_cmp Waiting → FinMap download_cmp Waiting → Download
     → Option Waiting → Type 0
 IsRow old new d w = (q : Download) → get new q ≡ cond (eq_by_cmp download_cmp d q) w (get old q)
 
--- where the row says v of one carrier, and of each other one what it said, one download is set
+-- If the row changes for one carrier only, one download is set.
 pub row-changed : (old new : FinMap download_cmp Waiting) (k : WaitKey) (w : Option Waiting)
     (v : Option Subject) → IsRow old new (download_of k) w →
     ((c : ℕ) → awaited w c ≡ cond (c == k.carrier) v (awaited (get old (download_of k)) c))
@@ -76,7 +76,7 @@ row-changed old new k w v row each =
         rest true x = refl
         rest false x = refl
 
--- where it says of each carrier what it said, nothing changes
+-- If the row does not change, neither do the downloads.
 pub row-same : (old new : FinMap download_cmp Waiting) (d : Download) (w : Option Waiting)
     → IsRow old new d w → w ≡ get old d → waits_of new ≡ waits_of old
 row-same old new d w row same = same_map wait_total wait_exact (waits_of new) (waits_of old) (λ q.
@@ -93,19 +93,19 @@ row-same old new d w row same = same_map wait_total wait_exact (waits_of new) (w
 abbrev Index : Type 0
 Index = FinMap subject_download_cmp (Unit {0})
 
--- one key of the index is there, or is not
+-- Holds if only one key of the index changes, to `v`.
 abbrev pub IsKey : Index → Index → SubjectDownload → Option (Unit {0}) → Type 0
 IsKey old new k v = (q : SubjectDownload) → get new q ≡ cond (eq_by_cmp subject_download_cmp k q) v
     (get old q)
 
--- the index agrees with the rows
+-- Holds if the index agrees with the rows.
 abbrev pub Agrees : FinMap download_cmp Waiting → Index → Type 0
 Agrees rows about = AreAbout rows about × AboutIsNeeded rows about
 
 here : (d : Download) → eq_by_cmp download_cmp d d ≡ true
 here d = ap is_eq (tied_itself download_total d)
 
--- a row whose subject stays
+-- The agreement stays when a row changes and its subject stays.
 pub agrees-kept : (old new : FinMap download_cmp Waiting) (about : Index) (d : Download)
     (was now : Waiting) → IsRow old new d (Some now) → get old d ≡ Some was → now.0 ≡ was.0
     → Agrees old about → Agrees new about
@@ -148,7 +148,7 @@ away s d k t = by_cases (eq_by_cmp subject_download_cmp (key_about s d) k) refl
         same ∙ t in
         cc
 
--- a row and its key that are new
+-- The agreement stays when a row and its key are added.
 pub agrees-new : (old new : FinMap download_cmp Waiting) (about next : Index) (d : Download)
     (now : Waiting) → IsRow old new d (Some now) → get old d ≡ None → IsDownload d
     → IsKey about next (key_about now.0 d) (Some tt) → Agrees old about → Agrees new next
@@ -204,7 +204,7 @@ agrees-new old new about next d now row none small key agrees = (
         ap (option_map (λ (w : Waiting). w.0)) (row (download_about k)
         ∙ ap (λ y. cond y (Some now) (get old (download_about k))) t) ∙ agrees.1 k stands
 
--- a row and its key that are gone
+-- The agreement stays when a row and its key are deleted.
 pub agrees-gone : (old new : FinMap download_cmp Waiting) (about next : Index) (d : Download)
     (was : Waiting) → IsRow old new d None → get old d ≡ Some was
     → IsKey about next (key_about was.0 d) None → Agrees old about → Agrees new next
@@ -245,7 +245,7 @@ agrees-gone old new about next d was row there key agrees = (
         ap (option_map (λ (w : Waiting). w.0)) (row (download_about k)
         ∙ ap (λ y. cond y None (get old (download_about k))) t) ∙ agrees.1 k stands
 
--- a key of a broadcast that has no row was put, and is taken away
+-- The agreement stays when a key without a row is added and deleted.
 pub agrees-back : (rows : FinMap download_cmp Waiting) (about mid next : Index) (d : Download)
     (s : Subject) → get rows d ≡ None → IsKey about mid (key_about s d) (Some tt)
     → IsKey mid next (key_about s d) None → Agrees rows about → Agrees rows next

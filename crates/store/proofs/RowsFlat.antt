@@ -1,4 +1,4 @@
--- Looking up a download finds it in its broadcast's row.
+-- A look-up of a download finds it in its broadcast's row.
 use Rattle.std.proofs.Common.{◌≡◌, ℕ, Bool, true, false, cond, List, [], ◌∷◌, ◌++◌, Some, None, refl, ap, sym, ◌∙◌, ◌&&◌, ◌||◌}
 use Rattle.std.specs.Prelude.{◌==◌}
 use Rattle.std.specs.List.{list_any}
@@ -32,14 +32,14 @@ download_exact a b e =
       attempt = nat_cmp-IsAntisymmetric a.attempt b.attempt q.1 i;
     }
 
--- a download's key ties where its carrier and its broadcast do
+-- A download's key ties if its carrier and its broadcast do.
 pub wait-ties : (k : WaitKey) (d : Download) (c : ℕ)
     → eq_by_cmp wait_cmp k (wait_for d c) ≡ ((k.carrier == c) && eq_by_cmp download_cmp
     (download_of k) d)
 wait-ties k d c = sym (tied_then (nat_cmp k.carrier c) (download_cmp (download_of k) d))
     ∙ ap (λ b. b && eq_by_cmp download_cmp (download_of k) d) (unsigned_tied k.carrier c)
 
--- in a row
+-- The look-up in one row.
 find-row : (k : WaitKey) (d : Download) (s : Subject) (cs : List ℕ)
     (rest : List (WaitKey × Subject)) →
     find wait_cmp k (waits_of_row d (s, cs) ++ rest) ≡ cond (eq_by_cmp download_cmp (download_of k)
@@ -63,7 +63,7 @@ find-row k d s (c ∷ cs) rest =
     by_cases false true y = refl
     by_cases false false y = refl
 
--- what ties with a key below all others is none of them
+-- A key below all others ties with none of them.
 below : (d : Download) (es : List (Download × Waiting)) → below_all download_cmp d es ≡ true
     → find download_cmp d es ≡ None
 below d [] is = refl

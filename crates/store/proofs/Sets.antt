@@ -1,4 +1,4 @@
--- The set of windows that a commit puts.
+-- The set of windows that a commit writes.
 use Rattle.std.proofs.Common.{◌≡◌, ℕ, Bool, true, false, Option, Some, None, refl, ap, sym, ◌∙◌}
 use Rattle.std.specs.Prelude.{◌==◌, if◌then◌else◌, option_map}
 use Rattle.std.specs.Ordering.{nat_cmp}
@@ -21,7 +21,7 @@ use Rattle.store.proofs.Maps.{get-set_here}
 use Rattle.store.proofs.Places.{put-shown, sets-is}
 use Rattle.numbers.proofs.Small.{equal_number}
 
--- where the set is there already, the sets are as if it was put once more
+-- Writing a set that is there already changes nothing.
 pub sets-there : (named : Option WindowSetImpl) (t : Tables) → IsSetThere named t → (k : ℕ)
     → get (content_of t).sets k
     ≡ put_row ◌==◌ (option_map (λ (s : WindowSet). (s.number, s.windows)) (option_map set_of named))

@@ -1,4 +1,4 @@
--- The one row of changes that may be refused, put without a log.
+-- The only row whose write can fail, written without a log.
 use Rattle.std.proofs.Common.{◌≡◌, ◌<◌, ℕ, true, false, List, [], ◌∷◌, length, get_or, map, Option, Some, None, refl, ap, sym, ◌∙◌, subst, arith}
 use Rattle.std.specs.Prelude.{is_some, option_map}
 use Rattle.std.specs.Ordering.{nat_cmp, on}
@@ -27,7 +27,7 @@ use Rattle.store.proofs.Spare.{spares-after, spares-same}
 use Rattle.store.proofs.Undone.{indexed-kept, indexed-with_version}
 use Rattle.numbers.proofs.Small.{no_members}
 
--- what such changes are
+-- What such changes are.
 sole-changes : (c : ChangesImpl) → PutsNoOthers c
     → (vs : List (ℕ × VersionRow)) (bs : List (BroadcastKeyImpl × Broadcast))
     → items_of c.versions ≡ vs → items_of c.broadcasts ≡ bs →
@@ -81,7 +81,7 @@ one-there (x ∷ xs) e len is =
     let rest : length xs ≡ 0 = omega (arith, len) in
     ap (λ y. y ∷ xs) (sym is) ∙ ap (λ ys. e ∷ ys) (no_members xs rest)
 
--- ---- a version's row, put in the place of the one that was there
+-- ---- a version's row, written in the place of the one before
 
 pub sole-indexed : (old mid : Tables) (id : ℕ) (row : VersionRow) (keys : VersionKeys)
     (versions : FinMap nat_cmp VersionRow) → id < 18446744073709551616
@@ -100,7 +100,8 @@ sole-content old mid id row versions same put =
     ap (λ m. record (content_of mid) { versions = m }) put
     ∙ ap (λ c. with_version c id (Some row)) same
 
--- and the keys are taken away that the row before had and the row does not need
+-- After the stale keys of the row before are deleted, the tables are indexed and have no new stale
+-- key.
 pub sole-taken : (old put new : Tables) (versions : FinMap nat_cmp VersionRow) (hints : Hints)
     (id : ℕ) (row : VersionRow) (standing keys taken : VersionKeys) → id < 18446744073709551616
     → ((r : VersionRow) → get (content_of old).versions id ≡ Some r → AreKeysOf id r standing)
@@ -121,7 +122,7 @@ sole-taken old put new versions hints id row standing keys taken small own witho
           (spares-same mid new is.content is.adds) (none-taken mid new taken is),
     )
 
--- no row stood there
+-- A row that was not found before is not there.
 pub not-there : (old mid : Tables) (id : ℕ) → content_of mid ≡ content_of old
     → is_some (get (content_of mid).versions id) ≡ false → get (content_of old).versions id ≡ None
 not-there old mid id same none =
@@ -132,7 +133,7 @@ not-there old mid id same none =
     by_cases None e = refl
     by_cases (Some r) e = let no : true ≡ false = e in cc
 
--- so that no key is to be taken away
+-- Without a row before, no key is stale.
 pub sole-new : (id : ℕ) (keys : VersionKeys) (old new : Tables) → AreNoKeys keys
     → AreLeftBy id keys old new → AddNoStale old new
 sole-new id keys old new none left k stale = left.others k (no-key keys none k) stale

@@ -1,4 +1,4 @@
--- Keys of a row that the row at its id has already.
+-- The keys that the row at an id has already.
 use Rattle.std.proofs.Common.{◌≡◌, true, ℕ, Option, Some, None, refl, sym, subst}
 use Rattle.std.specs.Prelude.{◌≢◌, is_some, IfSome, IfNone, IsSomeAnd, option_map}
 use Rattle.std.specs.declared.cmp.Ordering.{Ordering}
@@ -18,14 +18,14 @@ use Rattle.store.proofs.Orders.{subject_version_total, subject_version_exact, du
 
 module _ {K L : Type 0} {R : L → L → Ordering} (f : K → L) (o : IsTotalOrder R)
     (exact : IsAntisymmetric R) where
-  -- the map has a key of the code where it has what the key stands for
+  -- The ordered map has a key if the finite map has its model.
   pub has-standing : (m : BTreeMap K (Unit {0})) (q : K)
       → is_some (get (map_of {R = R} f (λ u. u) m) (f q)) ≡ true → ContainsKey (on f R) m q
   has-standing m q had =
       let e = entry-of f (λ u. u) o exact m (f q) had in
       subst (λ l. is_some (tree.get_by (λ x. R l (f x)) m) ≡ true) e.1 e.2
 
-  -- the index has the key of the row at an id
+  -- The index has the key of the row at an id.
   pub has-row_key : (key : ℕ → VersionRow → Option L) (versions : FinMap nat_cmp VersionRow)
       (index : BTreeMap K (Unit {0})) (id : ℕ) (own : Option K) →
       AreVersionsIndexed R f key versions index → ((row : VersionRow) → get versions id ≡ Some row
@@ -38,7 +38,7 @@ module _ {K L : Type 0} {R : L → L → Ordering} (f : K → L) (o : IsTotalOrd
       by_cases None at = let no : Some q ≡ None = without at in cc
       by_cases (Some row) at = has-standing index q (indexed id row (f q) at (sym (with row at))).1
 
-  -- a key is there, as one that was put, or as the one that stood there
+  -- A key is there because it was added, or because the row before had it.
   pub has-either : (old new : BTreeMap K (Unit {0})) (own standing put : Option K)
       → IfSome put (λ t. own ≡ Some t)
       → IfNone put (IfSome own (λ t. IsSomeAnd standing (λ q. R (f t) (f q) ≡ Equal))) →
@@ -52,7 +52,7 @@ module _ {K L : Type 0} {R : L → L → Ordering} (f : K → L) (o : IsTotalOrd
       subst (λ l. is_some (tree.get_by (λ x. R l (f x)) new) ≡ true) (sym (exact (f t) (f q) rest))
       (keeps q stood)
 
-  -- what is kept beside the keys that were put is kept beside all
+  -- What stays apart from the added keys stays apart from all keys.
   pub beside-all : (old new : BTreeMap K (Unit {0})) (own put : Option K)
       → IfSome put (λ t. own ≡ Some t) → KeepsOthers (on f R) old new put
       → KeepsOthers (on f R) old new own
@@ -60,7 +60,7 @@ module _ {K L : Type 0} {R : L → L → Ordering} (f : K → L) (o : IsTotalOrd
   beside-all old new own (Some t) from keeps q had other =
       keeps q had (subst (λ w. IfSome w (λ k. R (f k) (f q) ≢ Equal)) from other)
 
--- the keys of the row at an id are there
+-- The indexes have the keys of the row at an id.
 pub have-standing : (t : Tables) (id : ℕ) (keys : VersionKeys) → AreIndexed t
     → ((row : VersionRow) → get (content_of t).versions id ≡ Some row → AreKeysOf id row keys) →
     (get (content_of t).versions id ≡ None → AreNoKeys keys) → HaveKeys keys t

@@ -1,4 +1,4 @@
--- The subjects of a carrier's downloads, as a walk over the index gathers them.
+-- The subjects of a carrier's downloads, as a loop over the index gathers them.
 use Rattle.std.proofs.Common.{◌≡◌, ◌⊎◌, inl, inr, ℕ, Bool, true, false, cond, List, [], ◌∷◌, Option, Some, None, refl, ap, sym, ◌∙◌, subst}
 use Rattle.std.specs.Prelude.{is_some, option_map, IsSome, filter, Result, Ok, Err, IfOk}
 use Rattle.std.specs.declared.ops.Bound.TheVariants.{Included}
@@ -30,7 +30,7 @@ use Rattle.store.proofs.CarrierKeys.{is_between, carrier-is, within}
 use Rattle.store.proofs.QueueListed.{found-own}
 use Rattle.numbers.proofs.Small.{tied}
 
--- ---- what a walk has gathered
+-- ---- what a loop gathers
 
 abbrev Gathered : Type 0
 Gathered = FinMap nat_cmp (Unit {0})
@@ -68,7 +68,7 @@ module _ (waits : FinMap wait_cmp Subject) where
   abbrev at : WaitKeyImpl × Unit {0} → Option Subject
   at e = get waits (wait_key_of e.0)
 
-  -- one of these places has the subject with this key
+  -- Holds if one of these places has the subject with this key.
   abbrev IsPassed : List (WaitKeyImpl × Unit {0}) → ℕ → Type 0
   IsPassed es k = (e : WaitKeyImpl × Unit {0}) × Among e es × (s : Subject) × (at e ≡ Some s)
       × (subject_key s ≡ k)
@@ -135,7 +135,7 @@ filtered-among b x (y ∷ ys) (inr there) t = by_cases (filtered-among b x ys th
     by_cases more true = inr more
     by_cases more false = more
 
--- an entry that a look-up finds
+-- An entry that a look-up finds is in the list.
 pub found-entry : {K X : Type 0} (is_it : K → Bool) (es : List (K × X)) → IsSome (lookup is_it es)
     → (e : K × X) × Among e es × (is_it e.0 ≡ true)
 unfolding Among
@@ -168,7 +168,7 @@ unfolding Among
 all-of P [] each = tt
 all-of P (x ∷ xs) each = (each x (inl refl), all-of P xs (λ y there. each y (inr there)))
 
--- ---- the carrier's
+-- ---- the carrier's subjects
 
 module _ (waits : FinMap wait_cmp Subject) (order : BTreeMap WaitKeyImpl (Unit {0}))
     (subjects : BTreeMap SubjectImpl (Unit {0})) (carrier : Spid) (lo hi : WaitKeyImpl)
@@ -180,7 +180,7 @@ module _ (waits : FinMap wait_cmp Subject) (order : BTreeMap WaitKeyImpl (Unit {
   abbrev content : Content
   content = record empty_content { waits = waits }
 
-  -- a subject that was gathered is of a download of the carrier's
+  -- A gathered subject is of a download pending for the carrier.
   awaited : (x : SubjectImpl) → is_some (get (subjects_of subjects) (key_of x)) ≡ true
       → IsAwaitedBy content carrier.number (subject_of x)
   awaited x there =
@@ -215,7 +215,7 @@ module _ (waits : FinMap wait_cmp Subject) (order : BTreeMap WaitKeyImpl (Unit {
           ∙ none in cc
       by_cases (inr p) = own p
 
-  -- the subject of each download of the carrier's was gathered
+  -- The subject of each download pending for the carrier is gathered.
   gathered-there : (s : Subject) → IsAwaitedBy content carrier.number s
       → is_some (get (subjects_of subjects) (subject_key s)) ≡ true
   gathered-there s is =
@@ -275,7 +275,7 @@ module _ (waits : FinMap wait_cmp Subject) (order : BTreeMap WaitKeyImpl (Unit {
           present (Some u) s = refl
           present None s = s
 
--- one place passed
+-- A loop step adds the subject of its key.
 pub gathered-step : (waits : FinMap wait_cmp Subject) (e : WaitKeyImpl × Unit {0})
     (rest : List (WaitKeyImpl × Unit {0})) (old new : BTreeMap SubjectImpl (Unit {0}))
     (x : SubjectImpl) →

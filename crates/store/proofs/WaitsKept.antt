@@ -1,4 +1,4 @@
--- The downloads of the rows of the code, one of which is put or taken away.
+-- The downloads of the code's rows when one is added or deleted.
 use Rattle.std.proofs.Common.{◌≡◌, ℕ, Bool, true, false, cond, List, [], ◌∷◌, Option, Some, None, refl, ap, sym, ◌∙◌, arith}
 use Rattle.std.specs.Prelude.{◌==◌, ◌&&◌, Result, Ok, Err, IfOk, OnOk, OnErr, option_map}
 use Rattle.std.specs.List.{list_any}
@@ -45,9 +45,9 @@ none-wait rows none = same_map wait_total wait_exact (waits_of (rows_of rows)) e
     (ap (λ es. get (from_entries {R = download_cmp} (seen_entries row_key_of waiting_of es))
     (download_of q)) none ∙ get-empty download_cmp (download_of q)) ∙ sym (get-empty wait_cmp q))
 
--- ---- a look-up by a hash finds what one in the order of queues would
+-- ---- look-ups by hash and in queue order agree
 
--- how two keys of the code are compared
+-- Whether two keys of the code are the same.
 abbrev pub same_key : RowKeyImpl → RowKeyImpl → Bool
 same_key a b = (a.minute == b.minute) && ((a.id == b.id) && (a.attempt == b.attempt))
 
@@ -64,7 +64,7 @@ pub hash-at : (rows : List (RowKeyImpl × WaitingImpl)) (b : RowKeyImpl)
 hash-at [] b = refl
 hash-at (e ∷ es) b = λ i. cond (same-at b e.0 i) (Some e.1) (hash-at es b i)
 
--- one row put, or taken away, by a hash
+-- Holds if one row is written, or deleted for `None`.
 abbrev pub IsPut : (old new : List (RowKeyImpl × WaitingImpl)) → RowKeyImpl → Option WaitingImpl
     → Type 0
 IsPut old new key w = (q : RowKeyImpl)
@@ -78,7 +78,7 @@ by-order old new b w is q =
 
 -- ---- a look-up
 
--- the row of a download's broadcast
+-- The row of a download's broadcast.
 pub row-at : (rows : List (RowKeyImpl × WaitingImpl)) (b : RowKeyImpl) (k : WaitKey)
     (w : Option WaitingImpl) → row_key_of b ≡ download_of k → lookup (same_key b) rows ≡ w →
     get (rows_of rows) (download_of k) ≡ option_map waiting_of w
@@ -115,7 +115,7 @@ key-written old new key k v e is q =
     ∙ ap (λ d. cond (eq_by_cmp subject_download_cmp d q) (option_map (λ u. u) v)
     (get (about_of old) q)) e
 
--- a row written, and then taken away
+-- Writing a row and deleting it amounts to deleting it.
 row-gone : (old mid new : FinMap download_cmp Waiting) (d : Download) (w : Option Waiting)
     → IsRow old mid d w → IsRow mid new d None → IsRow old new d None
 row-gone old mid new d w put taken q = taken q ∙ by_cases (eq_by_cmp download_cmp d q) refl
@@ -125,7 +125,7 @@ row-gone old mid new d w put taken q = taken q ∙ by_cases (eq_by_cmp download_
     by_cases true t = refl
     by_cases false t = put q ∙ ap (λ b. cond b w (get old q)) t
 
--- a row that was written, and taken away
+-- A row that was written is deleted.
 pub row-taken : (old mid new : List (RowKeyImpl × WaitingImpl)) (b : RowKeyImpl) (k : WaitKey)
     (w : WaitingImpl) → row_key_of b ≡ download_of k → IsPut old mid b (Some w)
     → IsPut mid new b None → IsRow (rows_of old) (rows_of new) (download_of k) None
@@ -133,7 +133,7 @@ row-taken old mid new b k w e put taken =
     row-gone (rows_of old) (rows_of mid) (rows_of new) (download_of k) (Some (waiting_of w))
     (row-written old mid b k (Some w) e put) (row-written mid new b k None e taken)
 
--- ---- what a result says
+-- ---- the clauses of a result
 
 pub if-ok-then : {V E : Type 0} {P Q : V → Type 0} (r : Result V E) → ((v : V) → P v → Q v)
     → IfOk r P → IfOk r Q
@@ -145,7 +145,7 @@ pub on-ok-from : {V E Q : Type 0} {P : V → Type 0} (r : Result V E) → ((v : 
 on-ok-from (Ok v) f p = f v p
 on-ok-from (Err e) f p = tt
 
--- ---- a carrier is added to a row that is there
+-- ---- a carrier added to a row that is there
 
 pub subject-stays : {V E : Type 0} (r : Result V E) (c : ℕ) (s : Subject) (old new : Waiting)
     → IfOk r (λ _. IsAdded c s old new) → OnErr r (new ≡ old) → new.0 ≡ old.0
@@ -169,7 +169,7 @@ first-waits old new k s now none row first =
     row-changed old new k (Some now) (Some s) row (λ c. first.each c
     ∙ ap (λ o. cond (c == k.carrier) (Some s) (awaited o c)) (sym none))
 
--- ---- a carrier is taken out of a row
+-- ---- a carrier removed from a row
 
 pub without-waits : (old new : FinMap download_cmp Waiting) (k : WaitKey) (was now : Waiting)
     → get old (download_of k) ≡ Some was → IsRow old new (download_of k) (Some now)
@@ -178,7 +178,7 @@ without-waits old new k was now there row without =
     row-changed old new k (Some now) None row (λ c. without.each c
     ∙ ap (λ o. cond (c == k.carrier) None (awaited o c)) (sym there))
 
--- the last one, with the row
+-- Removing the last carrier deletes the row.
 pub gone-waits : (old new : FinMap download_cmp Waiting) (k : WaitKey) (was now : Waiting)
     → get old (download_of k) ≡ Some was → IsRow old new (download_of k) None
     → IsWithout k.carrier was now → now.1 ≡ [] → waits_of new ≡ set (waits_of old) k None
@@ -186,7 +186,7 @@ gone-waits old new k was now there row without nobody = row-changed old new k No
     sym (ap (λ cs. cond (list_any (λ x. c == x) cs) (Some now.0) None) nobody) ∙ without.each c
     ∙ ap (λ o. cond (c == k.carrier) None (awaited o c)) (sym there))
 
--- a download that is not there
+-- Deleting a download that is not there changes nothing.
 pub not-there : (m : FinMap wait_cmp Subject) (k : WaitKey) → get m k ≡ None → m ≡ set m k None
 not-there m k none =
     same_map wait_total wait_exact m (set m k None)

@@ -1,4 +1,4 @@
--- The numbers of a block that are in use, as they are gathered from the indexes.
+-- The numbers of a block that are in use, as the indexes show them.
 use Rattle.std.specs.Prelude.{◌≡◌, ◌==◌, ◌||◌, ℕ, Bool, true, false, List, [], ◌∷◌, Option, Some, None, is_some, if◌then◌else◌}
 use Rattle.std.specs.Ordering.{nat_cmp}
 use Rattle.std.specs.BTreeMap.{BTreeMap}
@@ -14,7 +14,7 @@ use Rattle.store.specs.Tables.{SubjectVersion}
 use Rattle.store.specs.declared.blocks.Marks.{Marks}
 use Rattle.store.specs.declared.keys.SubjectVersion.{SubjectVersion as SubjectVersionImpl}
 
--- before and behind all versions of a block's numbers
+-- The least key that a version of the block's numbers can have; then the greatest.
 abbrev pub lowest : ℕ → SubjectVersion
 lowest block = record { subject = Number (number_in block 0); id = 0 }
 
@@ -26,7 +26,7 @@ tn_of t = t.number
 
 -- ---- the number that a row is of
 
--- the number, if the subject is one of the block's
+-- The number, if the subject is a number of the block.
 abbrev pub own_number : ℕ → Subject → Option ℕ
 own_number block (Number n) = if block_of n == block then Some n else None
 own_number block (Block b) = None
@@ -35,7 +35,7 @@ abbrev pub number_of : ℕ → Option Subject → Option ℕ
 number_of block None = None
 number_of block (Some s) = own_number block s
 
--- the number of the block that the row has in the column, if there is one
+-- The number of the block in this column of the row, if there is one.
 abbrev pub number_at : (VersionRow → Option Subject) → ℕ → Option VersionRow → Option ℕ
 number_at column block None = None
 number_at column block (Some row) = number_of block (column row)
@@ -46,7 +46,7 @@ held_number = number_at (λ row. row.holds)
 abbrev pub opened_number : ℕ → Option VersionRow → Option ℕ
 opened_number = number_at (λ row. row.opens)
 
--- ---- what is known of a number
+-- ---- the marks of a number
 
 abbrev pub has_held : Option Marks → Bool
 has_held None = false
@@ -62,16 +62,15 @@ only_held known = record { is_in_force = true; is_open = false }
 abbrev pub and_open : Option Marks → Marks
 and_open known = record { is_in_force = has_held known; is_open = true }
 
--- ---- numbers gathered
+-- ---- the marks of all numbers
 
--- the number, if there is one, with its mark, together with those that were there
+-- The map with the number marked, if there is one.
 abbrev pub with_number : (Option Marks → Marks) → Option ℕ → FinMap nat_cmp Marks
     → FinMap nat_cmp Marks
 with_number mark None m = m
 with_number mark (Some n) m = set m n (Some (mark (get m n)))
 
--- the numbers of the block that the rows of these keys have in the column, each with its mark,
--- together with those that were there
+-- The map with each number of the block marked that a row of these keys has in the column.
 abbrev pub marked : (Option Marks → Marks) → (VersionRow → Option Subject) → ℕ
     → FinMap nat_cmp VersionRow → List (SubjectVersionImpl × Unit {0}) → FinMap nat_cmp Marks
     → FinMap nat_cmp Marks
@@ -83,8 +82,8 @@ marked mark column block versions (e ∷ es) m =
 abbrev pub standings_of : BTreeMap Tn Marks → FinMap nat_cmp Marks
 standings_of m = map_of tn_of (λ s. s) m
 
--- of each number of the block that is in use it is known which of its versions stand, and nothing
--- of any other number
+-- Holds if each number is marked as in force and as open exactly if it is so and is of the block,
+-- and no other number is in the map.
 pub record AreStandings (c : Content) (block : ℕ)
     (standings : FinMap nat_cmp Marks) : Type 0 where
   pub held : (n : ℕ) → Reflects (has_held (get standings n)) ((block_of n ≡ block)

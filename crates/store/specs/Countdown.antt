@@ -1,20 +1,20 @@
--- Which call of a device fails that is told to.
+-- The call at which a flaky device fails.
 use Rattle.std.specs.Prelude.{◌≡◌, ℕ, ◌-◌, Bool, true, Option, None, Some}
 use Rattle.store.specs.declared.flaky.Failing.{Failing}
 use Rattle.store.specs.declared.flaky.Failing.TheVariants.{Once, Always}
 
--- how many calls come before the next one that fails, behind one that failed
+-- The number of calls before the next failure, right after a failure.
 abbrev pub after_failing : Failing → Option ℕ
 after_failing Once = None
 after_failing Always = Some 0
 
--- one call fewer comes before the one that fails, if one does
+-- One call fewer before the failure, if one is to come.
 abbrev pub one_fewer : Option ℕ → Option ℕ
 one_fewer None = None
 one_fewer (Some before) = Some (before - 1)
 
--- The call fails where none comes before: then it tells storage, and nothing is asked of the store
--- below. Any other is a call of that store.
+-- Holds if the call fails when none is left before the failure: it then reports `Storage` and
+-- leaves the store below. Any other call counts down by one.
 pub record CountsDown (before : Option ℕ) (failing : Failing) (now : Option ℕ) (tells : Bool)
     (is_still : Type 0) : Type 0 where
   pub tells_it : before ≡ Some 0 → tells ≡ true

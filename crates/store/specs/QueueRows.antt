@@ -1,4 +1,4 @@
--- The index of the downloads that wait, in the order of the carriers' queues.
+-- The index of pending downloads in queue order.
 use Rattle.std.specs.Prelude.{◌≡◌, ℕ, true, List, [], ◌∷◌, Option, Some, None, is_some, option_map}
 use Rattle.std.specs.Ordering.{on, nat_cmp}
 use Rattle.std.specs.BTreeMap as tree
@@ -19,13 +19,13 @@ use Rattle.store.specs.WaitRows.{IsDownload, download_of}
 abbrev pub order_of : BTreeMap WaitKeyImpl (Unit {0}) → FinMap wait_cmp (Unit {0})
 order_of m = map_of wait_key_of (λ u. u) m
 
--- the index has the keys of what waits and no others, and their numbers are those of the code
+-- Holds if the index has exactly the keys of the pending downloads, all in the range of the code.
 pub record AreOrdered (waits : FinMap wait_cmp Subject)
     (order : FinMap wait_cmp (Unit {0})) : Type 0 where
   pub same : (k : WaitKey) → is_some (get order k) ≡ is_some (get waits k)
   pub small : (k : WaitKey) → is_some (get order k) ≡ true → IsDownload (download_of k)
 
--- before and behind all of a carrier's
+-- The least key that a download of the carrier can have; then the greatest.
 abbrev pub lowest : ℕ → WaitKey
 lowest carrier = record { carrier = carrier; minute = 0; id = 0; attempt = 0 }
 
@@ -50,7 +50,7 @@ download_told k b = record {
   routing = b.routing;
 }
 
--- a download as its broadcast tells it, if there is such a broadcast
+-- The download with what its broadcast says of it, if the broadcast is there.
 abbrev pub download_at : BTreeMap BroadcastKeyImpl Broadcast → WaitKeyImpl → Option Download
 download_at broadcasts k =
     option_map (download_told k) (tree.get (on broadcast_key_of broadcast_cmp) broadcasts
@@ -58,12 +58,12 @@ download_at broadcasts k =
 
 -- ---- subjects
 
--- the subject's key, if there is one, together with those that were there
+-- The keys with the subject's key added, if there is a subject.
 abbrev pub with_subject : Option Subject → FinMap nat_cmp (Unit {0}) → FinMap nat_cmp (Unit {0})
 with_subject None m = m
 with_subject (Some s) m = set m (subject_key s) (Some tt)
 
--- the keys of the subjects that wait at these places, together with those that were there
+-- The keys with those of the subjects at these places added.
 abbrev pub gathered : FinMap wait_cmp Subject → List (WaitKeyImpl × Unit {0})
     → FinMap nat_cmp (Unit {0}) → FinMap nat_cmp (Unit {0})
 gathered waits [] m = m

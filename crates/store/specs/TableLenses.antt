@@ -1,4 +1,4 @@
--- The tables that no index goes with: where each stands, and which of the content's maps it is.
+-- The tables without an index, each with its map in the content.
 use Rattle.std.specs.Prelude.{◌≡◌, ℕ, Option, Some}
 use Rattle.std.specs.declared.cmp.Ordering.{Ordering}
 use Rattle.std.specs.Ordering.{nat_cmp, on}
@@ -20,8 +20,8 @@ use Rattle.windows.specs.declared.window.Windows.{Windows as WindowsImpl}
 use Rattle.store.specs.Maps.{IsSet}
 use Rattle.store.specs.declared.tables.Tables.{Tables}
 
--- a table among the tables, and its map in the content, which shows a key as `key` and a row as
--- `row`
+-- A table among the tables, and its map in the content. `key` and `row` are the models of its keys
+-- and rows.
 pub record TableLens (K X L Y : Type 0) (R : L → L → Ordering) : Type 0 where
   pub key : K → L
   pub row : X → Y
@@ -90,13 +90,13 @@ sets = record {
   with_column = λ c m. record c { sets = m };
 }
 
--- the row is put at the key of the map, and `before` was there
+-- Holds if a row is written at the key, and `before` was there.
 abbrev pub IsRowPut : {K X : Type 0} → (K → K → Ordering) → K → Option X → BTreeMap K X
     → BTreeMap K X → Type 0
 IsRowPut {X = X} cmp key before old new = (row : X) × (before ≡ tree.get cmp old key)
     × IsSet cmp old new key (Some row)
 
--- the same, of a table among the tables
+-- Holds if a row is written at the key of one of the tables, and `before` was there.
 abbrev pub IsPutAt : {K X L Y : Type 0} {R : L → L → Ordering} → TableLens K X L Y R → K → Option X
     → Tables → Tables → Type 0
 IsPutAt {K} {X} {R = R} place key before old new =

@@ -1,4 +1,4 @@
--- What a commit has put so far, step by step.
+-- The undo log: what a commit has written so far, entry by entry.
 use Rattle.std.specs.Prelude.{◌≡◌, ℕ, List, [], ◌∷◌, map, Option, Some, None, option_map}
 use Rattle.std.specs.FinMap.{get}
 use Rattle.numbers.specs.Subjects.{Subject}
@@ -25,7 +25,7 @@ use Rattle.store.specs.declared.commit.UndoEntry.{UndoEntry}
 use Rattle.store.specs.declared.commit.UndoEntry.TheVariants as step
 use Rattle.store.specs.declared.tables.Tables.{Tables}
 
--- the tables before and after the step's row was put
+-- Holds if the entry's row is written between `old` and `new`.
 abbrev pub IsPut : UndoEntry → Tables → Tables → Type 0
 IsPut (step.Carrier key before) old new = IsPutAt carriers key before old new
 IsPut (step.Lrn key before) old new = IsPutAt lrns key before old new
@@ -37,39 +37,43 @@ IsPut (step.Wait key) old new = (subject : Subject) × (new ≡ record old {
   waits = set old.waits (wait_key_of key) (Some subject);
 }) × (get old.waits (wait_key_of key) ≡ None)
 
--- the steps were put, the first of them first
+-- Holds if the rows of the entries are written in order between `old` and `new`.
 abbrev pub ArePut : List UndoEntry → Tables → Tables → Type 0
 ArePut [] old new = new ≡ old
 ArePut (s ∷ ss) old new = (mid : Tables) × IsPut s old mid × ArePut ss mid new
 
--- the step was put, and whatever came later is undone
+-- Holds if the entry's row was written, and all later writes are undone.
 abbrev pub CanUndo : UndoEntry → Tables → Type 0
 CanUndo s now = (start : Tables) × (mid : Tables) × IsPut s start mid × IsKept mid now
 
--- what was kept since the step was put is kept since the moment before it
+-- Holds if tables that keep what followed the entry's write become tables that keep what preceded
+-- it.
 abbrev pub IsUndone : UndoEntry → Tables → Tables → Type 0
 IsUndone s old new = (start mid : Tables) → IsPut s start mid → IsKept mid old → IsKept start new
 
--- the step was put, and whatever came later is forgotten
+-- Holds if the entry's row was written, and all later entries are forgotten.
 abbrev pub CanForget : UndoEntry → ℕ → Tables → Type 0
 CanForget s least now =
     (start : Tables) × (mid : Tables) × IsPut s start mid × IsKeptBelow least mid now
 
--- what was kept below an id since the step was put is kept below another since the moment before it
+-- Holds if rows kept below `before` since the entry's write are kept below `after` since the moment
+-- before it.
 abbrev pub IsForgotten : UndoEntry → (before after : ℕ) → Tables → Tables → Type 0
 IsForgotten s before after old new = (start mid : Tables) → IsPut s start mid
     → IsKeptBelow before mid old → IsKeptBelow after start new
 
--- the steps that were added to the log are those that were put
+-- Holds if the entries added to the log are those of the writes between `old` and `new`.
 abbrev pub IsLogged : List UndoEntry → List UndoEntry → Tables → Tables → Type 0
 IsLogged before after old new = (start : Tables) → ArePut before start old → ArePut after start new
 
--- the same, and one that was refused left all as it was
+-- Holds if the entries added to the log are those of all writes, apart from a refused one, which
+-- changed nothing.
 abbrev pub IsLoggedUpTo : List UndoEntry → List UndoEntry → Tables → Tables → Type 0
 IsLoggedUpTo before after old new = (start : Tables) → ArePut before start old → (mid : Tables)
     × ArePut after start mid × IsKept mid new
 
--- the same, and what was put beside them makes no key spare, and is no version
+-- Holds if the entries added to the log are those of all writes, apart from some that write no
+-- version and add no stale key.
 abbrev pub IsLoggedBut : List UndoEntry → List UndoEntry → Tables → Tables → Type 0
 IsLoggedBut before after old new = (start : Tables) → ArePut before start old → (mid : Tables)
     × ArePut after start mid × AddNoStale mid new
@@ -83,7 +87,7 @@ abbrev pub IsNotNoted : UndoEntry → List UndoEntry → List UndoEntry → Tabl
 IsNotNoted s before after old new = (start : Tables) → IsPut s start old
     → IsLoggedUpTo before after start new
 
--- ---- one table's rows are put
+-- ---- the rows of one table
 
 abbrev pub with_carrier : Option SpidImpl → Changes → Changes
 with_carrier carrier c = record c { carrier = option_map spid_of carrier }
@@ -108,26 +112,27 @@ with_broadcasts broadcasts c = record c {
 abbrev pub with_waits : List (WaitKeyImpl × SubjectImpl) → Changes → Changes
 with_waits waits c = record c { waits = map (λ e. (wait_key_of e.0, subject_of e.1)) waits }
 
--- once whatever other changes are made, and the rest of this table's rows put, all of them are
+-- Holds if any other changes, made with the rest of this table's rows after `new`, amount to those
+-- changes with all of its rows after `old`.
 abbrev pub ArePutFrom : {R : Type 0} → (R → Changes → Changes) → (rest all : R) → Tables → Tables
     → Type 0
 ArePutFrom table rest all old new = (c : Changes) (last : Content)
     → AppliesChanges (table rest c) (content_of new) last
     → AppliesChanges (table all c) (content_of old) last
 
--- the same, and all is indexed and logged
+-- Holds if, in addition, the rows are indexed and the writes logged.
 pub record AreNoted {R : Type 0} (table : R → Changes → Changes) (rest all : R)
     (before after : List UndoEntry) (old new : Tables) : Type 0 where
   pub put : ArePutFrom table rest all old new
   pub indexed : AreIndexed new
   pub logged : IsLogged before after old new
 
--- once whatever changes with this set are made, the set is put with them
+-- Holds if any changes with this set, made after `new`, amount to the same changes after `old`.
 abbrev pub IsPutWithSet : Option WindowSetImpl → Tables → Tables → Type 0
 IsPutWithSet set old new = (c : Changes) (last : Content) → c.set ≡ option_map set_of set
     → AppliesChanges c (content_of new) last → AppliesChanges c (content_of old) last
 
--- no rows are put but those of versions and broadcasts
+-- Holds if no rows are written but those of versions and broadcasts, and the clock's.
 pub record PutsNoOthers (c : ChangesImpl) : Type 0 where
   pub carrier : c.carrier ≡ None
   pub lrn : c.lrn ≡ None

@@ -1,4 +1,5 @@
--- Who waits for each broadcast, as one row a broadcast, and the downloads that this says.
+-- The carriers for which each broadcast is pending, one row a broadcast, and the downloads that the
+-- rows mean.
 use Rattle.std.specs.Prelude.{◌≡◌, ℕ, Bool, true, List, [], ◌∷◌, ◌++◌, map, Option, Some, None, ◌==◌, cond, is_some, option_map, ◌⊎◌, ◌<◌, ◌&&◌, if◌then◌else◌, refl}
 use Rattle.std.specs.List.{list_any}
 use Rattle.std.specs.declared.cmp.Ordering.{Ordering}
@@ -22,7 +23,7 @@ use Rattle.store.specs.declared.keys.RowKey.{RowKey as RowKeyImpl}
 use Rattle.store.specs.declared.keys.SubjectDownload.{SubjectDownload as SubjectDownloadImpl}
 use Rattle.store.specs.declared.waiting.Waiting.{Waiting as WaitingImpl}
 
--- a download without its carrier
+-- A download without its carrier.
 pub record Download : Type 0 where
   pub minute : ℕ
   pub id : ℕ
@@ -39,11 +40,11 @@ download_of k = record { minute = k.minute; id = k.id; attempt = k.attempt }
 abbrev pub wait_for : Download → (carrier : ℕ) → WaitKey
 wait_for d carrier = record { carrier = carrier; minute = d.minute; id = d.id; attempt = d.attempt }
 
--- a broadcast's subject, and the carriers for which it waits
+-- A broadcast's subject, and the carriers for which the broadcast is pending.
 abbrev pub Waiting : Type 0
 Waiting = Subject × List ℕ
 
--- the downloads that a broadcast's row says
+-- The downloads that a broadcast's row means.
 abbrev pub waits_of_row : Download → Waiting → List (WaitKey × Subject)
 waits_of_row d w = map {B = WaitKey × Subject} (λ c. (wait_for d c, w.0)) w.1
 
@@ -54,7 +55,7 @@ waits_of_rows (e ∷ es) = waits_of_row e.0 e.1 ++ waits_of_rows es
 unfoldable pub waits_of : FinMap download_cmp Waiting → FinMap wait_cmp Subject
 waits_of m = from_entries (waits_of_rows (entries m))
 
--- the subject of the broadcast, if it waits for the carrier
+-- The subject of the broadcast, if it is pending for the carrier.
 abbrev pub awaited : Option Waiting → (carrier : ℕ) → Option Subject
 awaited None carrier = None
 awaited (Some w) carrier = cond (list_any (λ k. carrier == k) w.1) (Some w.0) None
@@ -70,13 +71,13 @@ waiting_of w = (subject_of w.subject, map spid_of w.carriers.items)
 abbrev pub rows_of : List (RowKeyImpl × WaitingImpl) → FinMap download_cmp Waiting
 rows_of es = from_entries {R = download_cmp} (seen_entries row_key_of waiting_of es)
 
--- the row at a key
+-- The row at a key.
 abbrev pub row_in : List (RowKeyImpl × WaitingImpl) → RowKeyImpl → Option WaitingImpl
 row_in es k = lookup (is_at (on row_key_of download_cmp k)) es
 
 -- ---- the index by subjects
 
--- a broadcast by its subject
+-- A broadcast by its subject.
 pub record SubjectDownload : Type 0 where
   pub subject : Subject
   pub minute : ℕ
@@ -107,17 +108,17 @@ key_about s d = record { subject = s; minute = d.minute; id = d.id; attempt = d.
 abbrev pub download_about : SubjectDownload → Download
 download_about k = record { minute = k.minute; id = k.id; attempt = k.attempt }
 
--- the numbers of a key of the code
+-- Holds if the numbers of the key are in the range of the code.
 abbrev pub IsDownload : Download → Type 0
 IsDownload d = (d.minute < 1099511627776) × (d.id < 18446744073709551616)
     × (d.attempt < 18446744073709551616)
 
--- each broadcast's row stands in the index under its subject
+-- Holds if each broadcast's row is in the index under its subject.
 abbrev pub AreAbout : FinMap download_cmp Waiting → FinMap subject_download_cmp (Unit {0}) → Type 0
 AreAbout rows about = (d : Download) (w : Waiting) → get rows d ≡ Some w → IsDownload d
     × (is_some (get about (key_about w.0 d)) ≡ true)
 
--- and whatever stands in the index a row needs
+-- Holds if a row needs each key of the index.
 abbrev pub AboutIsNeeded : FinMap download_cmp Waiting → FinMap subject_download_cmp (Unit {0})
     → Type 0
 AboutIsNeeded rows about = (k : SubjectDownload) → is_some (get about k) ≡ true
@@ -125,18 +126,18 @@ AboutIsNeeded rows about = (k : SubjectDownload) → is_some (get about k) ≡ t
 
 -- ---- one row changed
 
--- the row of the first carrier
+-- Holds if the row has this subject and this carrier only.
 pub record IsFirst (carrier : ℕ) (s : Subject) (w : Waiting) : Type 0 where
   pub same : w.0 ≡ s
   pub each : (k : ℕ) → awaited (Some w) k ≡ cond (k == carrier) (Some s) None
 
--- a carrier is among those of the row, and all others are as they were
+-- Holds if the row has this carrier, and is otherwise the same.
 pub record IsAdded (carrier : ℕ) (s : Subject) (old new : Waiting) : Type 0 where
   pub subject : old.0 ≡ s
   pub same : new.0 ≡ s
   pub each : (k : ℕ) → awaited (Some new) k ≡ cond (k == carrier) (Some s) (awaited (Some old) k)
 
--- the carrier is not among those of the row, and all others are as they were
+-- Holds if the row does not have this carrier, and is otherwise the same.
 pub record IsWithout (carrier : ℕ) (old new : Waiting) : Type 0 where
   pub same : new.0 ≡ old.0
   pub each : (k : ℕ) → awaited (Some new) k ≡ cond (k == carrier) None (awaited (Some old) k)
@@ -172,12 +173,13 @@ coded_subject = code_by (ℕ ⊎ ℕ) (coded⊎ coded_ℕ coded_ℕ) subject_cas
 abbrev pub coded_waits : Coded (FinMap wait_cmp Subject)
 coded_waits = code coded_wait_key coded_subject
 
--- ---- the index gone over
+-- ---- look-ups through the index
 
 abbrev pub download_in : SubjectDownloadImpl → DownloadKeyImpl
 download_in k = record { minute = k.minute; id = k.id; attempt = k.attempt }
 
--- the broadcast waits for the carrier, under this subject
+-- The key of the broadcast's row. `is_for` is whether the broadcast is of the subject and pending
+-- for the carrier.
 abbrev pub row_key_in : DownloadKeyImpl → RowKeyImpl
 row_key_in b = record { minute = b.minute.number; id = b.id; attempt = b.attempt }
 
@@ -186,7 +188,7 @@ is_for rows b carrier subject =
     is_subject (subject_of subject) (awaited (option_map waiting_of (row_in rows (row_key_in b)))
     carrier.number)
 
--- a broadcast of the index, if it is about the subject and waits for the carrier
+-- The broadcast of a key, if it is of the subject and pending for the carrier.
 abbrev pub listed_about : List (RowKeyImpl × WaitingImpl) → Spid → SubjectImpl → SubjectDownloadImpl
     → Option DownloadKeyImpl
 listed_about rows carrier subject k =

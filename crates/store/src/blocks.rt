@@ -1,4 +1,4 @@
-//! The numbers of a block that are in use.
+//! Finds the numbers of a block that are in use.
 ghost use Rattle.std.specs.Prelude.{◌≡◌, IfOk, map, option_map};
 ghost use Rattle.std.specs.Ordering.{on, nat_cmp};
 ghost use Rattle.std.specs.BTreeMap.{IsOrdered};
@@ -16,28 +16,28 @@ use std::alloc::{AllocError, Global};
 use std::collections::BTreeMap;
 use version::NumberInUse;
 
-/// Which versions of a number stand.
+/// Whether a number has a version in force and an open one.
 #[derive(Clone, Copy)]
 pub struct Marks {
     pub is_in_force: bool,
     pub is_open: bool,
 }
 
-// The key that stands before those of the block's numbers, if it is none of them.
+// Returns the least key that a version of the block's numbers can have.
 fn lowest(block: BlockId) -> SubjectVersion
     ensures { subject_version_of result ≡ lowest block.number }
 {
     SubjectVersion::of(Subject::Number(block.tn(Line { number: 0 })), 0)
 }
 
-// The key that stands behind those of the block's numbers, if it is none of them.
+// Returns the greatest key that a version of the block's numbers can have.
 fn highest(block: BlockId) -> SubjectVersion
     ensures { subject_version_of result ≡ highest block.number }
 {
     SubjectVersion::of(Subject::Number(block.tn(Line { number: 999 })), u64::MAX)
 }
 
-// The number, if it is one of the block.
+// Returns the subject's number, if it is a number of the block.
 fn own_number(block: BlockId, subject: Subject) -> Option<Tn>
     ensures { option_map tn_of result ≡ own_number block.number (subject_of subject) }
 {
@@ -47,7 +47,7 @@ fn own_number(block: BlockId, subject: Subject) -> Option<Tn>
     }
 }
 
-// The number of the block that the version with this id holds, if it holds one.
+// Returns the number of the block that the version with this id holds, if it holds one.
 fn held_number(tables: &Tables, block: BlockId, id: u64) -> Option<Tn>
     ensures { option_map tn_of result
         ≡ held_number block.number (get (content_of tables.now).versions id) }
@@ -55,7 +55,7 @@ fn held_number(tables: &Tables, block: BlockId, id: u64) -> Option<Tn>
     own_number(block, tables.versions.get(id)?.holds()?)
 }
 
-// The number of the block that the version with this id opens, if it opens one.
+// Returns the number of the block that the version with this id opens, if it opens one.
 fn opened_number(tables: &Tables, block: BlockId, id: u64) -> Option<Tn>
     ensures { option_map tn_of result
         ≡ opened_number block.number (get (content_of tables.now).versions id) }
@@ -63,7 +63,7 @@ fn opened_number(tables: &Tables, block: BlockId, id: u64) -> Option<Tn>
     own_number(block, tables.versions.get(id)?.opens()?)
 }
 
-// What is known of a number, and that it has an open version.
+// Returns the marks of a number with an open version added.
 fn and_open(known: Option<Marks>) -> Marks
     ensures { result ≡ and_open known }
 {
@@ -73,7 +73,7 @@ fn and_open(known: Option<Marks>) -> Marks
     }
 }
 
-// Which versions stand of each number of the block that is in use.
+// Returns the marks of each number of the block that is in use.
 fn standings(
     alloc: Global,
     tables: &Tables,
@@ -102,7 +102,7 @@ fn standings(
     Ok(numbers)
 }
 
-// The numbers with what is known of each, rising.
+// Returns the numbers with their marks, ascending.
 fn rising(alloc: Global, numbers: &BTreeMap<Tn, Marks>) -> Result<Vec<NumberInUse>, AllocError>
     ensures { IfOk result (λ found. (found.items ≡ map number_told numbers.now.entries)
         × IsOrdered (on tn_of nat_cmp) numbers.now) }
@@ -118,7 +118,8 @@ fn rising(alloc: Global, numbers: &BTreeMap<Tn, Marks>) -> Result<Vec<NumberInUs
     Ok(found)
 }
 
-/// The numbers of the block that have a version in force or an open one, rising, and which of both.
+/// Returns the numbers of `block` that have a version in force or an open one, ascending, and which
+/// of the two each has.
 pub fn in_block(
     alloc: Global,
     tables: &Tables,

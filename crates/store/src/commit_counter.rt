@@ -1,4 +1,4 @@
-//! A store that counts its commits.
+//! A store that counts its commits, for tests.
 
 use delivery::{Broadcast, Download, DownloadKey, RoutedRow};
 use numbers::{BlockId, CodeId, Lrn, Minute, Spid, Subject};
@@ -10,8 +10,10 @@ use std::cell::Cell;
 use version::NumberInUse;
 use windows::Windows;
 
-/// A store over another one, and how many commits it was asked for, by whoever holds the count. It
-/// is for tests of what stands above. How it counts no clause says.
+/// A store over another one that counts its calls of `commit` in a shared cell. It is for tests of
+/// the layers above.
+///
+/// Not proved: the count.
 #[derive(Drop)]
 pub struct CommitCounter<'a, S: Store> {
     pub store: S,

@@ -1,4 +1,4 @@
-//! A store whose device fails when it is told to.
+//! A store whose device fails at a chosen call, for tests.
 ghost use Rattle.std.specs.Prelude.{◌≡◌, ◌≤◌, ◌+◌, ◌-◌, ◌^◌, min, ℕ, Err, Some, OnOk, OnErr};
 ghost use Rattle.model.specs.Content.{Content};
 ghost use Rattle.settle.specs.StoreContract.{CountsFailure};
@@ -17,25 +17,26 @@ use windows::Windows;
 /// How often a device fails.
 #[derive(Clone, Copy, Debug, PartialEq, Eq)]
 pub enum Failing {
-    /// One call fails, and none after it.
+    /// One call fails, and no call after it.
     Once,
     /// All calls fail from then on.
     Always,
 }
 
-/// A store over another one, of which a call fails as if the device had: nothing is asked of the
-/// store below, and the count of failures rises by one. It is for tests of what stands above.
+/// A store over another one, one call of which fails as if the device had failed. That call does
+/// not reach the store below, and the count of failures rises by one. It is for tests of the layers
+/// above.
 #[derive(Drop)]
 pub struct Flaky<S: Store> {
     store: S,
-    // How many calls there are before the one that fails, if one does.
+    // The number of calls before the one that fails, if one is to fail.
     before: Option<u64>,
     failing: Failing,
     failures: u64,
 }
 
 impl<S: Store> Flaky<S> {
-    /// A store whose first so many calls are those of the store below, and the next one fails.
+    /// Creates a store that passes `before` calls to the store below and fails at the next one.
     pub fn new(store: S, before: u64, failing: Failing) -> Flaky<S>
         ensures store { result.store ≡ store }
         ensures before { result.before ≡ Some before }
@@ -50,7 +51,7 @@ impl<S: Store> Flaky<S> {
         }
     }
 
-    /// The store below, as it is.
+    /// Returns the store below.
     pub fn into_store(self) -> S
         ensures { result ≡ self.store }
     {
@@ -72,7 +73,8 @@ impl<S: Store> Flaky<S> {
         StoreFault::Storage
     }
 
-    // Comes before each call. Where it is the one that fails, nothing is asked of the store below.
+    // Precedes each call. Returns `Err` for the call that fails, which does not reach the store
+    // below.
     fn meet(&mut self) -> Result<(), StoreFault>
         ensures same { self.new.store ≡ self.old.store }
         ensures rises { self.old.failures ≤ self.new.failures }
@@ -103,7 +105,7 @@ impl<S: Store> Flaky<S> {
     }
 }
 
-// What the store below answered. Its failures are counted too.
+// Returns what the store below returned, and counts its failures too.
 fn counted<A>(failures: &mut u64, answer: Result<A, StoreFault>) -> Result<A, StoreFault>
     ensures same { result ≡ answer }
     ensures counts { CountsFailure answer failures.old failures.new }

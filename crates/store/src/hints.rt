@@ -1,17 +1,17 @@
-//! Where a subject's version in force was put last.
+//! Hints: the id of the last version that was written in force for a subject.
 use numbers::Subject;
 use std::alloc::Global;
 use std::collections::HashMap;
 
-/// The id under which a version in force of a subject was put last. It is a guess, found by a hash
-/// of the subject in a few places of memory: whoever takes it looks at the row, and the index
-/// stands behind it. So a guess that memory refuses is left out, and a wrong one costs a look-up.
+/// For each subject the id of the last version that was written in force, found by a hash. An id is
+/// only a hint: the caller reads its row, and otherwise uses the index. A hint whose allocation
+/// fails is left out.
 #[derive(Drop)]
 pub struct Hints {
     ids: HashMap<u64, u64>,
 }
 
-// A number that tells subjects apart: a block's stands above all telephone numbers.
+// Returns a number that tells subjects apart: blocks come after all telephone numbers.
 fn place(subject: Subject) -> u64 {
     match subject {
         Subject::Number(tn) => tn.number,
@@ -20,20 +20,19 @@ fn place(subject: Subject) -> u64 {
 }
 
 impl Hints {
-    /// No guess.
+    /// Creates an empty table of hints.
     pub fn new(alloc: Global) -> Hints {
         Hints {
             ids: HashMap::new(alloc),
         }
     }
 
-    /// The id to look at first.
+    /// Returns the id to look at first.
     pub fn id(&self, subject: Subject) -> Option<u64> {
         self.ids.get(&place(subject)).copied()
     }
 
-    /// The id is to be looked at first from now on for the subject that its version holds, if it
-    /// holds one.
+    /// Notes `id` as the hint of the subject that its version holds, if it holds one.
     pub fn note(&mut self, holds: Option<Subject>, id: u64) {
         if let Some(subject) = holds {
             let _ = self.ids.insert(place(subject), id);

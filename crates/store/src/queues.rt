@@ -1,4 +1,4 @@
-//! The carriers' queues.
+//! The carriers' queues of pending downloads.
 ghost use Rattle.std.specs.Prelude.{◌≡◌, ◌==◌, ℕ, Some, None, IfSome, IfOk, OnOk, OnErr, is_some, option_map};
 ghost use Rattle.std.specs.List.{list_any};
 ghost use Rattle.numbers.specs.declared.spid.Spid.{Spid as SpidImpl};
@@ -22,8 +22,7 @@ use std::alloc::{AllocError, Global};
 use std::collections::BTreeMap;
 use std::marker::Model;
 
-/// The downloads that wait, and an index of them by their carriers, in which each carrier's stand
-/// in the order of its queue.
+/// The pending downloads, and an index that has each carrier's in the order of its queue.
 #[derive(Drop)]
 pub struct Queues {
     waits: Waits,
@@ -46,7 +45,7 @@ impl Model for Queues {
     ghost invariant = { λ q. AreOrdered q.waits (order_of q.order) };
 }
 
-// The key that stands before all of the carrier's, if it is none of them.
+// Returns the least key that a download of the carrier can have.
 fn lowest(carrier: Spid) -> WaitKey
     ensures { wait_key_of result ≡ lowest carrier.number }
 {
@@ -58,7 +57,7 @@ fn lowest(carrier: Spid) -> WaitKey
     }
 }
 
-// The key that stands behind all of the carrier's, if it is none of them.
+// Returns the greatest key that a download of the carrier can have.
 fn highest(carrier: Spid) -> WaitKey
     ensures { wait_key_of result ≡ highest carrier.number }
 {
@@ -72,7 +71,7 @@ fn highest(carrier: Spid) -> WaitKey
     }
 }
 
-// The download as its broadcast tells it, if there is such a broadcast.
+// Returns the download with what its broadcast says of it, if the broadcast is there.
 fn told(broadcasts: &BTreeMap<BroadcastKey, Broadcast>, wait: WaitKey) -> Option<Download>
     ensures { result ≡ download_at broadcasts.now wait }
 {
@@ -90,7 +89,7 @@ fn told(broadcasts: &BTreeMap<BroadcastKey, Broadcast>, wait: WaitKey) -> Option
     })
 }
 
-// The keys, rising.
+// Returns the subjects, ascending.
 fn rising(alloc: Global, subjects: &BTreeMap<Subject, ()>) -> Result<Vec<Subject>, AllocError>
     ensures { IfOk result (λ found. (found.items ≡ keys subjects.now)
         × IsOrdered (on key_of nat_cmp) subjects.now) }
@@ -103,7 +102,7 @@ fn rising(alloc: Global, subjects: &BTreeMap<Subject, ()>) -> Result<Vec<Subject
 }
 
 impl Queues {
-    /// Empty queues.
+    /// Creates empty queues.
     pub fn new(alloc: Global) -> Queues
         ensures { result ≡ empty }
     {
@@ -113,14 +112,14 @@ impl Queues {
         }
     }
 
-    /// The subject of a download.
+    /// Returns the subject of a pending download.
     pub fn get(&self, key: WaitKey) -> Option<Subject>
         ensures { option_map subject_of result ≡ get self.now (wait_key_of key) }
     {
         self.waits.get(key)
     }
 
-    /// The carriers for which the download's broadcast waits.
+    /// Returns the carriers for which the download's broadcast is pending.
     pub fn carriers_of(&self, key: WaitKey) -> &[Spid]
         ensures { (carrier : ℕ)
             → is_some (get self.now (wait_for (download_of (wait_key_of key)) carrier))
@@ -129,8 +128,8 @@ impl Queues {
         self.waits.carriers_of(key)
     }
 
-    /// Puts a download, and hands the subject back if it was there. Where it is refused nothing is
-    /// changed.
+    /// Adds a pending download, and returns its subject if it was pending already. Changes nothing
+    /// if an allocation fails, or if the broadcast has another subject.
     pub fn put(&mut self, key: WaitKey, subject: Subject) -> Result<Option<Subject>, AllocError>
         ensures before { IfOk result
             (λ before. option_map subject_of before ≡ get self.old (wait_key_of key)) }
@@ -152,7 +151,7 @@ impl Queues {
         }
     }
 
-    /// Takes a download away, and hands its subject back.
+    /// Deletes a download, and returns its subject if it was pending.
     pub fn take(&mut self, key: WaitKey) -> Option<Subject>
         ensures before { option_map subject_of result ≡ get self.old (wait_key_of key) }
         ensures taken { self.new ≡ set self.old (wait_key_of key) None }
@@ -161,7 +160,7 @@ impl Queues {
         self.waits.take(key)
     }
 
-    /// The downloads of the subject that wait for the carrier, earliest first.
+    /// Returns the downloads of the subject that are pending for the carrier, earliest first.
     pub fn about(
         &self,
         alloc: Global,
@@ -175,7 +174,7 @@ impl Queues {
         self.waits.about(alloc, carrier, subject)
     }
 
-    /// The subjects of the carrier's downloads, each once, rising.
+    /// Returns the subjects with downloads pending for the carrier, ascending, without duplicates.
     pub fn subjects(&self, alloc: Global, carrier: Spid) -> Result<Vec<Subject>, AllocError>
         ensures { IfOk result (λ subjects.
             AreWaitingSubjects (record empty_content { waits = self.now }) (spid_of carrier)
@@ -190,8 +189,8 @@ impl Queues {
         rising(alloc, &subjects)
     }
 
-    /// The first downloads of the carrier's queue: so many, or all where there are fewer. What they
-    /// are is told by these broadcasts.
+    /// Returns the first `many` downloads of the carrier's queue, or all if there are fewer. Reads
+    /// their subjects, actions and routings from `broadcasts`.
     pub fn front(
         &self,
         alloc: Global,

@@ -1,4 +1,4 @@
-//! For whom one broadcast waits.
+//! The carriers for which one broadcast is pending.
 ghost use Rattle.std.specs.Prelude.{◌≡◌, ◌==◌, Some, IfOk, OnErr, not, filter, option_map};
 ghost use Rattle.std.specs.List.{list_any};
 ghost use Rattle.numbers.specs.Abstraction.{subject_of};
@@ -8,7 +8,7 @@ ghost use Rattle.store.specs.WaitRows.{waiting_of, awaited, IsFirst, IsAdded, Is
 use numbers::{Spid, Subject};
 use std::alloc::{AllocError, Global};
 
-/// The subject of a broadcast, and the carriers for which it waits.
+/// A broadcast's subject, and the carriers for which the broadcast is pending.
 #[derive(Drop)]
 pub struct Waiting {
     pub subject: Subject,
@@ -29,7 +29,7 @@ fn take_out(carrier: Spid, carriers: &mut Vec<Spid>)
 }
 
 impl Waiting {
-    /// A broadcast that waits for one carrier.
+    /// Creates the row of a broadcast that is pending for one carrier.
     pub fn of(alloc: Global, carrier: Spid, subject: Subject) -> Result<Waiting, AllocError>
         ensures { IfOk result
             (λ row. IsFirst carrier.number (subject_of subject) (waiting_of row)) }
@@ -39,7 +39,7 @@ impl Waiting {
         Ok(Waiting { subject, carriers })
     }
 
-    /// The subject, if the broadcast waits for the carrier.
+    /// Returns the subject if the broadcast is pending for the carrier.
     pub fn subject_for(&self, carrier: Spid) -> Option<Subject>
         ensures { option_map subject_of result
             ≡ awaited (Some (waiting_of self.now)) carrier.number }
@@ -51,8 +51,8 @@ impl Waiting {
         }
     }
 
-    /// Adds a carrier, and hands back the subject if it was there. A broadcast has one subject, so
-    /// another one is refused.
+    /// Adds a carrier, and returns the subject if the carrier was there already. A broadcast has
+    /// one subject, so another one is refused like a failed allocation.
     pub fn add(&mut self, carrier: Spid, subject: Subject) -> Result<Option<Subject>, AllocError>
         ensures before { IfOk result (λ before. option_map subject_of before
             ≡ awaited (Some (waiting_of self.old)) carrier.number) }
@@ -71,7 +71,7 @@ impl Waiting {
         Ok(before)
     }
 
-    /// Takes a carrier away.
+    /// Removes a carrier.
     pub fn take(&mut self, carrier: Spid)
         ensures { IsWithout carrier.number (waiting_of self.old) (waiting_of self.new) }
     {

@@ -1,4 +1,4 @@
-//! The downloads that wait.
+//! The pending downloads.
 ghost use Rattle.std.specs.Prelude.{◌≡◌, ◌==◌, ℕ, Some, None, IfSome, IfOk, OnOk, OnErr, is_some, option_map};
 ghost use Rattle.std.specs.List.{list_any};
 ghost use Rattle.std.specs.FinMap.{get, empty};
@@ -20,11 +20,11 @@ use std::alloc::{AllocError, Global};
 use std::collections::{BTreeMap, HashMap};
 use std::marker::Model;
 
-/// The downloads that wait: for each broadcast one row, its subject and the carriers for which it
-/// waits, and an index of the broadcasts by their subjects.
+/// The pending downloads: for each broadcast one row with its subject and carriers, and an index of
+/// the broadcasts by subject.
 ///
-/// A broadcast has one subject. Downloads of one broadcast under two subjects, which no register
-/// makes, have no place here and are refused like those for which there is no memory.
+/// A broadcast has one subject. No register writes downloads of one broadcast under two subjects; a
+/// second subject is refused like a failed allocation.
 #[derive(Drop)]
 pub struct Waits {
     alloc: Global,
@@ -49,7 +49,7 @@ impl Model for Waits {
         × AboutIsNeeded (rows_of w.rows.entries) (about_of w.about) };
 }
 
-// The broadcast of a download.
+// Returns the key of the download's broadcast.
 fn broadcast_of(key: WaitKey) -> RowKey
     ensures { row_key_of result ≡ download_of (wait_key_of key) }
 {
@@ -60,7 +60,7 @@ fn broadcast_of(key: WaitKey) -> RowKey
     }
 }
 
-// The key under which a download's broadcast is found by its subject.
+// Returns the key of the download's broadcast in the index by subjects.
 fn about(subject: Subject, key: WaitKey) -> SubjectDownload
     ensures { subject_download_of result
         ≡ key_about (subject_of subject) (download_of (wait_key_of key)) }
@@ -73,7 +73,7 @@ fn about(subject: Subject, key: WaitKey) -> SubjectDownload
     }
 }
 
-// Whether the broadcast waits for the carrier, under this subject.
+// Returns whether the broadcast is of this subject and pending for the carrier.
 fn is_for(
     rows: &HashMap<RowKey, Waiting>,
     broadcast: DownloadKey,
@@ -94,7 +94,7 @@ fn is_for(
 }
 
 impl Waits {
-    /// No download.
+    /// Creates an empty table.
     pub fn new(alloc: Global) -> Waits
         ensures { result ≡ empty }
     {
@@ -105,14 +105,14 @@ impl Waits {
         }
     }
 
-    /// The subject of a download.
+    /// Returns the subject of a pending download.
     pub fn get(&self, key: WaitKey) -> Option<Subject>
         ensures { option_map subject_of result ≡ get self.now (wait_key_of key) }
     {
         self.rows.get(&broadcast_of(key))?.subject_for(key.carrier)
     }
 
-    /// The carriers for which the download's broadcast waits.
+    /// Returns the carriers for which the download's broadcast is pending.
     pub fn carriers_of(&self, key: WaitKey) -> &[Spid]
         ensures { (carrier : ℕ)
             → is_some (get self.now (wait_for (download_of (wait_key_of key)) carrier))
@@ -124,8 +124,8 @@ impl Waits {
         }
     }
 
-    /// Puts a download, and hands the subject back if it was there. Where it is refused nothing is
-    /// changed.
+    /// Adds a pending download, and returns its subject if it was pending already. Changes nothing
+    /// if an allocation fails, or if the broadcast has another subject.
     pub fn put(&mut self, key: WaitKey, subject: Subject) -> Result<Option<Subject>, AllocError>
         ensures before { IfOk result
             (λ before. option_map subject_of before ≡ get self.old (wait_key_of key)) }
@@ -150,7 +150,7 @@ impl Waits {
         }
     }
 
-    /// Takes a download away, and hands its subject back.
+    /// Deletes a download, and returns its subject if it was pending.
     pub fn take(&mut self, key: WaitKey) -> Option<Subject>
         ensures before { option_map subject_of result ≡ get self.old (wait_key_of key) }
         ensures taken { self.new ≡ set self.old (wait_key_of key) None }
@@ -169,7 +169,7 @@ impl Waits {
         before
     }
 
-    /// The downloads of the subject that wait for the carrier, earliest first.
+    /// Returns the downloads of the subject that are pending for the carrier, earliest first.
     pub fn about(
         &self,
         alloc: Global,

@@ -1,21 +1,21 @@
-//! The messages of a story, cut after each of their bytes.
+//! Tests the messages of a story, cut after each of their bytes.
 use crate::played_story::{PlayedStory, head_length};
 use crate::story::{Pieces, hear};
 use register::Register;
 use std::alloc::Global;
 use store::MemoryStore;
 
-/// Where a message is cut that is answered otherwise than it should be.
+/// The place of a cut after which a message is answered differently than it should be.
 #[derive(Clone, Copy, Debug, PartialEq, Eq)]
 pub struct Cut {
     pub message: usize,
     pub place: usize,
 }
 
-// A longer message is cut after each of its first so many bytes.
+// The number of leading bytes after which a longer message is cut.
 const MOST_CUTS: usize = 10_000;
 
-// Empty lines that are so many bytes, or more, are no head.
+// The least number of bytes of empty lines that count as no head.
 const LEAST_NO_HEAD: usize = 8192;
 
 const BAD_HEAD: &[u8] =
@@ -27,10 +27,10 @@ const TOO_LARGE: &[u8] =
 const CUT_BODY: &[u8] =
     b"HTTP/1.1 400 Bad Request\r\ncontent-type: application/json\r\ncontent-length: 32\r\n\r\n{\"error\":\"cut_body\",\"number\":46}";
 
-// What is answered, to how many messages, and how the connection ends.
+// The answers, how many messages they are to, and how the connection ends.
 type Ended = (&'static [u8], u64, &'static str);
 
-// Whether bytes are nothing but empty lines that are dropped at the end of the input.
+// Returns whether bytes are only empty lines, few enough to be ignored at the end of the input.
 fn are_dropped(bytes: &[u8]) -> bool {
     let mut is_after_return = false;
     for byte in bytes {
@@ -43,8 +43,9 @@ fn are_dropped(bytes: &[u8]) -> bool {
     !is_after_return && bytes.len() < LEAST_NO_HEAD
 }
 
-// What is answered to the front of a message, whose head ends there and which is answered so: the
-// head is judged when it has come whole, and then the length that it says.
+// Returns the expected answer to a prefix of a message, from the end of its head and from the
+// answer to the whole message. The head is judged once it is whole, and then the length that it
+// gives.
 fn ended_of(front: &[u8], head: Option<usize>, answer: &[u8]) -> Ended {
     let has_head = match head {
         Some(head) => head <= front.len(),
@@ -72,7 +73,7 @@ fn is_cut_so(
     (heard.as_slice(), count, how) == wanted
 }
 
-// The first byte after which a message is cut and answered otherwise than it should be.
+// Returns the first byte after which a message, if cut, is answered differently than it should be.
 fn first_wrong_place(
     alloc: Global,
     register: &mut Register<MemoryStore>,
@@ -91,8 +92,8 @@ fn first_wrong_place(
     None
 }
 
-/// The first cut of a message of the story that is answered otherwise than it should be. Behind all
-/// its cuts each message is sent whole.
+/// Returns the first cut of a message of the story that is answered differently than it should be.
+/// After all its cuts each message is sent whole.
 pub fn first_wrong_cut(
     alloc: Global,
     register: &mut Register<MemoryStore>,
@@ -110,7 +111,7 @@ pub fn first_wrong_cut(
     None
 }
 
-/// How many cuts there are.
+/// Returns how many cuts there are.
 pub fn cuts_of(tale: &PlayedStory) -> usize {
     let mut count = 0usize;
     for message in 0..tale.len() {
@@ -119,7 +120,7 @@ pub fn cuts_of(tale: &PlayedStory) -> usize {
     count
 }
 
-/// Whether the story has a message that is refused for its form.
+/// Returns whether the story has a message that is refused for its form.
 pub fn is_hostile(tale: &PlayedStory) -> bool {
     for message in 0..tale.len() {
         let answer = tale.answer(message);

@@ -1,4 +1,4 @@
-//! Playing a story to a store that fails.
+//! Plays a story to a store that fails.
 use crate::fault::Fault;
 use crate::played_story::PlayedStory;
 use crate::story::new_register;
@@ -10,27 +10,27 @@ use std::ops::Range;
 use store::{Failing, Flaky, MemoryStore};
 use windows::Windows;
 
-/// What is answered where a call of the store failed.
+/// The answer to a message during which a call of the store failed.
 const STORAGE: &[u8] =
     b"HTTP/1.1 503 Service Unavailable\r\ncontent-type: application/json\r\ncontent-length: 31\r\n\r\n{\"error\":\"storage\",\"number\":29}";
 
-/// What a register stands over.
+/// The store under a register.
 #[derive(Clone, Copy, Debug, PartialEq, Eq)]
 pub enum Over {
     Memory,
     Database,
 }
 
-/// What became of a story whose store failed.
+/// The result of a story whose store failed.
 #[derive(Clone, Copy, Debug, PartialEq, Eq)]
 pub enum Played {
-    /// Each message was answered as it should be, whichever of so many calls failed.
+    /// Each message was answered as it should be, whichever of this many calls failed.
     Same(u64),
-    /// One was not, where the call after so many failed.
+    /// A message was answered differently, with the call after this many failing.
     Otherwise(u64),
 }
 
-// Which call fails, and the first message that may meet it.
+// Which call fails, and the first message during which it may.
 #[derive(Clone, Copy)]
 struct Plan {
     failing: Failing,
@@ -38,24 +38,24 @@ struct Plan {
     first: usize,
 }
 
-// How a run went in which a call was to fail.
+// The result of a run with a call that was to fail.
 #[derive(Clone, Copy, Debug, PartialEq, Eq)]
 enum Run {
     // No call failed.
     Calm,
-    // This message met the failure, and every message was answered as it should be.
+    // A call failed during this message, and every message was answered as it should be.
     Met(usize),
     Otherwise,
 }
 
-/// A story, and of each of its messages whether it asks anything of the store.
+/// A story, and whether each of its messages calls the store.
 #[derive(Drop)]
 pub struct Asking<'a> {
     pub tale: &'a PlayedStory,
     asks: Vec<bool>,
 }
 
-// The windows that hold in a store, or those of a new one.
+// Returns the present windows of a store, or those for a new one.
 fn present_in<S: Store>(store: &mut S, windows: &Windows) -> Windows {
     match store.clock() {
         Ok(Some(row)) => row.present.windows,
@@ -63,7 +63,8 @@ fn present_in<S: Store>(store: &mut S, windows: &Windows) -> Windows {
     }
 }
 
-// Whether a register over a store answers these messages as the story does; and the store then.
+// Returns whether a register over a store answers these messages as the story does, and the store
+// afterwards.
 fn goes_on<S: Store>(
     alloc: Global,
     windows: &Windows,
@@ -82,8 +83,8 @@ fn goes_on<S: Store>(
     }
 }
 
-// Plays the messages up to the one that is answered that storage fails, and says which that is.
-// Nothing, if one before it is answered otherwise than in the story.
+// Plays the messages up to the one that is answered with `storage`, and returns its place. Returns
+// `None` if an earlier one is answered differently than in the story.
 fn meet<S: Store>(
     alloc: Global,
     register: &mut Register<S>,
@@ -106,7 +107,7 @@ fn meet<S: Store>(
 }
 
 impl Asking<'_> {
-    // What is answered to a message by a store of which all calls fail.
+    // Returns the answer to a message with a store whose calls all fail.
     fn dead_answer(&self, place: usize) -> &[u8] {
         match self.asks.get(place) {
             Some(true) => STORAGE,
@@ -114,7 +115,7 @@ impl Asking<'_> {
         }
     }
 
-    // Whether the messages from this one on are answered so.
+    // Returns whether the messages from this one on get that answer.
     fn is_dead_from<S: Store>(
         &self,
         alloc: Global,
@@ -134,9 +135,9 @@ impl Asking<'_> {
         rest.is_empty()
     }
 
-    // Plays the story as far as this register goes: one that fails once to its end, with the
-    // message that met the failure sent again; one that fails from then on until nothing is
-    // answered but that. It says which message met the failure.
+    // Plays the story with this register, and returns the message during which the call failed.
+    // After a single failure, sends that message again and plays to the end. If all later calls
+    // fail, checks that the other answers say so.
     fn play<S: Store>(
         &self,
         alloc: Global,
@@ -154,7 +155,8 @@ impl Asking<'_> {
         if is_so { Some(met) } else { None }
     }
 
-    // How a run went which met the failure there, if it did, and what the store below has then.
+    // Returns the result of a run whose call failed during this message, if it did, and the store
+    // below.
     fn judge<S: Store>(
         &self,
         alloc: Global,
@@ -180,7 +182,7 @@ impl Asking<'_> {
         }
     }
 
-    // The store is mended: the message that met the failure is sent again, and all behind it.
+    // Mends the store: sends the message during which the call failed again, and all later ones.
     fn mend<S: Store>(&self, alloc: Global, windows: &Windows, store: S, place: usize) -> (Run, S) {
         let places = place..self.tale.len();
         let (is_told, store) = goes_on(alloc, windows, self.tale, store, places);
@@ -191,7 +193,7 @@ impl Asking<'_> {
         }
     }
 
-    // Plays the story over an empty store, and hands that back.
+    // Plays the story over an empty store, and returns the store.
     fn play_over<S: Store>(
         &self,
         alloc: Global,
@@ -231,9 +233,9 @@ impl Asking<'_> {
         }
     }
 
-    /// Plays the story until a run meets no failure, with a call that fails in each run: the first,
-    /// and then each so many calls later. In one run it fails once, in another all calls fail from
-    /// then on until the store is mended. It says how many calls failed so.
+    /// Plays the story with a failing call in each run: the first call, and then each call `every`
+    /// calls later, until a run has no failure. For each call one run fails once, and another fails
+    /// from then on until the store is mended. Returns how many calls failed.
     pub fn sweep(
         &self,
         alloc: Global,
@@ -261,7 +263,7 @@ impl Asking<'_> {
     }
 }
 
-// A run that fails once meets one failure.
+// Returns the result of a run that was to fail once.
 fn met_once(place: usize, failures: u64) -> Run {
     if failures == 1 {
         Run::Met(place)
@@ -270,8 +272,8 @@ fn met_once(place: usize, failures: u64) -> Run {
     }
 }
 
-// Whether a message asks anything of a store of which all calls fail, as its answer says too; and
-// the store then.
+// Returns whether a message calls the store, all of whose calls fail, if its answer agrees; and the
+// store afterwards.
 fn asks_dead(
     alloc: Global,
     windows: &Windows,
@@ -281,7 +283,7 @@ fn asks_dead(
 ) -> (Option<bool>, MemoryStore) {
     let mut store = store;
     let present = present_in(&mut store, windows);
-    // the first call reads the clock, as the register is opened
+    // The first call reads the clock, as the register is opened.
     match Register::open(alloc, Flaky::new(store, 1, Failing::Always), &present) {
         Ok(mut register) => {
             let heard = tale.hear_between(alloc, &mut register, place, place.saturating_add(1));
@@ -295,8 +297,8 @@ fn asks_dead(
     }
 }
 
-/// Plays the story with each message sent twice: to a store of which all calls fail, and to the
-/// same store once it is mended. Nothing, if one is answered otherwise than it should be.
+/// Plays the story with each message sent twice: to a store whose calls all fail, and to the same
+/// store once it is mended. Returns `None` if a message is answered differently than it should be.
 pub fn ask_dead<'a>(
     alloc: Global,
     windows: &Windows,

@@ -1,4 +1,4 @@
-//! Why the stories were not played to their end.
+//! Faults that stop the stories.
 use register::OpenFault;
 use settle::StoreFault;
 use std::alloc::AllocError;

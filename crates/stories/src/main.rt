@@ -1,14 +1,12 @@
-//! Plays stories: the messages of each file that the command line names are served to a new
-//! register over memory, whole and byte by byte, and what is answered is printed. Then they are
-//! served to a new register over a database, and what that answers is printed where it is something
-//! else. The same is done message by message, with messages that are cut and with stores that fail,
-//! and what is answered otherwise than it should be is printed.
+//! Plays the stories in the files that the command line names, and prints the answers.
 //!
-//! With the word `--each` before the files each message is cut and each call fails, and what is
-//! printed is how many there are; without it some are left out, for the time of the gate.
+//! Serves each file to a new register in memory, whole and byte by byte, and to one over a
+//! database. Plays each message by message too, with messages that are cut and with stores that
+//! fail. Prints what is answered differently than it should be.
 //!
-//! A file has the bytes of a connection, or of several to the same register with a byte 30 between
-//! them. The windows are those of `w.toml`.
+//! With `--each` before the files, cuts each message and fails each call, and prints how many there
+//! are; without it skips some, for the time of the gate. A file has the bytes of one connection, or
+//! of several with a byte 30 between them. The windows are those of `w.toml`.
 #![tactic(auto)]
 
 mod cuts;
@@ -32,8 +30,8 @@ fn read_windows<T: Files + AllocGlobal>(rt: &T) -> Result<Windows, Fault> {
     Ok(Windows::from_toml(rt.alloc(), text.as_str())?)
 }
 
-// Prints what a register over a database answers, where that is something else than what was heard,
-// and how often its store failed, if it did.
+// Prints the answers of a register over a database, if they differ from `heard`, and how often its
+// store failed, if it did.
 fn tell_stored<T: AllocGlobal + Print>(
     rt: &T,
     windows: &Windows,
@@ -53,27 +51,27 @@ fn tell_stored<T: AllocGlobal + Print>(
     Ok(())
 }
 
-// How a story is played beside its answers.
+// How thoroughly a story is played message by message.
 #[derive(Clone, Copy, Debug, PartialEq, Eq)]
 enum Manner {
-    // As far as it goes in the time of the gate.
+    // As much as the time of the gate allows.
     Short,
     // With each call of the database failing and each message cut, and their numbers printed.
     Each,
 }
 
-// A story of more messages is played over a database with each 31st call failing alone.
+// A story with more messages is played over a database with only each 31st call failing.
 const FEW_MESSAGES: usize = 11;
 
 const STEP_OF_DATABASE: u64 = 31;
 
-// A story of more bytes is played over memory with each seventh call failing alone.
+// A story with more bytes is played over memory with only each seventh call failing.
 const FEW_BYTES: usize = 100_000;
 
 const STEP_OF_MEMORY: u64 = 7;
 
 impl Manner {
-    // How many calls there are from one that fails to the next.
+    // Returns how many calls lie between one that fails and the next.
     fn every(self, over: Over, tale: &PlayedStory) -> u64 {
         match over {
             Over::Memory if self == Manner::Short && tale.size() > FEW_BYTES => STEP_OF_MEMORY,
@@ -91,8 +89,8 @@ fn name_of(over: Over) -> &'static str {
     }
 }
 
-// Prints after which call of a store a message was answered otherwise than it should be, if one
-// was.
+// Prints the call of a store after which a message was answered differently than it should be, if
+// one was.
 fn tell_failing<T: AllocGlobal + Print>(
     rt: &T,
     windows: &Windows,
@@ -117,7 +115,7 @@ fn tell_failing<T: AllocGlobal + Print>(
     Ok(())
 }
 
-// Prints which message is answered otherwise than it should be where it is cut, if one is.
+// Prints the message that is answered differently than it should be when it is cut, if one is.
 fn tell_cuts<T: AllocGlobal + Print>(
     rt: &T,
     windows: &Windows,
@@ -142,7 +140,7 @@ fn tell_cuts<T: AllocGlobal + Print>(
     Ok(())
 }
 
-// Prints what goes otherwise than it should where the story is played message by message.
+// Prints what differs when the story is played message by message.
 fn tell_messages<T: AllocGlobal + Print>(
     rt: &T,
     windows: &Windows,
@@ -162,8 +160,7 @@ fn tell_messages<T: AllocGlobal + Print>(
     Ok(())
 }
 
-// Prints a story's name and what is answered to it, and what is answered to it byte by byte where
-// that is something else.
+// Prints a story's name and its answers, and its answers byte by byte if they differ.
 fn tell<T: Files + AllocGlobal + Print>(
     rt: &T,
     windows: &Windows,

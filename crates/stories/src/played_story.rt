@@ -1,4 +1,4 @@
-//! A story message by message.
+//! A story, message by message.
 use crate::fault::Fault;
 use crate::story::{BREAK, Pieces, hear, new_register, tell_end};
 use register::Register;
@@ -12,27 +12,27 @@ const END_OF_HEAD: &[u8] = b"\r\n\r\n";
 // A message and its answer.
 #[derive(Clone, Copy)]
 struct Told {
-    // Where its bytes end among those of the story, with those that nobody reads behind it.
+    // Where its bytes end among those of the story, with the unread ones after it.
     asked: usize,
     // Where its answer ends among those of the story.
     answered: usize,
     // How many bytes it has.
     length: usize,
-    // Whether its connection ends behind it.
+    // Whether its connection ends after it.
     ends: bool,
 }
 
-/// What is asked and answered in a story.
+/// The messages and the answers of a story.
 #[derive(Drop)]
 pub struct PlayedStory {
     asked: Vec<u8>,
     answered: Vec<u8>,
     told: Vec<Told>,
-    /// The answers with a line behind those of each connection, as the whole connections have them.
+    /// The answers, with a line after those of each connection, as the whole connections have them.
     pub heard: Vec<u8>,
 }
 
-/// Where the head of the first message ends, if it does.
+/// Returns where the head of the first message ends, if it does.
 pub fn head_length(bytes: &[u8]) -> Option<usize> {
     for start in 0..bytes.len() {
         if bytes.split_at(start).1.starts_with(END_OF_HEAD) {
@@ -42,7 +42,7 @@ pub fn head_length(bytes: &[u8]) -> Option<usize> {
     None
 }
 
-// The number behind the colon of a line, if the line is that of the body's length.
+// Returns the number after the colon of a line, if the line is that of the body's length.
 fn length_in(line: &str) -> Option<usize> {
     let (name, value) = line.split_once(':')?;
     if name == "content-length" {
@@ -52,7 +52,7 @@ fn length_in(line: &str) -> Option<usize> {
     }
 }
 
-// How many bytes the body has, as a head says.
+// Returns how many bytes the body has, as the head gives them.
 fn body_length(head: &[u8]) -> usize {
     match str::from_utf8(head) {
         Ok(text) => text.split("\r\n").find_map(length_in).unwrap_or(0),
@@ -60,7 +60,7 @@ fn body_length(head: &[u8]) -> usize {
     }
 }
 
-// The first message, and what is behind it. What cannot be cut is one message.
+// Splits off the first message. Bytes without a head are one message.
 fn cut(bytes: &[u8]) -> (&[u8], &[u8]) {
     match head_length(bytes) {
         None => (bytes, &[]),
@@ -82,8 +82,8 @@ impl PlayedStory {
         }
     }
 
-    // Adds a message, with what is behind it in its connection, and its answer. It says how many
-    // messages were answered, and how serving ended.
+    // Adds a message, with the rest of its connection, and its answer. Returns how many messages
+    // were answered, and how serving ended.
     fn add(
         &mut self,
         alloc: Global,
@@ -134,7 +134,7 @@ impl PlayedStory {
         Ok(())
     }
 
-    /// The messages of a story, each answered on a connection of its own.
+    /// Plays a story, each message on a connection of its own.
     pub fn of(alloc: Global, windows: &Windows, story: &[u8]) -> Result<PlayedStory, Fault> {
         let mut register = new_register(alloc, windows)?;
         let mut tale = PlayedStory::new(alloc);
@@ -144,17 +144,17 @@ impl PlayedStory {
         Ok(tale)
     }
 
-    /// How many messages there are.
+    /// Returns how many messages there are.
     pub fn len(&self) -> usize {
         self.told.len()
     }
 
-    /// How many bytes they have.
+    /// Returns how many bytes the messages have.
     pub fn size(&self) -> usize {
         self.asked.len()
     }
 
-    // Where the bytes of the first so many messages end, and their answers.
+    // Returns where the bytes of the first `count` messages end, and their answers.
     fn ends_of(&self, count: usize) -> (usize, usize) {
         let last = match count.checked_sub(1) {
             Some(last) => self.told.get(last),
@@ -166,24 +166,24 @@ impl PlayedStory {
         }
     }
 
-    // The bytes of the messages from one to before another.
+    // Returns the bytes of the messages from `from` to before `to`.
     fn asked_between(&self, from: usize, to: usize) -> &[u8] {
         let range = self.ends_of(from).0..self.ends_of(to).0;
         self.asked.get(range).unwrap_or(&[])
     }
 
-    /// Their answers.
+    /// Returns the answers to these messages.
     pub fn answered_between(&self, from: usize, to: usize) -> &[u8] {
         let range = self.ends_of(from).1..self.ends_of(to).1;
         self.answered.get(range).unwrap_or(&[])
     }
 
-    /// What is answered to a message.
+    /// Returns the answer to a message.
     pub fn answer(&self, place: usize) -> &[u8] {
         self.answered_between(place, place.saturating_add(1))
     }
 
-    /// The bytes of a message alone.
+    /// Returns the bytes of a message, without the unread ones after it.
     pub fn message(&self, place: usize) -> &[u8] {
         let bytes = self.asked_between(place, place.saturating_add(1));
         match self.told.get(place) {
@@ -199,8 +199,8 @@ impl PlayedStory {
         }
     }
 
-    /// What a register answers to the messages from one to before another, on as few connections as
-    /// that takes.
+    /// Returns a register's answers to the messages from `from` to before `to`, on as few
+    /// connections as possible.
     pub fn hear_between<S: Store>(
         &self,
         alloc: Global,
@@ -221,7 +221,7 @@ impl PlayedStory {
         heard
     }
 
-    /// Whether a register answers them as the story does.
+    /// Returns whether a register answers these messages as the story does.
     pub fn is_told_between<S: Store>(
         &self,
         alloc: Global,

@@ -1,4 +1,4 @@
-//! Playing a story.
+//! Plays a story, connection by connection.
 use crate::fault::Fault;
 use api::{End, NoTicks, Options, Served, serve};
 use register::Register;
@@ -10,10 +10,10 @@ use std::io::{Read, Write};
 use store::MemoryStore;
 use windows::Windows;
 
-/// What stands between the connections of a story.
+/// The byte between the connections of a story.
 pub const BREAK: u8 = 30;
 
-/// Hands out bytes in pieces of at most this size.
+/// Reads bytes in pieces of at most this size.
 #[derive(Drop)]
 pub struct Pieces<'a> {
     pub rest: &'a [u8],
@@ -21,7 +21,7 @@ pub struct Pieces<'a> {
 }
 
 impl<'a> Pieces<'a> {
-    /// All bytes at once.
+    /// Makes one piece of all the bytes.
     pub fn whole(rest: &'a [u8]) -> Pieces<'a> {
         Pieces {
             rest,
@@ -48,7 +48,7 @@ fn name_of(end: End) -> &'static str {
     }
 }
 
-// How many messages were answered, and how serving came to its end.
+// Returns how many messages were answered, and how serving ended.
 fn ended(served: Result<Served, api::Fault>) -> (u64, &'static str) {
     match served {
         Ok(served) => (served.count, name_of(served.end)),
@@ -58,8 +58,8 @@ fn ended(served: Result<Served, api::Fault>) -> (u64, &'static str) {
     }
 }
 
-/// Serves a connection: its answers, how many messages were answered, and how serving came to its
-/// end.
+/// Serves a connection, and appends its answers. Returns how many messages were answered, and how
+/// serving ended.
 pub fn hear<S: Store>(
     alloc: Global,
     register: &mut Register<S>,
@@ -71,7 +71,7 @@ pub fn hear<S: Store>(
     ended(serve(alloc, register, &mut NoTicks, &options, reader, heard))
 }
 
-/// Writes the line that stands behind the answers of a connection.
+/// Writes the line that follows the answers of a connection.
 pub fn tell_end(heard: &mut Vec<u8>, count: u64, how: &str) -> io::Result<()> {
     writeln!(heard, "\n{count} answered, {how}")
 }
@@ -90,7 +90,7 @@ fn hear_all<S: Store>(
     Ok(heard)
 }
 
-/// A new register over memory.
+/// Opens a new register in memory.
 pub fn new_register(alloc: Global, windows: &Windows) -> Result<Register<MemoryStore>, Fault> {
     match Register::open(alloc, MemoryStore::new(alloc), windows) {
         Ok(register) => Ok(register),
@@ -98,14 +98,14 @@ pub fn new_register(alloc: Global, windows: &Windows) -> Result<Register<MemoryS
     }
 }
 
-/// What is answered to a story's connections, which are served one after the other to a new
-/// register in pieces of at most this size.
+/// Returns the answers to a story's connections, which are served in order to a new register in
+/// memory, in pieces of at most this size.
 pub fn play(alloc: Global, windows: &Windows, story: &[u8], size: usize) -> Result<Vec<u8>, Fault> {
     let mut register = new_register(alloc, windows)?;
     Ok(hear_all(alloc, &mut register, story, size)?)
 }
 
-/// The same to a new register over a database in memory, and how often that store failed.
+/// Returns the answers of a new register over a database in memory, and how often its store failed.
 pub fn play_stored(
     alloc: Global,
     windows: &Windows,

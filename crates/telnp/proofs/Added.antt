@@ -1,4 +1,4 @@
--- What an answer adds to a text without parameters.
+-- The parameters that an answer adds to a text without parameters.
 use Rattle.std.proofs.Common.{◌≡◌, ℕ, [], ◌++◌, Option, Some, None, codes, append_assoc, append-nil}
 use Rattle.numbers.specs.Texts.{lrn_text}
 use Rattle.telnp.specs.Answer.{added_carrier, answer_parameters}

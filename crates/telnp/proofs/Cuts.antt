@@ -1,4 +1,4 @@
--- Where a text is cut at a mark.
+-- Cutting a text at a mark.
 use Rattle.std.proofs.Common.{◌≡◌, ℕ, suc, ◌<◌, Bool, true, false, cond, ◌==◌, List, [], ◌∷◌, ◌++◌, length, get_or, Option, Some, None, option_map, Bor, refl, sym, arith}
 use Rattle.std.specs.Option.{MatchOption}
 use Rattle.std.proofs.lemmas.Bool.Decides.{nat_tests}
@@ -7,7 +7,7 @@ use Rattle.telnp.specs.Grammar.{cut}
 use Rattle.telnp.specs.Faults.{parts}
 use Rattle.numbers.proofs.Small.{same_number}
 
--- none of the bytes is the mark
+-- Holds if none of the bytes is the mark.
 abbrev Lacks : ℕ → List ℕ → Type 0
 Lacks mark bs = (i : ℕ) → i < length bs → get_or bs i 0 ≡ mark → ⊥
 
@@ -35,7 +35,7 @@ pub cut_once : (mark : ℕ) (bs : List ℕ) (r : Option (Bor (List ℕ) × Bor (
 cut_once mark bs None h = sym (cut-none mark bs h)
 cut_once mark bs (Some x) h = rw h.0 (sym (cut-found mark x.0.now x.1.now h.1))
 
--- what a text is cut into, and the parts that come of it
+-- The texts before and after a mark.
 abbrev pub Cut : Type 0
 Cut = List ℕ × List ℕ
 

@@ -1,4 +1,4 @@
--- Digits that are gathered into eleven places.
+-- Gathering digits into eleven places.
 use Rattle.std.proofs.Common.{◌≡◌, ◌∙◌, sym, ap, ℕ, zero, suc, ◌+◌, ◌<◌, ◌≤◌, Bool, true, false, cond, List, [], ◌∷◌, ◌++◌, length, get_or, take, append-nil, arith}
 use Rattle.std.specs.List.{filter}
 use Rattle.std.proofs.Math.ListN.{set}
@@ -8,7 +8,7 @@ use Rattle.std.proofs.lemmas.List.Filters.{length-filter_more}
 use Rattle.telnp.specs.Bytes.{is_digit}
 use Rattle.telnp.specs.Numbers.{digits_in}
 
--- a beginning has no more of what passes the test
+-- A prefix has no more members that pass the test than the list.
 fewer : (p : ℕ → Bool) (xs : List ℕ) (k : ℕ) → length (filter p (take k xs)) ≤ length (filter p xs)
 fewer p [] zero = omega arith
 fewer p [] (suc k) = omega arith
@@ -21,7 +21,7 @@ fewer p (x ∷ xs) (suc k) = at_test (p x) (fewer p xs k)
     at_test true h = omega arith
     at_test false h = h
 
--- a twelfth digit
+-- With eleven digits found, another digit makes more than eleven.
 pub too_many : (xs ds : List ℕ) (i count : ℕ) → i < length xs → true ≡ is_digit (get_or xs i 0)
     → take count ds ≡ digits_in (take i xs)
     → count ≡ 11 → length ds ≡ 11 → length (digits_in xs) ≡ 11 → ⊥
@@ -35,7 +35,7 @@ too_many xs ds i count within digit found full long e =
     let most = fewer is_digit xs (i + 1) in
     omega arith
 
--- one digit more
+-- A digit of the text goes into the next place.
 pub one_more : (xs ds : List ℕ) (i count : ℕ) → i < length xs → true ≡ is_digit (get_or xs i 0)
     → take count ds ≡ digits_in (take i xs)
     → count < length ds → take (count + 1) (set ds count (get_or xs i 0))
@@ -46,7 +46,7 @@ one_more xs ds i count within digit found room =
     ∙ ap (λ b. digits_in (take i xs) ++ cond b (get_or xs i 0 ∷ []) []) digit
     ∙ sym (filter_more is_digit xs i 0 within)
 
--- a byte that is no digit
+-- A byte that is not a digit changes nothing.
 pub none_more : (xs ds : List ℕ) (i count : ℕ) → i < length xs → false ≡ is_digit (get_or xs i 0)
     → take count ds ≡ digits_in (take i xs)
     → take count ds ≡ digits_in (take (i + 1) xs)
@@ -55,7 +55,7 @@ none_more xs ds i count within digit found =
     ∙ ap (λ b. digits_in (take i xs) ++ cond b (get_or xs i 0 ∷ []) []) digit
     ∙ sym (filter_more is_digit xs i 0 within)
 
--- at the end
+-- At the end of the text, eleven digits found are all its digits.
 pub all_digits : (xs ds : List ℕ) (i count : ℕ) → length xs ≤ i
     → take count ds ≡ digits_in (take i xs) → count ≡ 11 → length ds ≡ 11 → digits_in xs ≡ ds
 all_digits xs ds i count ended found full long =

@@ -1,4 +1,4 @@
--- Each fault stands where the order of tests puts it.
+-- Each fault is reported in the order of tests.
 use Rattle.std.proofs.Common.{◌≡◌, ◌∙◌, sym, ap, refl, subst, ℕ, ◌<◌, ◌≤◌, Bool, true, false, not, cond, ◌==◌, List, [], ◌∷◌, ◌++◌, length, Option, Some, None, option_map, codes, arith}
 use Rattle.std.specs.Prelude.{nat_lt}
 use Rattle.std.specs.List.{list_all, onto_first}
@@ -15,7 +15,7 @@ use Rattle.telnp.proofs.Wholes.{rest_whole, tel_scheme}
 use Rattle.telnp.proofs.Only.{Other, Lacks, EachLacks, scheme_cut, rest_cut}
 use Rattle.numbers.proofs.Small.{true_both}
 
--- what is cut at a mark does not hold it
+-- Holds if the part before the mark, or the uncut text, does not have the mark.
 abbrev CutLacks : ℕ → List ℕ → Option Cut → Type 0
 CutLacks mark bs None = Lacks mark bs
 CutLacks mark bs (Some p) = Lacks mark p.0
@@ -69,7 +69,7 @@ cut_up text rest e short =
       parameters_uncut = h.1;
     }
 
--- what the tests of the rest say
+-- Holds if the tests of the rest after `tel:` lead to this fault.
 abbrev RestFault : List ℕ → List (List ℕ) → TelFault → Type 0
 RestFault number parameters TooLong = ⊥
 RestFault number parameters NotTel = ⊥
@@ -131,7 +131,7 @@ from_fault text f true e h = let long : 2048 < length text = grind (arith, nat_t
 from_fault text f false e h = let short : length text ≤ 2048 = grind (arith, nat_tests) in
     from_rest text (rest_of text) f refl short h
 
--- the way back
+-- A cut text has the fault that its parts lead to.
 rest_is : (text number : List ℕ) (ps : List (List ℕ)) → IsCutUp text number ps
     → fault_of text ≡ Tested (is_global number) (is_local number) (list_all is_parameter ps)
     (repeats ps)

@@ -1,4 +1,4 @@
--- A tel URI is read, with its parts.
+-- A tel URI of the grammar is read, with its parts.
 use Rattle.std.proofs.Common.{◌≡◌, ℕ, zero, suc, ◌<◌, Bool, true, false, not, cond, ◌==◌, ◌&&◌, ◌||◌, List, [], ◌∷◌, ◌++◌, length, get_or, Option, Some, None, refl, ap, sym, ◌∙◌, arith, codes, append-nil, subst}
 use Rattle.std.specs.Prelude.{nat_lt}
 use Rattle.std.specs.List.{list_all}
@@ -15,7 +15,7 @@ use Rattle.telnp.proofs.Cuts.{Cut, cut-none, cut-found}
 use Rattle.telnp.proofs.Wholes.{IsCut, cut-whole}
 use Rattle.numbers.proofs.Small.{true_both}
 
--- the byte is another one
+-- Whether the byte differs from the mark.
 abbrev pub Other : ℕ → ℕ → Bool
 Other mark b = not (b == mark)
 
@@ -31,7 +31,7 @@ lacks_places mark (b ∷ bs) h (suc i) lt e = let (here, more) =
     and_parts (Other mark b) (list_all (Other mark) bs) h in
     lacks_places mark bs more i (omega arith) e
 
--- a test that the mark fails leaves the mark out
+-- A test that the mark fails excludes the mark.
 other : (P : ℕ → Bool) (mark b : ℕ) → P mark ≡ false → P b ≡ true → Other mark b ≡ true
 other P mark b skips passes = at_test (b == mark) refl
   where
@@ -53,7 +53,7 @@ lacks_append mark (x ∷ xs) ys a b =
     let (here, more) = and_parts (Other mark x) (list_all (Other mark) xs) a in
     true_both _ _ here (lacks_append mark xs ys more b)
 
--- the number part
+-- A global number has no `;`.
 pub lacks_global : (number : List ℕ) → is_global number ≡ true → Lacks 59 number
 lacks_global [] h = refl
 lacks_global (b ∷ bs) h =
@@ -63,7 +63,7 @@ lacks_global (b ∷ bs) h =
     true_both _ _ (other (λ c. c == 43) 59 b refl plus)
     (lacks_all (λ d. is_digit d || is_separator d) 59 refl bs all)
 
--- the parts of what is written
+-- A text without `;` is its only part.
 parts_of_one : (bs : List ℕ) → Lacks 59 bs → parts 59 bs ≡ bs ∷ []
 parts_of_one [] h = refl
 parts_of_one (b ∷ bs) h =
@@ -90,7 +90,7 @@ parts_of_written p (q ∷ ps) h =
     parts_of_more p (q ++ written ps) here ∙ ap (λ (t : List (List ℕ)). p ∷ t)
     (parts_of_written q ps more)
 
--- a value
+-- If both branches are `None`, so is the choice.
 either_none : (b : Bool) (o : Option ℕ) → o ≡ None → cond b o o ≡ None
 either_none true o e = e
 either_none false o e = e
@@ -117,7 +117,7 @@ lacks_value wanted (b ∷ bs) h =
     at_next None e k by_cases = absurd (false≢true k)
     at_next (Some next) e k by_cases = true_both _ _ (some_at wanted b next e) (by_cases next k)
 
--- a parameter
+-- Holds if the name and the value of a part have the form of a parameter.
 abbrev Formed : List ℕ → Option Cut → Type 0
 Formed part found =
     (is_name (parameter_from part found).name && is_valued (parameter_from part found).name
@@ -149,7 +149,7 @@ each_lacks (p ∷ ps) h =
     let (here, more) = and_parts (is_parameter p) (list_all is_parameter ps) h in
     true_both _ _ (lacks_part p (cut 61 p) refl here) (each_lacks ps more)
 
--- the scheme
+-- A text whose lower case has no `:` has none itself.
 lacks_lower : (bs : List ℕ) → Lacks 58 (lower bs) → Lacks 58 bs
 lacks_lower [] h = refl
 lacks_lower (b ∷ bs) h =
@@ -165,7 +165,7 @@ scheme_cut scheme rest tel =
     let found = cut-found 58 scheme rest (lacks_places 58 scheme (lacks_lower scheme lacks)) in
     rw (found, tel) refl
 
--- the number part and the parameters
+-- The number part and the parameters of a written rest are those written.
 pub rest_cut : (number : List ℕ) (ps : List (List ℕ)) → Lacks 59 number → EachLacks ps ≡ true
     → (number_of (number ++ written ps) ≡ number) × (parameter_parts (number ++ written ps) ≡ ps)
 rest_cut number [] h each =

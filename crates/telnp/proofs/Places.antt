@@ -1,4 +1,4 @@
--- Places in a list.
+-- Inserting at a place in a list.
 use Rattle.std.proofs.Common.{◌≡◌, ℕ, ◌+◌, ◌≤◌, suc, Bool, true, false, not, cond, List, [], ◌∷◌, length, Option, Some, None, refl, ap, ◌∙◌, arith}
 use Rattle.std.specs.List.{insert, position, position_or_len}
 use Rattle.std.proofs.lemmas.Bool.Decides.{nat_tests}
@@ -26,7 +26,7 @@ insert_later : (x part : Part) (xs : List Part) (n : ℕ) → part_texts (insert
     ≡ part_text x ∷ part_texts (insert xs n part)
 insert_later x part xs n = let e : 1 + n ≡ suc n = omega arith in rw e refl
 
--- a parameter that is put at its place is placed
+-- A parameter inserted at its place is placed in order.
 pub placed_at : (part : Part) (xs : List Part)
     → part_texts (insert xs (position_or_len (λ q. goes_before (part_text part) (part_text q)) xs)
     part) ≡ placed (part_text part) (part_texts xs)

@@ -1,4 +1,4 @@
--- Parameters that are placed one by one stand in order.
+-- Parameters inserted one by one are in order.
 use Rattle.std.proofs.Common.{◌≡◌, ℕ, zero, suc, ◌+◌, ◌<◌, Bool, true, false, cond, List, [], ◌∷◌, ◌++◌, length, get_or, append-nil, refl, subst, arith}
 use Rattle.std.specs.List.Sorted.{IsPermutation, IsSortedBy}
 use Rattle.std.proofs.lemmas.List.Sorted.{IsPermutation-refl, IsPermutation-cons, IsPermutation-trans, IsPermutation-middle, IsPermutation-append_left, ranks_by}
@@ -16,7 +16,7 @@ placed_permutes p (q ∷ more) = at_test (goes_before p q) (placed_permutes p mo
     at_test false h = IsPermutation-trans (p ∷ q ∷ more) (q ∷ p ∷ more) (q ∷ placed p more)
         (IsPermutation-middle (p ∷ []) q more) (IsPermutation-cons q (p ∷ more) (placed p more) h)
 
--- the first of the list, if there is one, does not go before the other
+-- Holds if the first of the list, if there is one, does not go before the other.
 abbrev Follows : List ℕ → List (List ℕ) → Type 0
 Follows x [] = Unit {0}
 Follows x (y ∷ more) = goes_before y x ≡ false

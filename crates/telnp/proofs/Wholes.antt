@@ -1,4 +1,4 @@
--- A text that reads is a tel URI.
+-- A text that is read is a tel URI.
 use Rattle.std.proofs.Common.{◌≡◌, ℕ, ◌≤◌, Bool, true, false, cond, ◌==◌, List, [], ◌∷◌, ◌++◌, length, Option, Some, None, option_map, refl, ap, sym, ◌∙◌, arith, codes, append-nil, subst}
 use Rattle.std.specs.Prelude.{nat_lt}
 use Rattle.std.specs.List.{onto_first, list_all}
@@ -43,7 +43,7 @@ pub written-parts : (bs : List ℕ) → written (parts 59 bs) ≡ 59 ∷ bs
 written-parts [] = refl
 written-parts (b ∷ bs) = at_byte b bs (b == 59) refl (written-parts bs)
 
--- what stands in the rest
+-- The rest after `tel:` is its number part and its parameters.
 pub rest_whole : (rest : List ℕ) (found : Option Cut) → cut 59 rest ≡ found
     → rest ≡ number_of rest ++ written (parameter_parts rest)
 rest_whole rest None e = rw (e) (sym (append-nil rest))

@@ -1,4 +1,4 @@
--- What the definitions see of the values of the code.
+-- The models of tel URIs, parameters and parts of answers.
 use Rattle.std.specs.Prelude.{ℕ, List, [], ◌++◌, Option, map, option_map, codes}
 use Rattle.std.specs.Borrow.{Bor}
 use Rattle.std.specs.Option.{option_map_or}
@@ -12,7 +12,7 @@ use Rattle.telnp.specs.declared.parameter.Parameter.{Parameter as ParameterImpl}
 use Rattle.telnp.specs.declared.part.Part.{Part}
 use Rattle.telnp.specs.declared.part.Part.TheVariants.{Written, Npdi, RoutingNumber, Carrier}
 
--- the parameters in a text that follows the first `;`, if there is one
+-- The parameters in an optional text after the first `;`; none if there is no text.
 abbrev pub parts_in : Option (Bor (List ℕ)) → List (List ℕ)
 parts_in text = option_map_or (λ t. parts 59 t.now) text []
 
@@ -25,11 +25,11 @@ parameter_model p = record {
   value = option_map (λ (v : Bor (List ℕ)). v.now) p.value;
 }
 
--- the parameters that an iterator has left
+-- The parameters that an iterator has not yet returned.
 abbrev pub parameters_left : Parameters → List Parameter
 parameters_left s = map parameter_of (parts_in s.rest)
 
--- the text of a parameter of an answer
+-- The text of a parameter of an answer.
 abbrev pub part_text : Part → List ℕ
 part_text (Written text) = text.now
 part_text Npdi = codes "npdi"

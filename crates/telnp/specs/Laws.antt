@@ -1,4 +1,4 @@
--- What holds of the definitions, beside the functions that follow them.
+-- Theorems about the definitions, beyond the contracts of the functions.
 use Rattle.std.specs.Prelude.{◌≡◌, ◌↔◌, ℕ, ◌<◌, ◌≤◌, Bool, true, false, not, ◌==◌, List, ◌∷◌, ◌++◌, length, codes, Option, Some}
 use Rattle.std.specs.List.{list_all}
 use Rattle.std.specs.List.Sorted.{IsPermutation, IsSortedByKey}
@@ -12,18 +12,17 @@ use Rattle.telnp.specs.declared.fault.TelFault.{TelFault}
 use Rattle.telnp.specs.declared.fault.TelFault.TheVariants.{NotTel, BadNumber, BadParameter, ParameterTwice, LocalNumber, TooLong}
 use Rattle.telnp.specs.Answer.{order_key, kept, added, answer_parameters}
 
--- each text of the grammar has no fault, and is read into exactly these parts
+-- Holds if each text of the grammar has no fault, and is read into exactly these parts.
 abbrev pub TelUrisAreRead : Type 0
 TelUrisAreRead = (text number : List ℕ) (parameters : List (List ℕ))
     → IsTelUri text number parameters → IsRead text number parameters
 
--- none of the bytes is the mark
+-- Whether none of the bytes is the mark.
 abbrev pub holds_no : ℕ → List ℕ → Bool
 holds_no mark = list_all (λ b. not (b == mark))
 
--- a text of at most 2,048 bytes that begins with `tel:`, cut up at its semicolons: what stands
--- before the first of them,
--- and what stands behind each
+-- Holds if the text has at most 2,048 bytes and begins with `tel:`, and these are its parts between
+-- semicolons: the number part before the first, and the parameters after each.
 pub record IsCutUp (text number : List ℕ) (parameters : List (List ℕ)) : Type 0 where
   pub scheme : List ℕ
   pub whole : text ≡ scheme ++ 58 ∷ (number ++ written parameters)
@@ -32,12 +31,12 @@ pub record IsCutUp (text number : List ℕ) (parameters : List (List ℕ)) : Typ
   pub number_uncut : holds_no 59 number ≡ true
   pub parameters_uncut : list_all (holds_no 59) parameters ≡ true
 
--- the text begins with `tel:`, its number part is this one, and so are its parameters
+-- Holds if the text begins with `tel:` and its number part and parameters satisfy a relation.
 abbrev pub CutsInto : List ℕ → (List ℕ → List (List ℕ) → Type 0) → Type 0
 CutsInto text Holds = (number : List ℕ) × (parameters : List (List ℕ))
     × (IsCutUp text number parameters) × (Holds number parameters)
 
--- the text has this fault, and none that is tested for before it
+-- Holds if the text has this fault, and none that is tested before it.
 abbrev pub HasFault : TelFault → List ℕ → Type 0
 HasFault TooLong text = 2048 < length text
 HasFault NotTel text = (length text ≤ 2048) × ((scheme rest : List ℕ) → text ≡ scheme ++ 58 ∷ rest
@@ -52,19 +51,18 @@ HasFault ParameterTwice text = CutsInto text (λ number parameters.
     (is_global number ≡ true) × (list_all is_parameter parameters ≡ true)
     × (repeats parameters ≡ true))
 
--- each fault is told exactly where it stands in the order of tests
+-- Holds if each fault is reported exactly in the order of tests.
 abbrev pub FaultsAreInOrder : Type 0
 FaultsAreInOrder = (text : List ℕ) (fault : TelFault)
     → (fault_of text ≡ Some fault) ↔ HasFault fault text
 
--- the same parameters, each as it is written, with the ranks of their names rising, and under one
--- rank their names in
--- lower case
+-- Holds if the second list has the same parameters, unchanged, ordered by the ranks of their names,
+-- and by their names in lower case if the ranks are equal.
 pub record IsInOrder (parameters ordered : List (List ℕ)) : Type 0 where
   pub same : IsPermutation parameters ordered
   pub sorted : IsSortedByKey order_key (slice_cmp nat_cmp) ordered
 
--- the parameters of an answer are those that are kept and those that are added, in order
+-- Holds if the parameters of an answer are those kept and those added, in order.
 abbrev pub AnswersAreInOrder : Type 0
 AnswersAreInOrder = (parameters : List (List ℕ)) (routing : Option Routing) →
     IsInOrder (kept parameters ++ added parameters routing) (answer_parameters parameters routing)

@@ -1,4 +1,4 @@
-//! The text that answers a query.
+//! Writes the text that answers a query.
 
 ghost use Rattle.std.specs.Prelude.{◌≡◌, ◌≤◌, ◌++◌, [], OnOk, IfOk, codes, length, option_map, position, string_bytes, string_capacity};
 ghost use Rattle.std.specs.List.{position_or_len};
@@ -25,18 +25,18 @@ impl TelUri<'_> {
     ghost use Rattle.telnp.specs.Answer.{answer_text, Extends};
     ghost use Rattle.telnp.specs.Abstraction.{uri_of};
 
-    /// The text that answers a query by this URI, after a look-up that found a routing or none.
+    /// Appends the answer to a query by this URI, given the routing that the look-up found, if any.
     ///
-    /// A text with `npdi` comes back as it is, byte for byte. Any other has `npdi` added, which
-    /// says that the number has been looked up, and with a routing `rn` and, where the text has no
-    /// `cic`, the routing's `cic`, each with the country code 1; the text's own `rn` and
-    /// `rn-context` are dropped (RFC 4694, section 5). All other parameters are kept as they are
-    /// written. First come `ext`, `isub` and `phone-context`, and then all others by their names in
-    /// lower case (RFC 3966, section 3).
+    /// A text with `npdi` is appended unchanged. Any other gets `npdi`, which says that the number
+    /// has been looked up, and with a routing `rn`, and `cic` if the text has none, each with the
+    /// country code 1. Its own `rn` and `rn-context` are left out (RFC 4694, section 5); other
+    /// parameters stay as written. `ext`, `isub` and `phone-context` come first, then all others by
+    /// name in lower case (RFC 3966, section 3).
     ///
-    /// The answer is appended. The only fault is want of memory, and then a front of the answer may
-    /// have been appended. A text without parameters takes no memory but that of the `String`; any
-    /// other takes a `Vec` of spans.
+    /// # Errors
+    ///
+    /// `AllocError` if an allocation fails; a prefix of the answer may have been appended. Only a
+    /// text with parameters needs a `Vec` besides the `String`.
     pub fn write_answer(
         &self,
         alloc: Global,
@@ -88,7 +88,7 @@ fn write_carrier(cic: Option<Cic>, out: &mut String) -> Result<(), AllocError>
     cic.write(out)
 }
 
-// What is added, in order, where the text has no parameters.
+// Appends what the answer adds, in order, to a text without parameters.
 fn write_added(routing: Option<Routing>, out: &mut String) -> Result<(), AllocError>
     ensures ok { OnOk result (string_bytes out.new
         ≡ string_bytes out.old
@@ -103,7 +103,7 @@ fn write_added(routing: Option<Routing>, out: &mut String) -> Result<(), AllocEr
     write_routing_number(routing.lrn, out)
 }
 
-// The parameters of the answer, in order, where the text has these.
+// Returns the parameters of the answer, in order, to a text with these parameters.
 fn answer_parts<'a>(
     alloc: Global,
     parameters: &'a str,
@@ -126,7 +126,7 @@ fn answer_parts<'a>(
     Ok(sorted)
 }
 
-// Whether a query's parameter is kept: all are but `rn` and `rn-context`.
+// Returns whether a query's parameter is kept: all except `rn` and `rn-context`.
 fn is_kept(part: &str) -> bool
     ensures { result ≡ is_kept part.now }
 {
@@ -134,7 +134,7 @@ fn is_kept(part: &str) -> bool
     !(same_name(name, "rn") || same_name(name, "rn-context"))
 }
 
-// Places each parameter that is kept.
+// Inserts each parameter that is kept.
 fn place_kept<'a>(sorted: &mut Vec<Part<'a>>, parameters: &'a str) -> Result<(), AllocError>
     ensures { OnOk result (part_texts sorted.new.items
         ≡ all_placed (part_texts sorted.old.items) (kept (parts 59 parameters.now))) }
@@ -153,7 +153,7 @@ fn first_after(sorted: &[Part], part: &Part) -> Option<usize>
     sorted.iter().position(|q| part.goes_before(q))
 }
 
-// Where the parameter is put: in front of the first that it goes before.
+// Returns the index to insert the parameter at: before the first that it goes before.
 fn place_of(sorted: &[Part], part: &Part) -> usize
     ensures place { result
         ≡ position_or_len (λ q. goes_before (part_text part.now) (part_text q)) sorted.now }
@@ -174,7 +174,7 @@ fn place<'a>(sorted: &mut Vec<Part<'a>>, part: Part<'a>) -> Result<(), AllocErro
     Ok(())
 }
 
-// Appends each parameter behind a `;`.
+// Appends each parameter after a `;`.
 fn write_parts(out: &mut String, parts: &[Part]) -> Result<(), AllocError>
     ensures ok { OnOk result
         (string_bytes out.new ≡ string_bytes out.old ++ written (part_texts parts.now)) }
@@ -188,8 +188,8 @@ fn write_parts(out: &mut String, parts: &[Part]) -> Result<(), AllocError>
     Ok(())
 }
 
-/// The parameters of an answer are those that are kept and added, each as it is written, in order:
-/// `ext`, `isub` and `phone-context` first, and then all others by their names in lower case.
+/// States that the parameters of an answer are those kept, each as written, and those added, in
+/// order: `ext`, `isub` and `phone-context` first, then all others by name in lower case.
 pub fn answers_are_in_order()
     ensures { AnswersAreInOrder }
 {}

@@ -1,9 +1,9 @@
-//! Tel URIs with number portability parameters, and what a query by one is answered.
+//! Tel URIs with number portability parameters, and the answers to queries by them.
 //!
-//! A tel URI is the text of RFC 3966, as `tel:+1-201-555-0123`, here with a global number. RFC 4694
-//! adds the parameters of number portability: `npdi`, that the number has been looked up, `rn`, the
-//! routing number, and `cic`, a carrier's code. `TelUri::read` takes no memory, and what it answers
-//! are spans of the text; `TelUri::write_answer` writes the text with what a look-up has found.
+//! A tel URI is a text of RFC 3966, such as `tel:+1-201-555-0123`, here with a global number. RFC
+//! 4694 adds `npdi` (the number has been looked up), `rn` (the routing number) and `cic` (a
+//! carrier's identification code). `TelUri::read` allocates nothing and returns spans of the text;
+//! `TelUri::write_answer` writes the text with what a look-up has found.
 #![tactic(auto)]
 
 mod answer;

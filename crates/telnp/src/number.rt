@@ -1,4 +1,4 @@
-//! The number part.
+//! Reads the number part of a tel URI.
 
 ghost use Rattle.std.specs.Prelude.{◌≡◌, ◌≢◌, ◌||◌, ℕ, not, length, IfSome, IfNone};
 ghost use Rattle.std.specs.List.{list_all, list_any};
@@ -54,7 +54,7 @@ fn is_local(number: &[u8]) -> bool
     are_of_local(number) && has_local_byte(number)
 }
 
-/// What is wrong with a number part, if it is no global number.
+/// Returns the fault of a number part, or `None` if it is a global number.
 pub fn number_fault(number: &[u8]) -> Option<TelFault>
     ensures { result ≡ fault_in_number number.now }
 {
@@ -67,7 +67,7 @@ pub fn number_fault(number: &[u8]) -> Option<TelFault>
     }
 }
 
-// The digits among the bytes, where there are eleven.
+// Returns the digits among the bytes, if there are eleven.
 fn eleven_digits(number: &[u8]) -> Option<[u8; 11]>
     ensures some { IfSome result (λ digits. digits_in number.now ≡ digits) }
     ensures none { IfNone result (length (digits_in number.now) ≢ 11) }
@@ -90,7 +90,7 @@ fn eleven_digits(number: &[u8]) -> Option<[u8; 11]>
     }
 }
 
-// The telephone number that the bytes write.
+// Parses the bytes as a telephone number.
 fn read_tn(digits: &[u8]) -> Option<Tn>
     ensures some { IfSome result (λ tn. digits.now ≡ tn_text tn.number) }
     ensures none { IfNone result ((n : ℕ) → IsTn n → digits.now ≢ tn_text n) }
@@ -101,7 +101,8 @@ fn read_tn(digits: &[u8]) -> Option<Tn>
     }
 }
 
-/// The telephone number behind the country code 1, where the digits are these eleven.
+/// Returns the telephone number after the country code 1, if the digits of the number part are
+/// these eleven.
 pub fn tn_in(number: &[u8]) -> Option<Tn>
     ensures some { IfSome result (λ tn. HasTn number.now tn.number) }
     ensures none { IfNone result ((n : ℕ) → IsTn n → ¬ (HasTn number.now n)) }

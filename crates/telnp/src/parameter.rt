@@ -1,4 +1,4 @@
-//! One parameter.
+//! Reads one parameter of a tel URI.
 
 ghost use Rattle.std.specs.Prelude.{◌≡◌};
 ghost use Rattle.std.specs.List.{list_all};
@@ -9,15 +9,15 @@ ghost use Rattle.telnp.specs.Abstraction.{parameter_model};
 use crate::bytes::{is_hex, is_name_byte, is_value_byte};
 use crate::text::{cut_at, same_name};
 
-/// A parameter of a tel URI: its name, in either case as it is written, and behind the first `=`
-/// its value, if it has one. Both are spans of the text.
+/// A parameter of a tel URI: its name in its original case, and the value after the first `=`, if
+/// it has one. Both are spans of the text.
 #[derive(Clone, Copy, Debug)]
 pub struct Parameter<'a> {
     pub name: &'a str,
     pub value: Option<&'a str>,
 }
 
-/// The parameter of a text that holds no `;`.
+/// Returns the parameter in a text that has no `;`.
 pub fn parameter_of(part: &str) -> Parameter<'_>
     ensures { parameter_model result ≡ parameter_of part.now }
 {
@@ -33,7 +33,7 @@ pub fn parameter_of(part: &str) -> Parameter<'_>
     }
 }
 
-/// The name of a parameter.
+/// Returns the name of a parameter.
 pub fn name_of(part: &str) -> &str
     ensures { result.now ≡ name_of part.now }
 {
@@ -55,7 +55,8 @@ fn is_name(name: &[u8]) -> bool
     !name.is_empty() && are_of_name(name)
 }
 
-// How many hexadecimal digits are wanted after a byte, where it may stand.
+// Returns how many hexadecimal digits must follow byte `b`, if it is allowed after a byte that
+// `wanted` of them must follow.
 fn wanted_after(wanted: u8, b: u8) -> Option<u8>
     ensures { result ≡ wanted_after wanted b }
 {
@@ -92,7 +93,7 @@ fn wants_value(name: &str) -> bool
         || same_name(name, "cic-context")
 }
 
-/// Whether a text that holds no `;` has the form of a parameter.
+/// Returns whether a text that has no `;` has the form of a parameter.
 pub fn is_parameter(part: &str) -> bool
     ensures { result ≡ is_parameter part.now }
 {

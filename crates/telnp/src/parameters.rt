@@ -1,4 +1,4 @@
-//! The parameters of a text, which stand between its semicolons.
+//! Reads the parameters of a tel URI, separated by semicolons.
 
 ghost use Rattle.std.specs.Prelude.{◌≡◌, ◌∷◌, [], ◌<◌, length, IfSome};
 ghost use Rattle.std.specs.List.{list_all};
@@ -16,7 +16,7 @@ fn are_parameters(parameters: &str) -> bool
     parameters.split(';').all(|part| is_parameter(part))
 }
 
-/// Whether one of the parameters has this name.
+/// Returns whether one of the parameters has this name, ignoring case.
 pub fn has_name(name: &str, parameters: &str) -> bool
     ensures { result ≡ has_name name.now (parts 59 parameters.now) }
 {
@@ -25,7 +25,7 @@ pub fn has_name(name: &str, parameters: &str) -> bool
         .any(|part| same_name(name_of(part), name))
 }
 
-// The first parameter, and the text of the others.
+// Returns the first parameter, and the text of the others if there are any.
 fn first_part(parameters: &str) -> (&str, Option<&str>)
     ensures parts { parts 59 parameters.now
         ≡ result.0.now ∷ option_map_or (λ r. parts 59 r.now) result.1 [] }
@@ -37,7 +37,7 @@ fn first_part(parameters: &str) -> (&str, Option<&str>)
     }
 }
 
-// How many parameters have this name.
+// Returns how many parameters have this name, ignoring case.
 fn times(name: &str, parameters: &str) -> usize
     ensures { result ≡ times name.now (parts 59 parameters.now) }
 {
@@ -55,7 +55,7 @@ fn repeats(parameters: &str) -> bool
         .any(|part| times(name_of(part), parameters) > 1)
 }
 
-/// What is wrong with the parameters.
+/// Returns the fault of the parameters, if they have one.
 pub fn parameters_fault(parameters: &str) -> Option<TelFault>
     ensures { result ≡ fault_in_parts (parts 59 parameters.now) }
 {
@@ -68,7 +68,7 @@ pub fn parameters_fault(parameters: &str) -> Option<TelFault>
     }
 }
 
-/// The parameters of a tel URI, in order.
+/// An iterator over the parameters of a tel URI, in the order of the text.
 #[derive(Clone, Copy)]
 pub struct Parameters<'a> {
     pub(crate) rest: Option<&'a str>,

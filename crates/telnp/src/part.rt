@@ -1,4 +1,4 @@
-//! A parameter of an answer.
+//! One parameter of an answer.
 
 ghost use Rattle.std.specs.Prelude.{◌≡◌, ◌∷◌};
 ghost use Rattle.std.specs.Cmp.Lexicographic.{slice_cmp};
@@ -12,7 +12,7 @@ use numbers::{Cic, Lrn};
 use std::alloc::AllocError;
 use std::cmp::Ordering;
 
-/// A parameter of an answer: one of the query's as it is written there, or one that is added.
+/// A parameter of an answer: one of the query's as written there, or one that is added.
 #[derive(Clone, Copy)]
 pub enum Part<'a> {
     Written(&'a str),
@@ -27,7 +27,7 @@ impl<'a> Part<'a> {
     ghost use Rattle.telnp.specs.Grammar.{name_of};
     ghost use Rattle.telnp.specs.Abstraction.{part_text};
 
-    // The parameter's name.
+    // Returns the parameter's name.
     fn name(&self) -> &str
         ensures { result.now ≡ name_of (part_text self.now) }
     {
@@ -39,15 +39,18 @@ impl<'a> Part<'a> {
         }
     }
 
-    /// Whether this parameter comes before another.
+    /// Returns whether this parameter comes before another.
     pub fn goes_before(&self, other: &Part) -> bool
         ensures { result ≡ goes_before (part_text self.now) (part_text other.now) }
     {
         order_of(self.name(), other.name()) == Ordering::Less
     }
 
-    /// Appends the parameter without the `;` in front of it, or a front of it where there is no
-    /// memory.
+    /// Appends the parameter without a leading `;`.
+    ///
+    /// # Errors
+    ///
+    /// `AllocError` if an allocation fails; a prefix of the parameter may have been appended.
     pub fn write(&self, out: &mut String) -> Result<(), AllocError>
         ensures ok { OnOk result
             (string_bytes out.new ≡ string_bytes out.old ++ part_text self.now) }
@@ -69,7 +72,7 @@ impl<'a> Part<'a> {
     }
 }
 
-// The names that come first, and after them all others.
+// Returns the rank of a name: `ext`, `isub` and `phone-context` first, then all others.
 fn rank(name: &str) -> u8
     ensures { result ≡ rank name.now }
 {
@@ -84,7 +87,7 @@ fn rank(name: &str) -> u8
     }
 }
 
-// How parameters of these names stand in an answer.
+// Compares the names of two parameters by their order in an answer.
 fn order_of(a: &str, b: &str) -> Ordering
     ensures { result ≡ slice_cmp nat_cmp (rank a.now ∷ lower a.now) (rank b.now ∷ lower b.now) }
 {

@@ -1,4 +1,4 @@
-//! A tel URI and its parts.
+//! Tel URIs and their parts.
 
 ghost use Rattle.std.specs.Prelude.{◌≡◌, [], option_map};
 ghost use Rattle.std.specs.Option.{option_map_or};
@@ -11,8 +11,8 @@ use crate::parameters::{Parameters, has_name, parameters_fault};
 use crate::text::{cut_at, same_name};
 use numbers::Tn;
 
-/// A text that is a tel URI with a global number (RFC 3966, section 3), with its number part and
-/// its parameters. It borrows the text.
+/// A tel URI with a global number (RFC 3966, section 3), with its number part and its parameters.
+/// It borrows the text.
 #[derive(Clone, Copy)]
 pub struct TelUri<'a> {
     pub(crate) text: &'a str,
@@ -20,7 +20,7 @@ pub struct TelUri<'a> {
     pub(crate) parameters: Option<&'a str>,
 }
 
-/// How many bytes a text has at most.
+/// The most bytes that a text may have.
 const LONGEST: usize = 2048;
 
 impl<'a> TelUri<'a> {
@@ -32,16 +32,17 @@ impl<'a> TelUri<'a> {
     ghost use Rattle.telnp.specs.Uri.{IsTelUri};
     ghost use Rattle.telnp.specs.Abstraction.{uri_of, parts_in, parameters_left};
 
-    /// Reads a text, which takes no memory.
+    /// Parses a tel URI. Allocates nothing.
     ///
-    /// The text is `tel:`, in letters of either case, a number part up to the first `;`, and behind
-    /// each `;` a parameter. The number part is `+` with digits and the separators `-`, `.`, `(`
-    /// and `)`. A parameter is a name, and after `=` a value if it has one (RFC 3966, section 3);
-    /// `npdi` has none, and `rn`, `cic` and their contexts have one (RFC 4694, section 4).
+    /// The text is `tel:` in either case, a number part up to the first `;`, and a parameter after
+    /// each `;`. The number part is `+` with digits and the separators `-`, `.`, `(` and `)`. A
+    /// parameter is a name, and a value after `=` if it has one (RFC 3966, section 3); `npdi` has
+    /// none, and `rn`, `cic` and their contexts have one (RFC 4694, section 4).
     ///
-    /// The first of these faults comes back: `TooLong` above 2,048 bytes, `NotTel`, then for the
-    /// number part `LocalNumber` or `BadNumber`, `BadParameter` for any parameter's form, and
-    /// `ParameterTwice`.
+    /// # Errors
+    ///
+    /// The first of: `TooLong` above 2,048 bytes, `NotTel`, `LocalNumber` or `BadNumber` for the
+    /// number part, `BadParameter` for the form of any parameter, `ParameterTwice`.
     #[tactic(auto, using(crate::proofs::Wholes::uri_from_read))]
     pub fn read(text: &'a str) -> Result<TelUri<'a>, TelFault>
         ensures text { IfOk result (λ u. (uri_of u).text ≡ text.now) }
@@ -69,7 +70,7 @@ impl<'a> TelUri<'a> {
         }
     }
 
-    /// Whether the parameter `npdi` is there, which says that the number has been looked up already
+    /// Returns whether the URI has `npdi`, which says that the number has already been looked up
     /// (RFC 4694, section 5).
     pub fn has_npdi(&self) -> bool
         ensures { result ≡ has_name (codes "npdi") (uri_of self.now).parameters }
@@ -77,8 +78,8 @@ impl<'a> TelUri<'a> {
         self.has_parameter("npdi")
     }
 
-    /// The telephone number, where the digits of the number part are the country code 1 and its
-    /// ten.
+    /// Returns the telephone number, if the digits of the number part are the country code 1 and
+    /// ten digits of a valid number.
     pub fn tn(&self) -> Option<Tn>
         ensures some { IfSome result (λ tn. HasTn (uri_of self.now).number tn.number) }
         ensures none { IfNone result ((n : ℕ) → IsTn n → ¬ (HasTn (uri_of self.now).number n)) }
@@ -86,8 +87,7 @@ impl<'a> TelUri<'a> {
         tn_in(self.number.as_bytes())
     }
 
-    /// The parameters in the order of the text, each with its name and its value as they are
-    /// written.
+    /// Returns the parameters in the order of the text, each with its name and value as written.
     pub fn parameters(&self) -> Parameters<'a>
         ensures { parameters_left result ≡ map parameter_of (uri_of self.now).parameters }
     {
@@ -96,7 +96,7 @@ impl<'a> TelUri<'a> {
         }
     }
 
-    /// Whether a parameter has this name, in letters of either case.
+    /// Returns whether a parameter has this name, ignoring case.
     pub(crate) fn has_parameter(&self, name: &str) -> bool
         ensures { result ≡ has_name name.now (uri_of self.now).parameters }
     {
@@ -107,7 +107,7 @@ impl<'a> TelUri<'a> {
     }
 }
 
-// What follows `tel:`.
+// Returns the rest of a text after `tel:`, if it begins with that.
 fn after_scheme(text: &str) -> Option<&str>
     ensures { option_map (λ s. s.now) result ≡ rest_of text.now }
 {
@@ -141,12 +141,13 @@ fn optional_fault(parameters: Option<&str>) -> Option<TelFault>
     }
 }
 
-/// Each text of the grammar is read: it has no fault, and its parts are those of the grammar.
+/// States that each text of the grammar is read: it has no fault, and its parts are those of the
+/// grammar.
 pub fn tel_uris_are_read()
     ensures { TelUrisAreRead }
 {}
 
-/// Each fault is told exactly where the order of tests puts it.
+/// States that each fault is reported exactly in the order of tests.
 pub fn faults_are_in_order()
     ensures { FaultsAreInOrder }
 {}

@@ -1,5 +1,4 @@
--- What the code makes of a version in the minute at which its status ends is what the definitions'
--- judging makes of it.
+-- At the end of a version's status, the code's version is the model's judged one.
 use Rattle.std.proofs.Common.{◌≡◌, ℕ, Bool, true, if◌then◌else◌, List, [], ◌∷◌, refl, ap, sym, subst, ◌∙◌}
 use Rattle.model.specs.Abstraction.{status_of}
 use Rattle.model.specs.Statuses.{Status, Pending, Conflict, CancelPending, Sending, Active, PartialFailure, Failed, DisconnectPending, Old, Canceled}
@@ -12,7 +11,7 @@ use Rattle.version.specs.declared.version.Version.{Version as VersionImpl}
 use Rattle.version.specs.Firing.{fired, outcome_by, is_newest_acknowledged, IsJudged}
 use Rattle.version.specs.Abstraction.{version_of, HasModel, Becomes}
 
--- how the newest broadcast closes
+-- The flag decides the outcome of the newest broadcast at the end of its window.
 pub outcome_seen : (bs : List Broadcast)
     → outcome_at_end bs ≡ outcome_by (is_newest_acknowledged bs)
 outcome_seen [] = refl
@@ -23,7 +22,7 @@ outcome_seen (b ∷ bs) = by_cases b.acknowledged
     by_cases [] = refl
     by_cases (c ∷ cs) = refl
 
--- what a status ends in
+-- An expired status ends as `fired` says.
 pub ended_fired : (w : WindowSet) (all_carriers : List ℕ) (minute : ℕ) (v : Version)
     (status : Status)
     → version_on_expiry w all_carriers minute v status
@@ -41,7 +40,7 @@ ended_fired w all_carriers minute v (DisconnectPending release) = refl
 ended_fired w all_carriers minute v Old = refl
 ended_fired w all_carriers minute v Canceled = refl
 
--- where the minute ends the status, judging is that end
+-- If the minute ends the status, judging is that end.
 judged_ends : (w : WindowSet) (all_carriers : List ℕ) (minute : ℕ) (v : Version)
     → is_expired minute v v.status ≡ true → judged_version w all_carriers minute v
     ≡ version_on_expiry w all_carriers

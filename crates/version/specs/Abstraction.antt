@@ -1,4 +1,4 @@
--- What the definitions see of the code's versions, windows and phases.
+-- The models of versions, windows and phases.
 use Rattle.std.specs.Prelude.{ℕ, ◌≡◌, List, [], Option, option_map}
 use Rattle.numbers.specs.Routings.{Routing}
 use Rattle.numbers.specs.Abstraction.{minute_of, routing_of}
@@ -20,8 +20,8 @@ minutes_of = option_map minute_of
 abbrev pub routings_of : Option RoutingImpl → Option Routing
 routings_of = option_map routing_of
 
--- a version of the code with its id, its broadcasts and the windows of the set that it holds, which
--- are kept elsewhere
+-- The model of a version with its id, its broadcasts and the windows of the set that it holds,
+-- which are kept elsewhere.
 abbrev pub version_of : (id : ℕ) → (broadcasts : List Broadcast) → (windows : Windows) → VersionImpl
     → Version
 version_of id broadcasts windows v = record {
@@ -41,11 +41,11 @@ version_of id broadcasts windows v = record {
   broadcasts = broadcasts;
 }
 
--- the same for what asks neither for the id nor for the broadcasts
+-- The model for uses that need neither the id nor the broadcasts.
 abbrev pub model_with_windows : Windows → VersionImpl → Version
 model_with_windows windows v = version_of 0 [] windows v
 
--- and for what does not ask for the windows either
+-- The windows for uses that do not need them either.
 abbrev pub no_windows : Windows
 no_windows = record {
   initial_concurrence = 0;
@@ -62,12 +62,12 @@ no_windows = record {
 abbrev pub model_of : VersionImpl → Version
 model_of v = model_with_windows no_windows v
 
--- the code's version is this one, but for what is kept elsewhere
+-- Holds if the code's version has this model, apart from what is kept elsewhere.
 abbrev pub HasModel : VersionImpl → Version → Type 0
 HasModel u v = version_of v.id v.broadcasts v.held.windows u ≡ v
 
--- the change makes the version v to u, with any id, any broadcasts and any windows of the set that
--- v holds. The subject stays
+-- Holds if the change turns version v into u, with any id, any broadcasts and any windows of the
+-- set that v holds. The subject stays.
 pub record Becomes (change : Version → Version) (v u : VersionImpl) : Type 0 where
   pub subject : u.subject ≡ v.subject
   pub version : (id : ℕ) (broadcasts : List Broadcast) (windows : Windows)

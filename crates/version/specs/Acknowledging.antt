@@ -1,4 +1,4 @@
--- What an acknowledgement makes of its version.
+-- The effect of an acknowledgement on its version.
 use Rattle.std.specs.Prelude.{ℕ, Bool, true, false, ◌&&◌, ◌==◌, if◌then◌else◌}
 use Rattle.model.specs.Statuses.{Status, Pending, Conflict, CancelPending, Sending, Active, PartialFailure, Failed, DisconnectPending, Old, Canceled}
 use Rattle.model.specs.Windows.{WindowSet}
@@ -6,7 +6,7 @@ use Rattle.model.specs.Versions.{Version}
 use Rattle.model.specs.Changes.{completed}
 use Rattle.version.specs.declared.version.Version.{Version as VersionImpl}
 
--- the last acknowledgement of the version's newest attempt
+-- Whether the acknowledgement is the last one of the version's newest attempt.
 abbrev pub completes : VersionImpl → (attempt : ℕ) → (is_last : Bool) → Bool
 completes v attempt is_last = is_last && (v.attempt == attempt)
 
@@ -22,7 +22,7 @@ is_sending (DisconnectPending release) = false
 is_sending Old = false
 is_sending Canceled = false
 
--- the version whose newest broadcast got its last acknowledgement, or stays
+-- The version after the last acknowledgement of its newest broadcast, or unchanged.
 abbrev pub completed_if : WindowSet → Bool → (minute : ℕ) → Version → Version
 completed_if present completes minute v = if completes then completed present v.status minute v
     else v

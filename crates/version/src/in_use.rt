@@ -1,7 +1,7 @@
 //! Numbers of a block that are in use.
 use numbers::Tn;
 
-/// A number, and which of its versions stand: one in force, an open one, or both.
+/// A number, and whether it has a version in force and an open one.
 #[derive(Clone, Copy, Debug, PartialEq, Eq)]
 pub struct NumberInUse {
     pub tn: Tn,

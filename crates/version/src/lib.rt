@@ -1,4 +1,4 @@
-//! One number's machine: subscription versions, and what commands make of them.
+//! Subscription versions: the effects of commands, acknowledgements and deadlines on each.
 #![tactic(auto)]
 
 mod acknowledgement;

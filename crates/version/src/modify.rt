@@ -1,4 +1,4 @@
-//! A modify: the provider routes a ported number anew.
+//! Modifies: the provider changes the routing of a ported number.
 ghost use Rattle.std.specs.Prelude.{◌≡◌, ◌&&◌, not, IfOk};
 ghost use Rattle.numbers.specs.Abstraction.{routing_of, subject_of};
 ghost use Rattle.delivery.specs.Refused.{refusal_in};
@@ -12,7 +12,8 @@ use model::{Refusal, Send, Status};
 use numbers::{Minute, Routing, Spid, Subject};
 use windows::WindowSet;
 
-// Of a block's version the routing number is not looked at.
+// Returns whether a number's version would get the routing number of another carrier. The routing
+// number of a block's version is not tested.
 fn is_lrn_bad(version: &Version, is_lrn_good: bool) -> bool
     ensures { result ≡ (is_number (subject_of version.now.subject) && not is_lrn_good) }
 {
@@ -20,11 +21,12 @@ fn is_lrn_bad(version: &Version, is_lrn_good: bool) -> bool
 }
 
 impl Version {
-    // Its provider routes it anew: it sends a modify, and keeps its routing until that closes.
+    // Decides the modify by the version's provider: it sends the modify, and keeps its routing
+    // until that closes.
     //
-    // Refused with `BadLrn` where the routing number is not its provider's, `NotYours` where the
-    // caller is not its provider, `Busy` beside an open version, `WrongStatus` where it is not
-    // active, and `Full` where no attempt is left.
+    // Refusals, in order: `BadLrn` if the routing number is not its provider's; `NotYours` if the
+    // caller is not its provider; `Busy` if the subject has an open version; `WrongStatus` if it is
+    // not active; `Full` if no attempt is left.
     pub(crate) fn modified(
         &self,
         caller: Spid,

@@ -38,7 +38,7 @@ some_map P Q (x ∷ xs) f (inr q) = inr (some_map P Q xs f q)
 
 -- ---- the lesser of two faults is one of them, and no greater than either
 
--- some fault, no greater than this one
+-- Holds if there is a fault, and it is no greater than this one.
 abbrev IsAtMost : Option WindowFault → WindowFault → Type 0
 IsAtMost None g = ⊥
 IsAtMost (Some f) g = number_of f ≤ number_of g
@@ -182,7 +182,7 @@ fault_keys ms h =
 
 -- ---- the faults of a table
 
--- the fault at a name
+-- The fault at a name.
 abbrev fault_by : Members → List ℕ → Option WindowFault
 fault_by ms name = fault_in (get_member name ms)
 

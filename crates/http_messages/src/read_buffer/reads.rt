@@ -1,4 +1,4 @@
-//! One read into the rest of a buffer.
+//! Reads once into the rest of a buffer.
 ghost use Rattle.std.specs.Prelude.{◌≡◌, ◌≢◌, ◌<◌, length, take, IfOk, IfErr, OnErr};
 ghost use Rattle.std.specs.Io.KnownBytes.{Keeps};
 ghost use Rattle.std.specs.IoError.{error_kind};
@@ -7,7 +7,7 @@ ghost use Rattle.http_messages.specs.ReadBuffer.{ReadsAt};
 use std::io;
 use std::io::{ErrorKind, Read};
 
-// Reads once into the buffer from `start` on.
+// Reads once into `buf`, from `start` on.
 fn read_once<R: Read>(reader: &mut R, buf: &mut [u8], start: usize) -> io::Result<usize>
     requires { start < length buf.old }
     ensures size { length buf.new ≡ length buf.old }
@@ -20,8 +20,8 @@ fn read_once<R: Read>(reader: &mut R, buf: &mut [u8], start: usize) -> io::Resul
     Ok(n)
 }
 
-/// Reads into the buffer from `start` on. A read that is interrupted is tried again, as often as
-/// the standard's own readers try.
+/// Reads into `buf`, from `start` on. Retries an interrupted read, as often as the standard
+/// library's own readers do.
 pub fn read_at<R: Read>(reader: &mut R, buf: &mut [u8], start: usize) -> io::Result<usize>
     requires { start < length buf.old }
     ensures ok { IfOk result (λ n. ReadsAt buf.old buf.new start n (R.remaining reader.old)

@@ -1,4 +1,4 @@
-//! Copies that are compared with the register, and what pooled numbers export.
+//! Tests audits of copies, and the export of pooled numbers.
 use crate::commands::{does, routed_to};
 use crate::faulty::{Filling, MUCH, Piecewise};
 use crate::files::started::{Desk, acknowledge_all, exports, ported, runs, started, whole_within};
@@ -8,7 +8,7 @@ use pool::Assignment;
 use requests::Command;
 use std::alloc::Global;
 
-/// A carrier, its copy, the findings, and what the audit answers.
+/// A carrier, its copy, the findings, and the result of the audit.
 type Row<'a> = (&'a str, &'a str, &'a str, Result<u64, BulkFault>);
 
 const STRANGER: Result<u64, BulkFault> = Err(BulkFault {
@@ -26,7 +26,7 @@ const NO_COPY: Result<u64, BulkFault> = Err(BulkFault {
     rows: 0,
 });
 
-// The number is in force at 2025440000, and its download waits for CCCC.
+// The number is in force at 2025440000, and its download is pending for CCCC.
 static ROWS: [Row<'static>; 20] = [
     (
         "AAAA",
@@ -138,7 +138,7 @@ fn is_audited(alloc: Global, register: &mut Desk, row: &Row<'_>) -> Option<bool>
     Some(audited == result && written.as_slice() == findings.as_bytes())
 }
 
-// The first copy that is compared otherwise.
+// Returns the first copy with another result.
 fn audited_otherwise_in(alloc: Global, register: &mut Desk) -> Option<&'static str> {
     for row in &ROWS {
         if is_audited(alloc, register, row) != Some(true) {
@@ -176,7 +176,7 @@ fn audit_of_port(
     Some(audit(alloc, &mut register, carrier, reader, writer))
 }
 
-// The reader fails at a place: nothing is written.
+// Returns whether a reader that fails at a place leaves nothing written.
 fn is_read_so(alloc: Global, place: usize) -> Option<bool> {
     let reader = Piecewise {
         rest: COPY.as_bytes().get(..place)?,
@@ -195,7 +195,7 @@ fn is_read_so(alloc: Global, place: usize) -> Option<bool> {
     Some(audited == unread && writer.bytes.is_empty())
 }
 
-// The writer has so much room: the front of the findings is written.
+// Returns whether a writer that takes `room` bytes has a prefix of the findings.
 fn is_written_so(alloc: Global, room: usize) -> Option<bool> {
     let reader = Piecewise {
         rest: COPY.as_bytes(),
@@ -239,7 +239,7 @@ fn an_audit_that_breaks_off(rt: HostRuntime) {
     assert!(rt; first_wrong_place(rt.alloc()) == None);
 }
 
-// The lines of the block that are in use.
+// Returns the lines of the block that are in use.
 fn used(alloc: Global) -> Option<Vec<Line>> {
     let mut used = Vec::new(alloc);
     used.push(Line::read("001")?).ok()?;
@@ -274,7 +274,8 @@ const AGAIN: &str =
 
 const SENT_AGAIN: &str = "row,subject,result,id\n1,2025337002,ok,2\n";
 
-// A block with two numbers in use, the second of which is sent again when nobody acknowledged it.
+// Donates a block with two numbers in use. The second is sent again after no carrier acknowledged
+// it.
 fn pool_block(alloc: Global, register: &mut Desk) -> Option<()> {
     donate(alloc, register)?;
     acknowledge_all(register, 1, 1)?;

@@ -1,5 +1,5 @@
-//! Files that are cut, readers and writers that fail in mid-file, and readers that give a byte at a
-//! time.
+//! Tests files that are cut, readers and writers that fail in mid-file, and readers that return a
+//! byte at a time.
 use crate::faulty::{Filling, MUCH, Piecewise};
 use crate::files::started::{Desk, is_run, ported, runs, started, whole_within};
 use bulk::{BulkFault, FaultKind, export, run_file};
@@ -7,7 +7,7 @@ use std::alloc::Global;
 
 const HEADER: &str = "caller,action,subject,old,new,due,lrn,cic,flag\n";
 
-// Three rows, behind the header.
+// Three rows, after the header.
 static ROWS: [&str; 3] = [
     "AAAA,subscriptionVersionNewSP-Create,2025331234,BBBB,AAAA,100,2025440000,,\n",
     "CCCC,subscriptionVersionNewSP-Create,2025331234,BBBB,CCCC,100,2025550000,,\n",
@@ -25,7 +25,7 @@ static LINES: [&str; 3] = [
 // The lines of a row that is cut.
 static BAD_LINES: [&str; 3] = ["1,,bad_row,\n", "2,,bad_row,\n", "3,,bad_row,\n"];
 
-// What another run of the file reports, by how many of its commands were made before.
+// The reports of another run of the file, by how many of its commands were executed before.
 static LATER: [[&str; 3]; 4] = [
     [
         "1,2025331234,ok,1\n",
@@ -49,7 +49,7 @@ static LATER: [[&str; 3]; 4] = [
     ],
 ];
 
-// A first line, and lines behind it.
+// Returns a first line and the lines after it.
 fn text_of(alloc: Global, first: &str, lines: &[&str]) -> Option<String> {
     let mut text = String::new(alloc);
     text.push_str(first).ok()?;
@@ -59,7 +59,7 @@ fn text_of(alloc: Global, first: &str, lines: &[&str]) -> Option<String> {
     Some(text)
 }
 
-// Where the row behind so many begins.
+// Returns the start of the row after the first `count`.
 fn start_of(first: usize, lines: &[&str], count: usize) -> usize {
     let mut start = first;
     for line in lines.iter().take(count) {
@@ -68,7 +68,7 @@ fn start_of(first: usize, lines: &[&str], count: usize) -> usize {
     start
 }
 
-// A report, and what a run answers.
+// A report, and the result of the run.
 #[derive(Drop)]
 struct Wanted {
     text: String,
@@ -82,7 +82,7 @@ fn broken(kind: FaultKind, rows: usize) -> Result<u64, BulkFault> {
     })
 }
 
-// The report of a file that ends at a place: a row that lacks no more than its line feed is whole.
+// Returns the report of a file that ends at a place. A row that lacks only its line feed is whole.
 fn wanted_of_cut(alloc: Global, place: usize) -> Option<Wanted> {
     let place_behind = place.saturating_add(1);
     if place_behind < HEADER.len() {
@@ -104,7 +104,7 @@ fn wanted_of_cut(alloc: Global, place: usize) -> Option<Wanted> {
     })
 }
 
-// The report of a file whose reader fails at a place: that of the rows before it.
+// Returns the report of a file whose reader fails at a place: that of the rows before it.
 fn wanted_of_read(alloc: Global, place: usize) -> Option<Wanted> {
     if place < HEADER.len() {
         return Some(Wanted {
@@ -139,7 +139,8 @@ fn is_read_so(alloc: Global, file: &[u8], place: usize) -> Option<bool> {
     is_run(alloc, reader, wanted.text.as_str(), wanted.ran)
 }
 
-// The first place at which a file that is cut there, or whose reader fails there, is run otherwise.
+// Returns the first place with another report of a file that ends there, or whose reader fails
+// there.
 fn read_otherwise_in(alloc: Global, file: &[u8]) -> Option<usize> {
     for place in 0..=file.len() {
         let whole = is_cut_so(alloc, file, place, MUCH) == Some(true);
@@ -162,7 +163,8 @@ fn files_that_are_cut_are_run_up_to_there(rt: HostRuntime) {
     assert!(rt; read_otherwise(rt.alloc()) == Some(None));
 }
 
-// What a run says whose writer has so much room, and how many of its commands are made.
+// Returns the result of a run whose writer takes `room` bytes, and how many of its commands are
+// executed.
 fn ended_within(room: usize) -> (Result<u64, BulkFault>, usize) {
     let whole = whole_within(REPORT_HEADER.len(), &LINES, room);
     if room < REPORT_HEADER.len() {
@@ -174,13 +176,13 @@ fn ended_within(room: usize) -> (Result<u64, BulkFault>, usize) {
     }
 }
 
-// The register reports another run of the file so, after so many of its commands.
+// Returns whether this is the report of another run of the file, after the first `made` commands.
 fn goes_on(alloc: Global, register: &mut Desk, file: &[u8], made: usize) -> Option<bool> {
     let wanted = text_of(alloc, REPORT_HEADER, LATER.get(made)?)?;
     Some(runs(alloc, register, file, wanted.as_str(), Ok(3)))
 }
 
-// A writer with so much room has the report's front, and the run says so.
+// Returns whether a writer that takes a prefix of the report has it, and the run returns this.
 fn is_front_written(
     alloc: Global,
     register: &mut Desk,
@@ -196,7 +198,7 @@ fn is_front_written(
     ran == wanted && writer.bytes.as_slice() == front
 }
 
-// And one command more was made than it has whole lines.
+// Returns whether, besides, one command more was executed than there are whole lines.
 fn is_written_in(alloc: Global, register: &mut Desk, file: &[u8], front: &[u8]) -> Option<bool> {
     let (wanted, made) = ended_within(front.len());
     let is_front = is_front_written(alloc, register, file, front, wanted);
@@ -209,7 +211,7 @@ fn is_written_so(alloc: Global, file: &[u8], report: &[u8], room: usize) -> Opti
     is_written_in(alloc, &mut register, file, front)
 }
 
-// The first room in which a report is written otherwise.
+// Returns the first limit of the writer with another report.
 fn written_otherwise_in(alloc: Global, file: &[u8], report: &[u8]) -> Option<usize> {
     for room in 0..=report.len() {
         if is_written_so(alloc, file, report, room) != Some(true) {
@@ -236,7 +238,7 @@ static EXPORT_ROWS: [&str; 1] = ["2025331234,2025440000,\n"];
 
 const EXPORTED: &str = "subject,lrn,cic\n2025331234,2025440000,\n";
 
-// A writer with so much room has the front of what is in force.
+// Returns whether a writer that takes `room` bytes has a prefix of the export.
 fn is_exported_in(alloc: Global, register: &mut Desk, room: usize) -> bool {
     let mut writer = Filling {
         bytes: Vec::new(alloc),
@@ -257,7 +259,7 @@ fn is_exported_so(alloc: Global, room: usize) -> Option<bool> {
     Some(is_exported_in(alloc, &mut register, room))
 }
 
-// The first room in which what is in force is written otherwise.
+// Returns the first limit of the writer with another export.
 fn first_wrong_export(alloc: Global) -> Option<usize> {
     for room in 0..=EXPORTED.len() {
         if is_exported_so(alloc, room) != Some(true) {

@@ -1,10 +1,10 @@
-//! Bulk files and exports over memory: worked files with their reports, each kind of bad row, and
-//! what is in force afterwards.
+//! Tests bulk files and exports over memory: worked files with their reports, each kind of bad row,
+//! and what is in force afterwards.
 use crate::files::started::{Desk, PORTED, acknowledge_all, exports, is_run, runs, started};
 use bulk::{BulkFault, FaultKind, run_file};
 use std::alloc::Global;
 
-/// A file, its report, and what the run answers.
+/// A file, its report, and the result of the run.
 type Row<'a> = (&'a str, &'a str, Result<u64, BulkFault>);
 
 const NO_HEADER: Result<u64, BulkFault> = Err(BulkFault {
@@ -67,7 +67,7 @@ static ROWS: [Row<'static>; 12] = [
     ),
 ];
 
-// The first row whose file is run otherwise.
+// Returns the first row with another report or result.
 fn run_otherwise(alloc: Global) -> Option<usize> {
     for (at, (file, report, wanted)) in ROWS.iter().enumerate() {
         if is_run(alloc, file.as_bytes(), report, *wanted) != Some(true) {
@@ -97,7 +97,7 @@ fn bytes_that_are_no_text_are_a_bad_row(rt: HostRuntime) {
 const RANGE: &str =
     "caller,action,subject,old,new,due,lrn,cic,flag\nAAAA,subscriptionVersionNewSP-Create,2025331000-2025331999,BBBB,AAAA,100,2025440000,,\n";
 
-// Behind the header each line is of the first row.
+// Returns whether each line after the header is of the first row.
 fn are_of_one_row(report: &str) -> bool {
     report
         .lines()
@@ -105,7 +105,7 @@ fn are_of_one_row(report: &str) -> bool {
         .all(|line| line.starts_with("1,2025331"))
 }
 
-// The front, the end and each line of the report.
+// Returns whether the beginning, the end and each line of the report are right.
 fn is_of_the_range(report: &str) -> bool {
     report.starts_with("row,subject,result,id\n1,2025331000,ok,1\n1,2025331001,ok,2\n")
         && report.ends_with("1,2025331998,ok,999\n1,2025331999,ok,1000\n")
@@ -132,7 +132,7 @@ fn a_thousand_numbers_are_one_row(rt: HostRuntime) {
 const PORT: &str =
     "caller,action,subject,old,new,due,lrn,cic,flag\nAAAA,subscriptionVersionNewSP-Create,2025331234,BBBB,AAAA,0,2025440000,0288,\nBBBB,subscriptionVersionOldSP-Create,2025331234,BBBB,AAAA,0,,,yes\nAAAA,subscriptionVersionActivate,2025331234,,,,,,\n";
 
-// What is in force before a port and after it, when each carrier has acknowledged.
+// Returns whether the exports are right before a port, and after it with all acknowledgements.
 fn is_exported_in(alloc: Global, register: &mut Desk) -> Option<[bool; 3]> {
     let none = exports(alloc, register, "subject,lrn,cic\n", 0);
     let ran = runs(alloc, register, PORT.as_bytes(), PORTED, Ok(3));

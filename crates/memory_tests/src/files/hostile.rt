@@ -1,4 +1,4 @@
-//! Files of commands with bytes that no row should have, cut after each of their bytes.
+//! Tests files of commands with bytes that no row should have, cut after each of their bytes.
 use crate::faulty::{MUCH, Piecewise};
 use crate::files::started::is_run;
 use bulk::{BulkFault, FaultKind};
@@ -6,14 +6,14 @@ use std::alloc::Global;
 
 const HEADER: &str = "caller,action,subject,old,new,due,lrn,cic,flag\n";
 
-// A row that is a bad one, and what stands behind it.
+// A bad row, and the text after it.
 struct Hostile<'a> {
     bad: &'a [u8],
     behind: &'a [u8],
 }
 
-// A quote inside a field, a byte that is no UTF-8, and a quote that opens a field and never closes:
-// its row is all that is left of the file.
+// A quote inside a field, a byte that is not UTF-8, and a quote that opens a field and never
+// closes, so that its row is the rest of the file.
 static FILES: [Hostile<'static>; 3] = [
     Hostile {
         bad: b"AA\"AA,subscriptionVersionCancel,2025331234,,,,,,\n",
@@ -29,7 +29,7 @@ static FILES: [Hostile<'static>; 3] = [
     },
 ];
 
-// A report, and what a run answers.
+// A report, and the result of the run.
 type Wanted = (&'static str, Result<u64, BulkFault>);
 
 const NO_HEADER: Wanted = (
@@ -51,8 +51,8 @@ const RUN_ON: Wanted = (
     Ok(2),
 );
 
-// The report of a file of three parts that ends at a place. What lacks no more than its line feed
-// is whole.
+// Returns the report of a file of three parts that ends at a place. A part that lacks only its line
+// feed is whole.
 fn wanted_at(bad: usize, behind: usize, end: usize, place: usize) -> Wanted {
     if place.saturating_add(1) < bad {
         NO_HEADER
@@ -75,7 +75,7 @@ fn file_of(alloc: Global, hostile: &Hostile<'_>) -> Option<Vec<u8>> {
     Some(file)
 }
 
-// Whether a file is run so that is given in parts of so many bytes.
+// Returns whether this is the report of a file that is read in parts of `most` bytes.
 fn is_run_by(alloc: Global, rest: &[u8], most: usize, wanted: &Wanted) -> bool {
     let reader = Piecewise {
         rest,
@@ -85,7 +85,7 @@ fn is_run_by(alloc: Global, rest: &[u8], most: usize, wanted: &Wanted) -> bool {
     is_run(alloc, reader, wanted.0, wanted.1) == Some(true)
 }
 
-// The first place at which a file of three parts is run otherwise where it ends there.
+// Returns the first place with another report of a file of three parts that ends there.
 fn cut_otherwise(alloc: Global, file: &[u8], bad: usize, behind: usize) -> Option<usize> {
     for place in 0..=file.len() {
         let front = file.get(..place)?;
@@ -103,7 +103,7 @@ fn is_run_at_each_cut(alloc: Global, hostile: &Hostile<'_>) -> Option<bool> {
     Some(cut_otherwise(alloc, &file, HEADER.len(), behind).is_none())
 }
 
-// The first file that is run otherwise.
+// Returns the first file with another report.
 fn run_otherwise(alloc: Global) -> Option<usize> {
     for (at, hostile) in FILES.iter().enumerate() {
         if is_run_at_each_cut(alloc, hostile) != Some(true) {

@@ -1,4 +1,4 @@
-//! Files of commands, exports and audits.
+//! Tests files of commands, exports and audits.
 mod actions;
 mod audits;
 mod breaking;

@@ -1,12 +1,15 @@
-//! Memory that is refused. The same tests run with each allocation refused in turn: a run that met
-//! it is told so, its lines are whole, the commands of these were made and no others, and it goes
-//! on from there; an export and an audit that met it wrote nothing, and the next is whole.
+//! Tests allocation failures in runs, exports and audits. The same tests run with each allocation
+//! refused in turn.
+//!
+//! A run that meets one reports it: its lines are whole, their commands were executed and no
+//! others, and another run continues there. An export or an audit that meets one writes nothing,
+//! and the next is whole.
 use crate::files::started::{Desk, ported, started};
 use bulk::{BulkFault, FaultKind, audit, export, run_file};
 use numbers::Spid;
 use std::alloc::{AllocError, Global};
 
-// What came of a file, of which at most one allocation is refused.
+// The outcome of a file with at most one allocation failure.
 #[derive(Clone, Copy, Debug, PartialEq, Eq)]
 enum Outcome {
     Whole,
@@ -16,7 +19,7 @@ enum Outcome {
 
 const ROOM: usize = 1024;
 
-// Room for what is written, if not at the first time, then at the second.
+// Returns a buffer for what is written, at the first or the second attempt.
 fn page(alloc: Global) -> Result<Vec<u8>, AllocError> {
     match Vec::with_capacity(alloc, ROOM) {
         Ok(page) => Ok(page),
@@ -38,7 +41,7 @@ fn started_at_last(alloc: Global) -> Option<Desk> {
     }
 }
 
-// What came of a file of which nothing is written where memory is refused.
+// Returns the outcome of a file that writes nothing after an allocation failure.
 fn outcome_of(ran: Result<u64, BulkFault>, written: &[u8], rows: u64, text: &str) -> Outcome {
     if ran == Ok(rows) && written == text.as_bytes() {
         Outcome::Whole
@@ -70,7 +73,7 @@ fn audit_once(alloc: Global, register: &mut Desk) -> Option<Outcome> {
     Some(outcome_of(ran, page.as_slice(), 2, text))
 }
 
-// What was refused once is whole at the next time.
+// Returns whether a file that met an allocation failure is whole the next time.
 fn ends_well(first: Outcome, next: Outcome) -> bool {
     match first {
         Outcome::Whole => next != Outcome::Wrong,
@@ -114,7 +117,7 @@ fn an_audit_that_meets_no_memory(rt: HostRuntime) {
 const FILE: &str =
     "caller,action,subject,old,new,due,lrn,cic,flag\nAAAA,subscriptionVersionNewSP-Create,2025331234,BBBB,AAAA,100,2025440000,,\nCCCC,subscriptionVersionNewSP-Create,2025331234,BBBB,CCCC,100,2025550000,,\nBBBB,subscriptionVersionOldSP-Create,2025331234,BBBB,AAAA,100,,,yes\n";
 
-// The report behind so many of its lines, and that of the file run again after so many of its
+// The report after each number of its lines, and that of the file run again after as many of its
 // commands.
 static REPORTS: [(&str, &str); 4] = [
     (
@@ -135,7 +138,7 @@ static REPORTS: [(&str, &str); 4] = [
     ),
 ];
 
-// How many lines a run says that it wrote, if it ended well or for want of memory.
+// Returns how many lines a run reports as written, if it succeeded or an allocation failed.
 fn count_of(ran: Result<u64, BulkFault>) -> Option<usize> {
     match ran {
         Ok(3) => Some(3),
@@ -145,7 +148,8 @@ fn count_of(ran: Result<u64, BulkFault>) -> Option<usize> {
     }
 }
 
-// Runs the file, and says how many of its commands were made, where its report is that of so many.
+// Runs the file, and returns how many of its commands were executed, if its report has as many
+// lines.
 fn run_once(alloc: Global, register: &mut Desk) -> Option<usize> {
     let mut page = page(alloc).ok()?;
     let ran = run_file(alloc, register, FILE.as_bytes(), &mut page);
@@ -158,7 +162,7 @@ fn run_once(alloc: Global, register: &mut Desk) -> Option<usize> {
     }
 }
 
-// Runs the file again, after so many of its commands.
+// Runs the file again, after the first `made` of its commands.
 fn is_run_on(alloc: Global, register: &mut Desk, made: usize) -> Option<bool> {
     let mut page = page(alloc).ok()?;
     let ran = run_file(alloc, register, FILE.as_bytes(), &mut page);

@@ -1,5 +1,4 @@
-//! What these tests share: a register over memory with three carriers, and what it does with a
-//! file.
+//! A register over memory with three carriers, and its runs of files, for these tests.
 use crate::commands::does;
 use crate::port::new_register;
 use bulk::{BulkFault, export, run_file};
@@ -40,7 +39,7 @@ fn start(register: &mut Desk) -> Option<()> {
     open_code(register)
 }
 
-/// Three carriers, each with a routing number, and a code that BBBB holds.
+/// Returns a register with three carriers, each with a routing number, and a code that BBBB holds.
 pub fn started(alloc: Global) -> Option<Desk> {
     let mut register = new_register(alloc)?;
     match start(&mut register) {
@@ -49,7 +48,7 @@ pub fn started(alloc: Global) -> Option<Desk> {
     }
 }
 
-/// Each carrier acknowledges a download.
+/// Acknowledges a download for each carrier.
 pub fn acknowledge_all(register: &mut Desk, id: u64, attempt: u64) -> Option<()> {
     for (name, _) in &CARRIERS {
         register.acknowledge(Spid::read(name)?, id, attempt).ok()?;
@@ -57,7 +56,7 @@ pub fn acknowledge_all(register: &mut Desk, id: u64, attempt: u64) -> Option<()>
     Some(())
 }
 
-/// Whether the register runs what a reader gives with this report, and says so of it.
+/// Returns whether the register runs a file with this report and this result.
 pub fn runs<R: Read + Drop>(
     alloc: Global,
     register: &mut Desk,
@@ -70,7 +69,7 @@ pub fn runs<R: Read + Drop>(
     ran == wanted && written.as_slice() == report.as_bytes()
 }
 
-/// Whether a new register does.
+/// Returns whether a new register runs a file with this report and this result.
 pub fn is_run<R: Read + Drop>(
     alloc: Global,
     reader: R,
@@ -81,7 +80,7 @@ pub fn is_run<R: Read + Drop>(
     Some(runs(alloc, &mut register, reader, report, wanted))
 }
 
-/// Whether what is in force is exported so, in so many rows.
+/// Returns whether this is the export of what is in force, with `rows` rows.
 pub fn exports(alloc: Global, register: &mut Desk, wanted: &str, rows: u64) -> bool {
     let mut written = Vec::new(alloc);
     let exported = export(alloc, register, &mut written);
@@ -92,7 +91,7 @@ pub fn exports(alloc: Global, register: &mut Desk, wanted: &str, rows: u64) -> b
 const PORT: &str =
     "caller,action,subject,old,new,due,lrn,cic,flag\nAAAA,subscriptionVersionNewSP-Create,2025331234,BBBB,AAAA,0,2025440000,,\nBBBB,subscriptionVersionOldSP-Create,2025331234,BBBB,AAAA,0,,,yes\nAAAA,subscriptionVersionActivate,2025331234,,,,,,\n";
 
-/// The report of such a port.
+/// The report of that port.
 pub const PORTED: &str =
     "row,subject,result,id\n1,2025331234,ok,1\n2,2025331234,ok,1\n3,2025331234,ok,1\n";
 
@@ -111,7 +110,7 @@ fn add_port(alloc: Global, register: &mut Desk) -> Option<()> {
     Some(())
 }
 
-/// 2025331234 is in force at 2025440000, and CCCC has not acknowledged it.
+/// Returns a register with 2025331234 in force at 2025440000, which CCCC has not acknowledged.
 pub fn ported(alloc: Global) -> Option<Desk> {
     let mut register = started(alloc)?;
     match add_port(alloc, &mut register) {
@@ -120,7 +119,7 @@ pub fn ported(alloc: Global) -> Option<Desk> {
     }
 }
 
-/// How many of the lines, behind a first line, end at or before a place.
+/// Returns how many of the lines after a first line end at or before a place.
 pub fn whole_within(first: usize, lines: &[&str], place: usize) -> usize {
     let mut end = first;
     let mut count = 0;

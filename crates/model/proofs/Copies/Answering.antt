@@ -1,5 +1,5 @@
--- What a carrier's own acknowledgement makes of the broadcasts that stand for it: one of them is
--- acknowledged, after all before it.
+-- What a carrier's own acknowledgement makes of its broadcasts: one is acknowledged, after all
+-- before it.
 use Rattle.std.proofs.Common.{◌≡◌, ℕ, ◌<◌, Bool, true, false, cond, not, ◌&&◌, ◌||◌, List, [], ◌∷◌, ◌++◌, map, Some, None, refl, ap, sym, ◌∙◌, subst, arith, inl, inr}
 use Rattle.std.specs.Prelude.{◌==◌, filter, flat_map, if◌then◌else◌}
 use Rattle.std.specs.List.{list_any, AllByRecursion}
@@ -48,7 +48,7 @@ module _ (id attempt : ℕ) where
   unmarked (p ∷ ps) none = ap (λ b. marked_if b p ∷ map (mark id attempt) ps) none.0
       ∙ ap (λ qs. p ∷ qs) (unmarked ps none.1)
 
-  -- what is acknowledged stays so
+  -- What is marked stays marked.
   answered_marked : (ps : List Placed) → AllMarked ps → map (mark id attempt) ps ≡ ps
   answered_marked [] all = refl
   answered_marked (p ∷ ps) all =
@@ -77,7 +77,7 @@ module _ (id attempt : ℕ) where
           let no : (p.attempt == attempt) ≡ false = grind (arith, nat_tests) in
           ap (λ b. (p.id == id) && b) no ∙ drop (p.id == id)
 
-  -- the one that matches is marked, and all before it are acknowledged
+  -- The one that matches is marked, and all before it are marked already.
   mark_answers : (s : Subject) (p : Placed) → matches id attempt p ≡ true → p.marked ≡ false
       → (ps : List Placed) → AreInOrder s ps → AreLower ps →
       AllByRecursion (λ q. is_before (download_of s q) (download_of s p) ≡ true
@@ -164,7 +164,7 @@ module _ (w : WindowSet) (c id attempt : ℕ) where
           ∙ ap (λ ps. mark id attempt (place (Carrier c) i b) ∷ ps) later
       by_cases false later = later
 
-  -- another version has none that matches
+  -- Another version has none that matches.
   others_unmarked : (i : ℕ) → (i == id) ≡ false → (bs : List Broadcast)
       → own_of (Carrier c) i bs ≡ map (mark id attempt) (own_of (Carrier c) i bs)
   others_unmarked i differs bs =
@@ -195,7 +195,7 @@ module _ (w : WindowSet) (c id attempt : ℕ) where
 
 -- ---- the broadcasts of a version
 
--- an attempt is one broadcast's
+-- An attempt is one broadcast's.
 one_attempt : (bs : List Broadcast) (a b : Broadcast) → AreApart bs → Among a bs → Among b bs
     → a.attempt ≡ b.attempt → a ≡ b
 one_attempt [] a b apart here there same = absurd here
@@ -211,7 +211,7 @@ one_attempt (x ∷ xs) a b apart (inr here) (inl f) same =
 one_attempt (x ∷ xs) a b apart (inr here) (inr there) same =
     one_attempt xs a b apart.1 here there same
 
--- a recipient that waits: the broadcast stands for it
+-- A broadcast that is pending for a carrier is selected for it.
 waiting_stands : (c : ℕ) (b : Broadcast) → is_among c (waiters b) ≡ true
     → stands_for (Carrier c) b ≡ true
 waiting_stands c b waits = by_cases (is_withdrawn b) refl
@@ -258,7 +258,7 @@ module _ (st : State) (is : HasHistory st) (s : Subject)
   abbrev pub acknowledged : List Download
   acknowledged = flat_map answered_downloads (map (as_listed s) versions)
 
-  -- those of the version with the attempt
+  -- The broadcasts of the version with the attempt are acknowledged.
   pub of_version : (v : Version) (b : Broadcast) → Among v versions → Among b v.broadcasts
       → (v.id == id) ≡ true → (b.attempt == attempt) ≡ true
       → Among (download (as_listed s v) b) acknowledged
@@ -273,7 +273,7 @@ module _ (st : State) (is : HasHistory st) (s : Subject)
       v.broadcasts) b (filtered-to (λ (x : Broadcast). x.attempt == attempt) v.broadcasts b sent
       at))))
 
-  -- none of them: nothing of it stands
+  -- If the subject has none of them, none of its selected ones matches.
   none_matches : first_of acknowledged ≡ None
       → AllByRecursion (λ p. matches id attempt p ≡ false) (placed (Carrier c) versions)
   none_matches none = each_placed (Carrier c) (λ p. matches id attempt p ≡ false) versions
@@ -292,7 +292,7 @@ module _ (st : State) (is : HasHistory st) (s : Subject)
           (of_version v b there sent (and_first (v.id == id) (b.attempt == attempt) e)
           (and_second (v.id == id) (b.attempt == attempt) e)))
 
-  -- the first of them, with its version and broadcast
+  -- The first of them, with its version and its broadcast.
   pub record IsOf (d : Download) : Type 0 where
     pub version : Version
     pub broadcast : Broadcast
@@ -335,7 +335,7 @@ module _ (st : State) (is : HasHistory st) (s : Subject)
           inner mapped.0 mapped.1 (c == c) (mapped.0.id == id) refl
           (subst (λ x. Among d (answered_downloads x)) mapped.2 is)
 
-  -- a download that waits and has this id and attempt is of that version and broadcast
+  -- A pending download with this id and attempt is of that version and broadcast.
   pub same_download : (d : Download) → (one : IsOf d) → (x : Download) → Among x (queue st c)
       → is_download id attempt x ≡ true →
       (x ≡ download (as_listed s one.version) one.broadcast)
@@ -366,7 +366,7 @@ module _ (st : State) (is : HasHistory st) (s : Subject)
       )
 
   module _ (ok : refusal st (RequestFrom c (AcknowledgementRequest id attempt)) ≡ None) where
-    -- it waits
+    -- The download is pending.
     pub queued : list_any (is_download id attempt) (queue st c) ≡ true
     unfolding tests
     queued = denied (list_any (is_download id attempt) (queue st c))
@@ -376,7 +376,7 @@ module _ (st : State) (is : HasHistory st) (s : Subject)
     unfolding tests
     in_turn = (none_holds (tests st (RequestFrom c (AcknowledgementRequest id attempt))) ok).1.1.1.0
 
-    -- nothing of the subject before it does
+    -- No earlier download of the subject is pending.
     first_in_turn : (d : Download) → Among d (queue st c) → is_download id attempt d ≡ true
         → list_any (λ e. subject_eq e.subject d.subject && is_before e d) (queue st c) ≡ false
     first_in_turn d there is =
@@ -390,7 +390,7 @@ module _ (st : State) (is : HasHistory st) (s : Subject)
             (λ y. subject_eq y.subject x.subject && is_before y x) (queue st c)) d (queue st c)
             there (true_both (is_download id attempt d) _ is e)) in_turn
 
-    -- what waits is of the version and broadcast that the entry acknowledges
+    -- The pending download is of the version and broadcast that the entry acknowledges.
     waits_for : (d : Download) → (own_one : IsOf d)
         → Among (download (as_listed s own_one.version) own_one.broadcast) (queue st c)
         × (is_among c (waiters own_one.broadcast) ≡ true)
@@ -415,7 +415,7 @@ module _ (st : State) (is : HasHistory st) (s : Subject)
         ∙ placed_marked (set_now st) c id attempt st.now versions
         (versions_kept begun_kept st.windows s st.history st.now is)
 
-    -- where it is of another subject nothing changes
+    -- If the acknowledgement is of another subject, nothing changes.
     pub elsewhere_next : first_of acknowledged ≡ None → IsNext st.now olds news
     elsewhere_next none =
         next_thinned st.now olds news

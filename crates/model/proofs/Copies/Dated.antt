@@ -42,7 +42,7 @@ closed_dated : (m : ℕ) (outcome : Outcome) (bs : List Broadcast) → AllBy m b
 closed_dated m outcome [] by = tt
 closed_dated m outcome (b ∷ bs) by = by
 
--- every move keeps it
+-- Every move keeps it.
 pub dated_kept : (w : WindowSet) → MovesKeep w (λ m cs v. AllBy m v.broadcasts)
 dated_kept w = sends_kept (record {
   later = λ m n cs attempt bs up. each (λ b by. omega arith) bs;

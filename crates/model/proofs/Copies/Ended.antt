@@ -1,5 +1,5 @@
--- In every record all broadcasts of an old version are closed, and where no version in front of an
--- old one is or was in force its last word is that there is no routing.
+-- In every record all broadcasts of an old version are closed. If no newer version is or was in
+-- force, its last word is that there is no routing.
 use Rattle.std.proofs.Common.{◌≡◌, ℕ, suc, Bool, true, false, not, ◌&&◌, List, [], ◌∷◌, map, Option, Some, None, refl, ap, sym, ◌∙◌, subst}
 use Rattle.std.specs.Prelude.{⊤, ◌==◌, nat_lt, if◌then◌else◌}
 use Rattle.std.specs.List.{AllByRecursion}
@@ -42,7 +42,7 @@ module _ (w : WindowSet) (R : List Broadcast → Type 0) (said : (bs : List Broa
   abbrev WhereOld : Version → Type 0
   WhereOld v = is_old v.status ≡ true → R v.broadcasts
 
-  -- what closes and becomes old was a delete
+  -- A broadcast that closes and leaves its version old was a delete.
   closing_old : (action : Send) (outcome : Outcome) (routing : Option Routing) (bs : List Broadcast)
       → IsToldAs (Sending action) routing bs → is_old (status_after action outcome) ≡ true →
       R (on_newest (λ b. record b { outcome = outcome }) bs)
@@ -167,15 +167,15 @@ module _ (w : WindowSet) (R : List Broadcast → Type 0) (said : (bs : List Broa
 
 -- ---- the versions of a subject
 
--- all broadcasts of an old version are closed
+-- Holds if all broadcasts of the version are closed, should it be old.
 abbrev pub IsClosedWhereOld : Version → Type 0
 IsClosedWhereOld v = is_old v.status ≡ true → AllClosed v.broadcasts
 
--- the last word of an old version is that there is no routing
+-- Holds if the last word of the version is no routing, should it be old.
 abbrev pub SaysNoneWhereOld : Version → Type 0
 SaysNoneWhereOld v = is_old v.status ≡ true → Says None v.broadcasts
 
--- of the newest that is or was in force
+-- Holds if this is so of the newest version that is or was in force.
 abbrev pub LastSaysNone : List Version → Type 0
 LastSaysNone [] = ⊤
 LastSaysNone (v ∷ vs) = SaysNoneWhereOld v × (is_served v.status ≡ false → LastSaysNone vs)
@@ -192,7 +192,7 @@ sends_open s _ is = cc
 
 module _ (w : WindowSet) (s : Subject) (takes : Bool) (minute : ℕ) (change : Version
     → Version) where
-  -- among versions none of which is open none takes over
+  -- Among versions that are not open, none supersedes another.
   behind_mapped : (vs : List Version) → AllByRecursion (Follows takes change) vs → NoneOpen s vs
       → changed_at w minute change vs ≡ map change vs
   behind_mapped [] steps closed = refl
@@ -243,7 +243,7 @@ module _ (w : WindowSet) (s : Subject) (takes : Bool) (minute : ℕ) (change : V
             steps.0 e) out
         by_cases false e out = refl
 
-    -- beside an open version what is in force is active, and its broadcasts are closed
+    -- Beside an open version, what is in force is active, and its broadcasts are closed.
     active_closed : (vs : List Version) → AllByRecursion (Follows takes change) vs → NoneOpen s vs
         → InForceIsActive vs → KeepsActive change vs → AllByRecursion (λ v. IsTold (change v)) vs →
         AllByRecursion (λ v. in_force (change v) ≡ true → AllClosed (change v).broadcasts) vs
@@ -389,7 +389,7 @@ module _ (w : Windows) (s : Subject) where
         (λ is_it. absurd (fresh id is_it), λ out. now.1),
       )
 
-  -- every record of every history
+  -- Every record of every history.
   pub have_ended : (h : List Entry) (m : ℕ) → IsHistory w h m → HaveEnded (replay w s h m).versions
   have_ended = kept w s (λ h m r. HaveEnded r.versions) (record {
     first = λ m. (tt, tt);

@@ -1,4 +1,4 @@
--- What a minute or an entry may do to the broadcasts of a carrier, and that this keeps its copy.
+-- What a minute or an entry may do to the broadcasts of a carrier keeps its copy.
 use Rattle.std.proofs.Common.{◌≡◌, ℕ, suc, Bool, true, false, List, [], ◌∷◌, ◌++◌, map, Option, Some, None, refl, ap, sym, ◌∙◌, subst, ◌⊎◌, inl, inr}
 use Rattle.std.specs.Prelude.{⊤, flat_map, if◌then◌else◌}
 use Rattle.std.specs.List.{AllByRecursion}
@@ -16,7 +16,7 @@ use Rattle.model.proofs.Copies.{Carrier, Placed, placed, AllMarked, NoneMarked, 
 
 -- ---- what may become of the list
 
--- some that are not marked are taken away
+-- Holds if some unmarked ones are removed.
 abbrev pub IsThinned : List Placed → List Placed → Type 0
 IsThinned [] [] = ⊤
 IsThinned [] (q ∷ qs) = ⊥
@@ -24,13 +24,14 @@ IsThinned (p ∷ ps) [] = (p.marked ≡ false) × IsThinned ps []
 IsThinned (p ∷ ps) (q ∷ qs) = ((p.marked ≡ false) × IsThinned ps (q ∷ qs))
     ⊎ ((q ≡ p) × IsThinned ps qs)
 
--- that, or a further one, of this minute, is in front that is not marked
+-- Holds if some unmarked ones are removed, and perhaps one of this minute is added as the newest,
+-- unmarked.
 abbrev pub IsNext : ℕ → List Placed → List Placed → Type 0
 IsNext m ps [] = IsThinned ps []
 IsNext m ps (q ∷ qs) = IsThinned ps (q ∷ qs) ⊎ ((q.marked ≡ false) × (q.minute ≡ m)
     × IsThinned ps qs)
 
--- one with this routing is marked, after all before it
+-- Holds if one with this routing is marked now, after all before it.
 abbrev pub IsMarkedNow : Option Routing → List Placed → List Placed → Type 0
 IsMarkedNow routing [] qs = ⊥
 IsMarkedNow routing (p ∷ ps) [] = ⊥
@@ -38,7 +39,7 @@ IsMarkedNow routing (p ∷ ps) (q ∷ qs) =
     ((p.marked ≡ false) × (q.marked ≡ true) × (q.routing ≡ routing) × (qs ≡ ps) × AllMarked ps)
     ⊎ ((q ≡ p) × IsMarkedNow routing ps qs)
 
--- ---- thinning
+-- ---- removal
 
 pub thinned_same : (ps : List Placed) → IsThinned ps ps
 thinned_same [] = tt
@@ -76,7 +77,7 @@ thinned_none [] [] e thin = refl
 thinned_none [] (q ∷ qs) e thin = absurd thin
 thinned_none (p ∷ ps) qs e thin = cc
 
--- what holds of each still does
+-- What holds of each still does.
 pub thinned_each : (P : Placed → Type 0) (ps qs : List Placed) → IsThinned ps qs
     → AllByRecursion P ps → AllByRecursion P qs
 thinned_each P ps [] thin all = tt
@@ -124,7 +125,7 @@ next_held m row ps (q ∷ qs) (inl thin) = thinned_held row ps (q ∷ qs) thin
 next_held m row ps (q ∷ qs) (inr new) = thinned_held row ps qs new.2 ∙ ap (λ b. if b then q.routing
     else held row qs) (sym new.0)
 
--- one that is marked now was not before
+-- One that is marked now was not marked before.
 all_not : (routing : Option Routing) (ps qs : List Placed) → IsMarkedNow routing ps qs
     → AllMarked ps → ⊥
 all_not routing [] qs now all = now
@@ -173,14 +174,14 @@ none_in_order (p ∷ ps) none = (λ is. true-false p.marked is none.0, none_in_o
 
 -- ---- every history
 
--- the first download of s that the entry acknowledges for the carrier
+-- The first download of s that the entry acknowledges for the carrier.
 abbrev pub acknowledged_now : Windows → ℕ → Subject → List Entry → Entry → Option Download
 acknowledged_now w c s h e =
     first_of (flat_map (downloads_acknowledged c e.caller e.request)
     (map (λ v. let x : SubjectVersion = record { subject = s; version = v } in
     x) (replay w s h e.minute).versions))
 
--- what is to be shown of minutes and entries, for the carrier and the subject
+-- What has to be shown of minutes and entries, for the carrier and the subject.
 pub record FollowsCopies (w : Windows) (c : ℕ) (s : Subject) : Type 0 where
   pub minute : (h : List Entry) (m : ℕ) → IsHistory w h m
       → IsNext (suc m) (placed (Carrier c) (replay w s h m).versions)
@@ -197,7 +198,7 @@ pub record FollowsCopies (w : Windows) (c : ℕ) (s : Subject) : Type 0 where
       IsMarkedNow d.routing (placed (Carrier c) (replay w s h e.minute).versions)
       (placed (Carrier c) (record_after w s h e).versions)
 
--- acknowledged in order, and the copy the last of them
+-- Holds if downloads are acknowledged in order, and the copy is the last of them.
 pub record IsFollowed (w : Windows) (c : ℕ) (s : Subject) (h : List Entry) (m : ℕ)
     (r : Record) : Type 0 where
   pub marked : AreMarkedInOrder (placed (Carrier c) r.versions)

@@ -1,5 +1,5 @@
--- A carrier's copy is that which is started with the rows of its registration and takes the
--- downloads that it has acknowledged.
+-- A carrier's copy is the one that starts with the rows of its registration and takes the downloads
+-- that it has acknowledged.
 use Rattle.std.proofs.Common.{◌≡◌, ℕ, ◌≤◌, ◌⊎◌, inl, inr, Bool, true, false, not, ◌||◌, List, [], ◌∷◌, map, Option, Some, None, refl, ap, sym, ◌∙◌, subst, arith}
 use Rattle.std.specs.Prelude.{◌==◌, fold, find, flat_map, option_and_then, if◌then◌else◌}
 use Rattle.std.specs.List.{list_any, AllByRecursion}
@@ -31,7 +31,7 @@ use Rattle.model.proofs.Copies.Answering.{as_listed, IsOf, it_is_of, of_version,
 abbrev begun : Subject → Option Routing → InForce → Option Routing
 begun s before r = if subject_eq r.subject s then r.routing else before
 
--- where each row of a subject has one routing, the copy has it
+-- If each row of a subject has the same routing, the copy has that routing.
 begun_is : (s : Subject) (want : Option Routing) (rows : List InForce) (before : Option Routing)
     → AllByRecursion (λ (r : InForce). subject_eq r.subject s ≡ true → r.routing ≡ want) rows →
     (before ≡ want) ⊎ (list_any (λ (r : InForce). subject_eq r.subject s) rows ≡ true)
@@ -54,7 +54,7 @@ begun_is s want (r ∷ rs) before all has =
         later (begun s before r)
         (inr (sym (ap (λ t. t || list_any (λ (q : InForce). subject_eq q.subject s) rs) e) ∙ f))
 
--- a copy that is started with all in force routes a subject as it is in force
+-- A copy that starts with all rows in force has each subject's routing in force.
 started_is : (st : State) → IsReachable st → (s : Subject)
     → copy_of_rows (all_in_force st) s ≡ routing_in_force (record_now st s)
 started_is st is s = by_cases (version_in_force (record_now st s)) refl
@@ -103,15 +103,14 @@ fold_then s start ds None = refl
 fold_then s start ds (Some d) =
     fold-append (λ before d. copy_after_download d s before) start ds (d ∷ [])
 
--- the carrier's own acknowledgement: what it says of a subject is what the download in the queue
--- says
+-- The carrier's own acknowledgement says of a subject what the download in the queue says.
 module _ (st : State) (is : HasHistory st) (s : Subject) (c id attempt : ℕ)
     (ok : refusal st (RequestFrom c (AcknowledgementRequest id attempt)) ≡ None) where
   abbrev of_it : Option Download
   of_it = first_of (flat_map (downloads_acknowledged c c (AcknowledgementRequest id attempt))
       (map (as_listed s) (record_now st s).versions))
 
-  -- what is of another subject says nothing of this one
+  -- A download of another subject says nothing of this one.
   not_its : (x : Download) → Among x (queue st c) → is_download id attempt x ≡ true → of_it ≡ None
       → subject_eq x.subject s ≡ false
   not_its x there matched none = by_cases (subject_eq x.subject s) refl
@@ -178,7 +177,7 @@ module _ (st : State) (is : HasHistory st) (s : Subject) (c id attempt : ℕ)
 
 -- ---- every history
 
--- another's request takes nothing
+-- Another's request takes no download.
 others_take : (c caller : ℕ) (request : Request) (waiting : List Download)
     → is_others (Carrier c) caller request ≡ true → acknowledged_of c caller request waiting ≡ None
 others_take c caller (CommandRequest command) waiting other = refl
@@ -195,7 +194,7 @@ module _ (w : Windows) (are : AreWindows w) (c : ℕ) (s : Subject) where
       → copied (acknowledged_now w c s h e) before ≡ taken s (acknowledged_of c e.caller e.request
       (queue (at h e) c)) before
 
-  -- an entry that is no registration of the carrier
+  -- An entry that does not register the carrier.
   entry_says : (h : List Entry) (e : Entry) → registers c e.request ≡ false → Says h e
   entry_says h e unregistered = by_cases (is_others (Carrier c) e.caller e.request) refl
     where
@@ -253,6 +252,6 @@ module _ (w : Windows) (are : AreWindows w) (c : ℕ) (s : Subject) where
           else and_then (downloads_handed w c h) (acknowledged_of c e.caller e.request
           (queue (at h e) c)))) f)
 
--- in every state
+-- This holds in every reachable state.
 pub copy_is_handed : CopyIsHanded
 copy_is_handed st is c s = handed st.windows is.windows c s st.history st.now is.history

@@ -1,5 +1,5 @@
--- Where nothing waits for a carrier and no broadcast is open, its copy is the routing of what is in
--- force.
+-- If nothing is pending for a carrier and no broadcast is open, its copy is the routing of what is
+-- in force.
 use Rattle.std.proofs.Common.{◌≡◌, ℕ, Bool, true, false, cond, not, ◌&&◌, List, [], ◌∷◌, ◌++◌, map, Some, None, refl, ap, sym, ◌∙◌, subst, ◌⊎◌, inl, inr}
 use Rattle.std.specs.Prelude.{⊤, filter, find, option_and_then, if◌then◌else◌}
 use Rattle.std.specs.List.{list_any, AllByRecursion}
@@ -23,9 +23,9 @@ use Rattle.model.proofs.Copies.Told.{AllClosed}
 use Rattle.model.proofs.Copies.LastWord.{all_marked, force_says}
 use Rattle.model.proofs.Copies.Registered.{says_start}
 
--- ---- what stands: what was sent to the carrier, and what was not
+-- ---- what was sent to the carrier, and what was not
 
--- the first are those of the second that are not marked
+-- Holds if the first list has those of the second that are not marked.
 abbrev IsSplit : List Placed → List Placed → List Placed → Type 0
 IsSplit [] [] [] = ⊤
 IsSplit (p ∷ ps) [] [] = ⊥
@@ -85,7 +85,7 @@ placed_split c (v ∷ vs) =
     split_append (own (Carrier c) v) (own (Unsent c) v) (own Closed v) (placed (Carrier c) vs)
     (placed (Unsent c) vs) (placed Closed vs) (own_split c v.id v.broadcasts) (placed_split c vs)
 
--- behind a marked one none was sent to the carrier
+-- None was sent to the carrier that is older than a marked one.
 none_behind : (p : Placed) (ps ls ts : List Placed) → IsSplit (p ∷ ps) ls ts → AllMarked ls → ⊥
 none_behind p ps [] [] is all = is
 none_behind p ps [] (t ∷ ts) is all = is
@@ -93,7 +93,7 @@ none_behind p ps (l ∷ ls) [] is all = is
 none_behind p ps (l ∷ ls) (t ∷ ts) (inl is) all = true-false l.marked all.0 is.0
 none_behind p ps (l ∷ ls) (t ∷ ts) (inr is) all = none_behind p ps ls ts is.2 all.1
 
--- the last that was sent to the carrier, else its starting row, is the last of all
+-- The latest that was sent to the carrier, or else its starting row, is the latest of all.
 split_held : (ps ls ts : List Placed) → IsSplit ps ls ts → AllMarked ps → AllMarked ts
     → AreMarkedInOrder ls → held (held None ls) ps ≡ held None ts
 split_held [] [] [] is all closed ordered = refl
@@ -111,7 +111,7 @@ split_held (p ∷ ps) (l ∷ ls) (t ∷ ts) (inl is) all closed ordered =
 split_held (p ∷ ps) (l ∷ ls) (t ∷ ts) (inr is) all closed ordered =
     absurd (none_behind p ps ls ts is.2 (ordered.0 is.0))
 
--- ---- where no broadcast is open
+-- ---- no broadcast is open
 
 none_any : {A : Type 0} (test : A → Bool) (xs : List A) → list_any test xs ≡ false → (x : A)
     → Among x xs → test x ≡ false
@@ -131,7 +131,7 @@ all_closed st is none s =
     (none_any (λ (e : SubjectVersion). list_any is_open_broadcast e.version.broadcasts)
     (all_versions st) none (record { subject = s; version = v }) (is_listed st is s v there))))
 
--- no version sends: what is in force is steady
+-- No version sends, so what is in force is steady.
 steady_is : (v : Version) → HasBegun v → AllClosed v.broadcasts → is_steady v.status ≡ in_force v
 steady_is v begun closed = by_cases v.status refl
   where

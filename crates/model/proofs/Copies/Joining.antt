@@ -1,4 +1,4 @@
--- A carrier's registration: the carrier was none before, and it joins what is open.
+-- A carrier's registration: it was not registered before, and becomes a recipient of what is open.
 use Rattle.std.proofs.Common.{◌≡◌, ℕ, true, false, None, ◌∷◌, List, ap, subst}
 use Rattle.std.specs.Prelude.{◌==◌}
 use Rattle.std.specs.List.{AllByRecursion}
@@ -54,7 +54,7 @@ module _ (w : Windows) (c : ℕ) (h : List Entry) (e : Entry) where
           (replay w s h e.minute).versions) (equal_number spid c r)
       by_cases _ r = cc
 
--- what was sent before it went to carriers that were registered
+-- What was sent before it went to registered carriers.
 pub known_before_it : (w : Windows) (s : Subject) (h : List Entry) (e : Entry)
     → IsHistory w (e ∷ h) e.minute
     → AllByRecursion (IsKnown (carriers h)) (replay w s h e.minute).versions

@@ -1,5 +1,5 @@
--- In every record what is in force is what the last closed broadcast says, and an open one stands
--- in front of it.
+-- In every record what is in force is what the latest closed broadcast says, and an open broadcast
+-- is newer.
 use Rattle.std.proofs.Common.{◌≡◌, ℕ, Bool, true, false, cond, not, ◌&&◌, ◌||◌, List, [], ◌∷◌, ◌++◌, map, Option, Some, None, refl, ap, sym, ◌∙◌, subst, ◌⊎◌, inl, inr}
 use Rattle.std.specs.Prelude.{filter, find, option_and_then, if◌then◌else◌}
 use Rattle.std.specs.List.{AllByRecursion}
@@ -37,7 +37,7 @@ all_marked vs closed =
     each_placed Closed (λ p. p.marked ≡ true) vs
     (each (λ v all. each (λ b over stands. ap not over) v.broadcasts all) vs closed)
 
--- what a version says is held
+-- What a version says is held.
 says_held : (id : ℕ) (routing : Option Routing) (bs : List Broadcast) (rest : List Placed)
     → Says routing bs → held None (own_of Closed id bs ++ rest) ≡ routing
 says_held id routing [] rest says = absurd says.1
@@ -55,7 +55,7 @@ says_held id routing (b ∷ bs) rest says =
         ap (λ t. if not t then b.routing else held None (own_of Closed id bs ++ rest)) says.0.0
         ∙ is.1
 
--- an open one stands, and is not marked
+-- An open broadcast is selected, and not marked.
 open_own : (id : ℕ) (b : Broadcast) (bs : List Broadcast) → b.outcome ≡ Open
     → own_of Closed id (b ∷ bs) ≡ place Closed id b ∷ own_of Closed id bs
 open_own id b bs opened =
@@ -65,11 +65,11 @@ open_own id b bs opened =
 open_unmarked : (id : ℕ) (b : Broadcast) → b.outcome ≡ Open → (place Closed id b).marked ≡ false
 open_unmarked id b opened = ap (λ x. not (is_open_outcome x)) opened
 
--- what the versions say: the marked are behind, and the last of them has this routing
+-- Holds if the marked ones are the oldest, and the latest of them has this routing.
 abbrev pub Say : Option Routing → List Placed → Type 0
 Say routing ps = AreMarkedInOrder ps × (held None ps ≡ routing)
 
--- one that is not marked in front
+-- An unmarked one may come before.
 unmarked_first : (routing : Option Routing) (p : Placed) (ps : List Placed) → p.marked ≡ false
     → Say routing ps → Say routing (p ∷ ps)
 unmarked_first routing p ps open_one says = (
@@ -77,7 +77,7 @@ unmarked_first routing p ps open_one says = (
   ap (λ b. if b then p.routing else held None ps) open_one ∙ says.1,
 )
 
--- a version that says something in front of what is all closed
+-- A version that says something may come before versions whose broadcasts are all closed.
 says_first : (id : ℕ) (routing : Option Routing) (bs : List Broadcast) (rest : List Placed)
     → Says routing bs → AllMarked rest → Say routing (own_of Closed id bs ++ rest)
 says_first id routing bs rest says all = (
@@ -104,7 +104,7 @@ none_routing [] none = refl
 none_routing (v ∷ vs) none = out_of_force v vs none.0 ∙ none_routing vs none.1
 
 module _ (s : Subject) where
-  -- what is neither in force nor open has nothing open
+  -- A version that is neither in force nor open has no open broadcast.
   ended_closed : (v : Version) → in_force v ≡ false → is_open s v ≡ false → IsTold v
       → IsClosedWhereOld v → AllClosed v.broadcasts
   ended_closed v out closed told old = by_cases s v.status refl out closed
@@ -140,7 +140,7 @@ module _ (s : Subject) where
     behind_closed vs out.1 closed.1 told.1 old.1,
   )
 
-  -- where none is open
+  -- If none of the versions is open.
   closed_say : (vs : List Version) → NoneOpen s vs → AreServed vs → AllByRecursion IsTold vs
       → AllByRecursion IsClosedWhereOld vs → LastSaysNone vs
       → Say (routing_of_first vs) (placed Closed vs)
@@ -173,7 +173,7 @@ module _ (s : Subject) where
           vs) (open_unmarked v.id b opens.0) (says_first v.id v.routing bs (placed Closed vs)
           opens.2 (rest_marked (ap (λ t. t || is_old v.status) f))))
 
-      -- all of it is withdrawn
+      -- All broadcasts of the newest version are withdrawn.
       passing : (is_served v.status ≡ false → Say (routing_of_first vs) (placed Closed vs))
           → (status : Status) → v.status ≡ status → is_served status ≡ false
           → in_force_status status ≡ false → AllWithdrawn v.broadcasts
@@ -218,7 +218,7 @@ module _ (s : Subject) where
           (says_first v.id None v.broadcasts (placed Closed vs) (last.0 (ap is_old e))
           (rest_marked (ap is_served e)))
 
-  -- the newest may be open
+  -- The newest version may be open.
   all_say : (vs : List Version) → AreSound s vs → AreServed vs → AllByRecursion IsTold vs
       → HaveEnded vs → Say (routing_of_first vs) (placed Closed vs)
   all_say [] sound served told ended = (tt, refl)
@@ -264,7 +264,7 @@ module _ (s : Subject) where
       by true e = opened s v.status refl e
       by false e = closed_say (v ∷ vs) (e, sound.0) served told ended.0 ended.1
 
--- in every record
+-- This holds in every record.
 pub force_says : (w : Windows) (s : Subject) (h : List Entry) (m : ℕ) → IsHistory w h m
     → Say (routing_in_force (replay w s h m)) (placed Closed (replay w s h m).versions)
 force_says w s h m is =

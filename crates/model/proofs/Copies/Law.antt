@@ -1,4 +1,4 @@
--- Where nothing about a subject waits for a carrier, its copy of the subject is what was last
+-- If no download about a subject is pending for a carrier, its copy of the subject is what was last
 -- published to it.
 use Rattle.std.proofs.Common.{◌≡◌, ℕ, suc, ◌≤◌, Bool, true, false, not, ◌&&◌, List, [], ◌∷◌, ◌++◌, map, Some, None, refl, ap, sym, ◌∙◌, subst, arith}
 use Rattle.std.specs.Prelude.{◌==◌, flat_map, if◌then◌else◌}
@@ -62,7 +62,7 @@ none_of : (f : SubjectVersion → List Download) → ((e : SubjectVersion) → f
 none_of f none [] = refl
 none_of f none (e ∷ es) = ap (λ ds. first_of (ds ++ flat_map f es)) (none e) ∙ none_of f none es
 
--- another's request acknowledges nothing for the carrier
+-- Another's request acknowledges nothing for the carrier.
 pub others_none : (c caller : ℕ) (request : Request) (es : List SubjectVersion)
     → is_others (Carrier c) caller request ≡ true
     → first_of (flat_map (downloads_acknowledged c caller request) es) ≡ None
@@ -73,7 +73,7 @@ others_none c caller (AcknowledgementRequest id attempt) es other =
     (λ e. ap (λ t. if t && (e.version.id == id) then downloads_of (λ b. b.attempt == attempt) e
     else []) (negated (caller == c) other)) es
 
--- one that is not another's and no registration is its acknowledgement
+-- A request that is not another's and not a registration is the carrier's acknowledgement.
 pub its_own : (c caller : ℕ) (request : Request) → registers c request ≡ false
     → is_others (Carrier c) caller request ≡ false → (id : ℕ) × (attempt : ℕ)
     × (request ≡ AcknowledgementRequest id attempt) × (caller ≡ c)
@@ -113,7 +113,7 @@ module _ (w : Windows) (c : ℕ) (s : Subject) (h : List Entry) where
       here_answers (record { windows = w; history = h; now = m }) is.3 s c id attempt is.2 d some
       (ordered w s c h m is.3) (placed_lower (Carrier c) w h m is.3 s)
 
-  -- of such an entry
+  -- A property of such an entry.
   of_own : (P : Entry → Type 0) → ((m id attempt : ℕ) → P (acknowledging m id attempt))
       → (e : Entry) → registers c e.request ≡ false → is_others (Carrier c) e.caller e.request
       ≡ false → P e
@@ -157,7 +157,7 @@ follows w c s = record {
   answers = λ h e d is unregistered some. answers w c s h d e unregistered is some;
 }
 
--- in every state
+-- This holds in every reachable state.
 pub copy_is_published : CopyIsPublished
 copy_is_published st is c s carrier idle =
     (followed st.windows c s (follows st.windows c s) st.history st.now is.history).copy

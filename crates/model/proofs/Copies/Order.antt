@@ -1,4 +1,4 @@
--- The order of a subject's broadcasts that stand: from the newest on ids fall, then attempts, and
+-- The order of a subject's selected broadcasts: from the newest on ids descend, then attempts, and
 -- minutes as well.
 use Rattle.std.proofs.Common.{◌≡◌, ℕ, suc, ◌≤◌, ◌<◌, Bool, true, false, cond, not, ◌&&◌, ◌||◌, List, [], ◌∷◌, ◌++◌, map, Option, Some, None, refl, sym, ◌∙◌, subst, arith, ◌⊎◌, inl, inr}
 use Rattle.std.specs.Prelude.{⊤, ◌==◌, nat_lt, filter}
@@ -29,7 +29,7 @@ use Rattle.numbers.proofs.Small.{number_equal, is_less}
 abbrev pub AllBelow : ℕ → List Version → Type 0
 AllBelow id vs = AllByRecursion (λ (v : Version). v.id < id) vs
 
--- each has an id above those of the earlier ones
+-- Holds if each version has an id above those of the older ones.
 abbrev pub AreFalling : List Version → Type 0
 AreFalling [] = ⊤
 AreFalling (v ∷ vs) = AllBelow v.id vs × AreFalling vs
@@ -70,7 +70,7 @@ module _ (w : WindowSet) (minute : ℕ) (change : Version → Version) (same : (
         falling_each f keeps (changed_at w minute change vs) (falling_changed vs are.1),
       )
 
--- an id that was given is below the next
+-- An id that was given is below the next.
 given_below : (made : List Subject) (s : Subject) (id : ℕ) → next_after made ≤ id
     → (vs : List Version) → AreGiven made s vs → AllBelow id vs
 given_below made s id past [] given = tt
@@ -138,7 +138,7 @@ module _ (w : Windows) (s : Subject) where
         falling_changed (present_set w h) e.minute change same (replay w s h e.minute).versions are,
       )
 
-  -- every record of every history
+  -- Every record of every history.
   are_falling : (h : List Entry) (m : ℕ) → IsHistory w h m → AreFalling (replay w s h m).versions
   are_falling = kept w s (λ h m r. AreFalling r.versions) (record {
     first = λ m. tt;
@@ -146,7 +146,7 @@ module _ (w : Windows) (s : Subject) where
     entry = falling_entry;
   })
 
--- ---- ids and attempts of what stands
+-- ---- ids and attempts of the selected broadcasts
 
 abbrev pub IsLower : Placed → Placed → Type 0
 IsLower p q = (q.id < p.id) ⊎ ((q.id ≡ p.id) × (q.attempt < p.attempt))
@@ -156,7 +156,7 @@ AreLower [] = ⊤
 AreLower (p ∷ ps) = AllByRecursion (IsLower p) ps × AreLower ps
 
 module _ (o : Look) where
-  -- those of an older version
+  -- Those of an older version are lower.
   lower_versions : (p : Placed) (vs : List Version) → AllBelow p.id vs
       → AllByRecursion (IsLower p) (placed o vs)
   lower_versions p vs below =
@@ -167,7 +167,7 @@ module _ (o : Look) where
       all_carriers v under [] = tt
       all_carriers v under (b ∷ bs) = (λ stands. inl under, all_carriers v under bs)
 
-  -- the older ones of the same version
+  -- The older ones of the same version are lower.
   lower_same : (id : ℕ) (b : Broadcast) (bs : List Broadcast) → AreBelow b.attempt bs
       → AllByRecursion (λ x. stands_for o x ≡ true → IsLower (place o id b) (place o id x)) bs
   lower_same id b [] below = tt
@@ -197,7 +197,7 @@ module _ (o : Look) where
       lower_own v.id v.broadcasts vs tended.0.apart falling.0 (are_lower all_carriers vs falling.1
       tended.1)
 
-  -- in every record
+  -- This holds in every record.
   pub placed_lower : (w : Windows) (h : List Entry) (m : ℕ) → IsHistory w h m → (s : Subject)
       → AreLower (placed o (replay w s h m).versions)
   placed_lower w h m is s =
@@ -209,7 +209,7 @@ module _ (o : Look) where
 abbrev pub AllUpTo : ℕ → List Placed → Type 0
 AllUpTo m ps = AllByRecursion (λ (p : Placed). p.minute ≤ m) ps
 
--- no minute is above one in front of it
+-- Holds if no minute is above one of a newer broadcast.
 abbrev pub MinutesFall : List Placed → Type 0
 MinutesFall [] = ⊤
 MinutesFall (p ∷ ps) = AllUpTo p.minute ps × MinutesFall ps
@@ -224,7 +224,7 @@ thinned_fall (p ∷ ps) (q ∷ qs) (inr thin) fall = (
   thinned_fall ps qs thin.1 fall.1,
 )
 
--- a further one is the last
+-- A broadcast that is added is the latest.
 pub next_fall : (m : ℕ) (ps qs : List Placed) → IsNext m ps qs → AllUpTo m ps → MinutesFall ps
     → MinutesFall qs
 next_fall m ps [] next up fall = tt
@@ -234,7 +234,7 @@ next_fall m ps (q ∷ qs) (inr new) up fall = (
   thinned_fall ps qs new.2 fall,
 )
 
--- what stands was sent up to now
+-- The selected broadcasts were sent up to now.
 pub placed_up : (o : Look) (w : Windows) (s : Subject) (h : List Entry) (now m : ℕ)
     → IsHistory w h now → now ≤ m → AllUpTo m (placed o (replay w s h now).versions)
 placed_up o w s h now m is up = each_placed o (λ p. p.minute ≤ m) (replay w s h now).versions
@@ -242,9 +242,9 @@ placed_up o w s h now m is up = each_placed o (λ p. p.minute ≤ m) (replay w s
     omega arith) v.broadcasts all) (replay w s h now).versions (versions_kept dated_kept w s h now
     is))
 
--- ---- of those that stand for anybody, those that stand for one carrier
+-- ---- of the broadcasts selected for anybody, those selected for one carrier
 
--- the second list lacks some of the first
+-- Holds if the second list is the first without some members.
 abbrev IsWithin : List Placed → List Placed → Type 0
 IsWithin ps [] = ⊤
 IsWithin [] (q ∷ qs) = ⊥

@@ -1,5 +1,5 @@
--- What an accepted request makes of the broadcasts that stand, where it is no acknowledgement and
--- no registration of the carrier for whom they stand.
+-- What an accepted request makes of the selected broadcasts, unless it is an acknowledgement or a
+-- registration of the carrier that they are selected for.
 use Rattle.std.proofs.Common.{◌≡◌, ℕ, Bool, true, false, cond, not, ◌&&◌, ◌||◌, List, [], ◌∷◌, ◌++◌, map, Option, Some, None, refl, ap, sym, ◌∙◌, subst, ◌⊎◌, inl, inr, is_some}
 use Rattle.std.specs.Prelude.{◌==◌, nat_lt, filter, unwrap_or, if◌then◌else◌}
 use Rattle.std.specs.List.{AllByRecursion}
@@ -36,9 +36,10 @@ use Rattle.model.proofs.Copies.Served.{are_served}
 use Rattle.model.proofs.Copies.Steps.{Lasts, closed_same, sent_next, thins_next, changed_thinned, open_next, force_next}
 use Rattle.numbers.proofs.Small.{negated}
 
--- ---- whom a request is of
+-- ---- whose request it is
 
--- it is no registration and no acknowledgement by the carrier for whom broadcasts are looked at
+-- Whether the request is neither a registration nor an acknowledgement of the carrier that is
+-- looked at.
 abbrev pub is_others : Look → (caller : ℕ) → Request → Bool
 is_others (Carrier c) caller (AcknowledgementRequest id attempt) = not (caller == c)
 is_others (Carrier c) caller (CommandRequest command) = not (registers c (CommandRequest command))
@@ -79,7 +80,7 @@ answered_marked (Unsent c) caller id attempt other b = refl
 answered_marked Closed caller id attempt other b = refl
 
 module _ (w : WindowSet) (o : Look) where
-  -- ---- a version that keeps what stands
+  -- ---- a version whose selected broadcasts stay
 
   same_own : (f : Broadcast → Broadcast) → ((b : Broadcast) → stands_for o (f b) ≡ stands_for o b)
       → (id : ℕ) → ((b : Broadcast) → place o id (f b) ≡ place o id b) → (bs : List Broadcast)
@@ -99,7 +100,7 @@ module _ (w : WindowSet) (o : Look) where
           later
       by_cases false later = later
 
-  -- another carrier registers
+  -- Another carrier registers.
   joined_own : (caller k : ℕ) → is_others o caller (CommandRequest (RegisterCarrier k)) ≡ true
       → (v : Version) → own o (joined_by k v) ≡ own o v
   joined_own caller k other v = same_own (joined_broadcast k) (λ b. stands b (is_open_broadcast b))
@@ -126,7 +127,7 @@ module _ (w : WindowSet) (o : Look) where
       } in p) (joined_marked o caller k other b)
       places b false = refl
 
-  -- what the last acknowledgement completes stands as it stood
+  -- What the last acknowledgement completes stays selected as it was.
   pub completed_own : (all_carriers : List ℕ) → Lasts o all_carriers
       → (k attempt minute : ℕ) (v : Version)
       → HasBegun v → own o (acknowledged_by w k attempt minute v) ≡ own o (answered_by k attempt v)
@@ -153,7 +154,7 @@ module _ (w : WindowSet) (o : Look) where
       by_cases true = by v.status refl
       by_cases false = refl
 
-  -- another carrier acknowledges
+  -- Another carrier acknowledges.
   answered_own : (caller id attempt : ℕ) → is_others o caller (AcknowledgementRequest id attempt)
       ≡ true
       → (v : Version) → own o (answered_by caller attempt v) ≡ own o v
@@ -214,7 +215,7 @@ module _ (w : WindowSet) (o : Look) where
 
 -- ---- what the tests say
 
--- a number's version that may be activated is open
+-- A number's version that may be activated is open.
 activated_open : (s : Subject) (status : Status) → is_number s ≡ true
     → not (can_activate status) ≡ false → open_by s status ≡ true
 activated_open (Number n) Pending number may = refl
@@ -222,7 +223,7 @@ activated_open (Number n) Failed number may = refl
 activated_open (Number n) _ number may = cc
 activated_open (Block b) status number may = cc
 
--- where the newest version is active, none is open
+-- If the newest version is active, none is open.
 active_closes : (s : Subject) (vs : List Version) → AreSound s vs
     → holds_of (λ (v : Version). not (is_active v.status)) (first_of_versions vs) ≡ false
     → NoneOpen s vs
@@ -243,7 +244,7 @@ module _ (o : Look) (st : State) (is : HasHistory st) (s : Subject)
   given : AreGiven (made_now st) s versions
   given = given_now st is s
 
-  -- what a change of each version makes of the list
+  -- Holds if a change of each version makes a list that `IsNext` permits.
   abbrev Passes : (Version → Version) → Type 0
   Passes change =
       IsNext st.now (placed o versions) (placed o (changed_at (set_now st) st.now change versions))
@@ -261,7 +262,7 @@ module _ (o : Look) (st : State) (is : HasHistory st) (s : Subject)
   of_id_same id change same =
       all_same (of_id id change) (λ v. either_own (set_now st) o (v.id == id) (change v) v (same v))
 
-  -- where what is in force may be sent and no version is open
+  -- The version in force may be sent, and no version is open.
   forced : (change : Version → Version) → NoneOpen s versions
       → AllByRecursion (λ v. IsThinned (own o v) (own o (change v))
       ⊎ (IsNext st.now (own o v) (own o (change v)) × (in_force v ≡ true))) versions → Passes change
@@ -285,7 +286,7 @@ module _ (o : Look) (st : State) (is : HasHistory st) (s : Subject)
             (accepted 13)),
       )))
 
-  -- a command on an active version that is refused beside an open one
+  -- A command on an active version that is refused beside an open one.
   active_next : (id : ℕ) (change : Version → Version)
       → holds_of (λ (e : SubjectVersion). not (is_active e.version.status)) (version_of_id st id)
       ≡ false →
@@ -369,7 +370,7 @@ module _ (o : Look) (st : State) (is : HasHistory st) (s : Subject)
           (everywhere (λ v. one v (in_force v) refl) versions)
       by_cases false e = all_same (λ v. v) (λ v. refl)
 
-  -- an acknowledgement by another carrier
+  -- An acknowledgement by another carrier.
   acknowledged_next : (caller id attempt : ℕ)
       → is_others o caller (AcknowledgementRequest id attempt) ≡ true
       → Passes (of_id id (acknowledged_by (set_now st) caller attempt st.now))
@@ -383,7 +384,7 @@ module _ (o : Look) (st : State) (is : HasHistory st) (s : Subject)
       ∙ answered_own (set_now st) o caller id attempt other v))) versions
       (versions_kept begun_kept st.windows s st.history st.now is))
 
-  -- what it does to the versions that there are
+  -- What a request does to the existing versions.
   done_next : (caller : ℕ) (request : Request) → refusal st (RequestFrom caller request) ≡ None
       → is_others o caller request ≡ true
       → Passes (version_after_request (set_now st) s caller st.now all_carriers request)
@@ -423,7 +424,7 @@ module _ (o : Look) (st : State) (is : HasHistory st) (s : Subject)
       (set_now st) st.now (version_after_request (set_now st) s caller st.now all_carriers request)
       versions))
 
-  -- one that is sent at once
+  -- A version that is sent at once.
   sent_made : (v : Version) → v.broadcasts ≡ []
       → IsNext st.now (placed o versions)
       (placed o (next_attempt (set_now st) Create all_carriers st.now v ∷ changed_at (set_now st)
@@ -466,7 +467,7 @@ module _ (o : Look) (st : State) (is : HasHistory st) (s : Subject)
       { routing = Some (record { lrn = lrn; cic = cic }) }) refl
   made_next caller donor _ id next = next
 
--- an entry
+-- An entry makes a list that `IsNext` permits.
 pub entry_next : (o : Look) (w : Windows) (s : Subject) (h : List Entry) (e : Entry)
     → IsHistory w (e ∷ h) e.minute → Lasts o (replay w s h e.minute).carriers
     → is_others o e.caller e.request ≡ true →

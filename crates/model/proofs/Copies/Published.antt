@@ -1,5 +1,5 @@
--- Where nothing about a subject waits for a carrier, the last broadcast that it acknowledged is
--- what was last published to it.
+-- If no download about a subject is pending for a carrier, the latest broadcast that it
+-- acknowledged is what was last published to it.
 use Rattle.std.proofs.Common.{◌≡◌, ℕ, Bool, true, false, cond, not, ◌&&◌, ◌||◌, List, [], ◌∷◌, ◌++◌, map, Option, Some, None, refl, ap, sym, ◌∙◌, arith}
 use Rattle.std.specs.Prelude.{◌==◌, nat_lt, filter, flat_map, if◌then◌else◌}
 use Rattle.std.specs.List.{list_any, AllByRecursion}
@@ -16,7 +16,7 @@ use Rattle.model.proofs.Lists.{each, each_there, each-among, each_mapped}
 use Rattle.model.proofs.Copies.{Carrier, Placed, stands_for, place, own, placed, download_of, AreInOrder, AllMarked, held, each_placed}
 use Rattle.model.proofs.Copies.Queue.{sorted-from, unqueued}
 
--- ---- what was sent to the carrier, stands and does not wait is acknowledged
+-- ---- what was sent to the carrier and is not pending is acknowledged
 
 pub among_filter : (c : ℕ) (test : ℕ → Bool) (cs : List ℕ)
     → is_among c (filter test cs) ≡ (test c && is_among c cs)
@@ -45,7 +45,7 @@ among_filter c test (d ∷ ds) = by_cases (test d) (d == c) refl refl (among_fil
         later ∙ drop (test c) (is_among c ds) (ap test (sym (equal_number d c f)) ∙ e)
     by_cases false false e f later = later
 
--- a recipient of a broadcast that is not withdrawn waits for it until it acknowledges
+-- A selected broadcast is pending for its recipient until that acknowledges it.
 pub waits_or_not : (c : ℕ) (b : Broadcast) → stands_for (Carrier c) b ≡ true
     → is_among c (waiters b) ≡ not (is_among c b.acknowledged)
 waits_or_not c b stands = by_cases (is_among c b.recipients) (is_withdrawn b) refl refl stands
@@ -72,7 +72,7 @@ acknowledged_else c b stands idle =
     by_cases false e = cc
 
 module _ (st : State) (is : HasHistory st) (c : ℕ) (s : Subject) where
-  -- where no download of the queue passes a test, whatever passes it is acknowledged
+  -- If no download in the queue passes a test, whatever passes it is acknowledged.
   pub answered_else : (test : Download → Bool) → list_any test (queue st c) ≡ false →
       AllByRecursion (λ p. test (download_of s p) ≡ true
       → p.marked ≡ true) (placed (Carrier c) (record_now st s).versions)
@@ -92,7 +92,7 @@ module _ (st : State) (is : HasHistory st) (c : ℕ) (s : Subject) where
       each (λ p done. done (subject_eq-refl s)) (placed (Carrier c) (record_now st s).versions)
       (answered_else (λ d. subject_eq d.subject s) idle)
 
--- ---- the last of the downloads
+-- ---- the last download
 
 none_last : (d : Download) (ds : List Download) → AllByRecursion (λ e. is_before d e ≡ false) ds
     → last (inserted d ds) ≡ Some d
@@ -110,7 +110,7 @@ nat_apart a b e = grind (arith, nat_tests)
 nat_same_lt : (a b : ℕ) → (a == b) ≡ true → nat_lt b a ≡ false
 nat_same_lt a b e = grind (arith, nat_tests)
 
--- of two downloads one alone is before the other
+-- Of two downloads, only one is before the other.
 not_before : (d e : Download) → is_before e d ≡ true → is_before d e ≡ false
 not_before d e is = by_cases (nat_lt e.minute d.minute) (e.minute == d.minute) (nat_lt e.id d.id)
     (e.id == d.id) (nat_lt e.attempt d.attempt) refl refl refl refl refl is
@@ -143,7 +143,7 @@ not_before d e is = by_cases (nat_lt e.minute d.minute) (e.minute == d.minute) (
     by_cases false true false false u e1 e2 e3 e4 e5 f = cc
     by_cases false false r t u e1 e2 e3 e4 e5 f = cc
 
--- what is published is the first of them
+-- What is published is the first of the list.
 last_placed : (s : Subject) (p : Placed) (ps : List Placed) → AreInOrder s (p ∷ ps)
     → last (sorted (map (download_of s) (p ∷ ps))) ≡ Some (download_of s p)
 last_placed s p ps order =

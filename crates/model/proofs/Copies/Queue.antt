@@ -1,4 +1,4 @@
--- What waits in a carrier's queue.
+-- The downloads in a carrier's queue.
 use Rattle.std.proofs.Common.{◌≡◌, ℕ, suc, inl, inr, Bool, true, false, List, [], ◌∷◌, Option, Some, None, refl, ap, sym, ◌∙◌, subst}
 use Rattle.std.specs.Prelude.{◌==◌, flat_map, filter, if◌then◌else◌}
 use Rattle.std.specs.List.{list_any, cons_option}
@@ -112,7 +112,7 @@ listed-to at from (s ∷ ss) e id given found =
 
 -- ---- the queue
 
--- the broadcast of a version of the subject of which the download is made
+-- Holds if the download is made of a broadcast of a version of its subject.
 pub record IsQueued (st : State) (c : ℕ) (d : Download) : Type 0 where
   pub at : SubjectVersion
   pub broadcast : Broadcast
@@ -144,7 +144,7 @@ queued-from st c d is =
     }
 
 module _ (st : State) (is : HasHistory st) (s : Subject) where
-  -- each version of a record is found by its id
+  -- Each version of a record is found by its id.
   pub found_by_id : (v : Version) → Among v (record_now st s).versions
       → version_with v.id (record_now st s) ≡ Some v
   found_by_id v there =
@@ -152,7 +152,7 @@ module _ (st : State) (is : HasHistory st) (s : Subject) where
       (all_found (record_now st s).versions (given_apart (made_now st) s
       (record_now st s).versions (given_now st is s))) there
 
-  -- each version of a record is one of all
+  -- Each version of a record is one of all versions.
   pub is_listed : (v : Version) → Among v (record_now st s).versions
       → Among (let e : SubjectVersion = record { subject = s; version = v } in e) (all_versions st)
   is_listed v there =
@@ -177,7 +177,7 @@ module _ (st : State) (is : HasHistory st) (s : Subject) where
       (mapped-to (download e) (filter (λ x. is_among c (waiters x)) v.broadcasts) b
       (filtered-to (λ x. is_among c (waiters x)) v.broadcasts b sent waits)))
 
-  -- where no download of the queue passes a test, no broadcast that passes it waits
+  -- If no download in the queue passes a test, no broadcast that passes it is pending.
   pub unqueued : (c : ℕ) (test : Download → Bool) → list_any test (queue st c) ≡ false
       → (v : Version) (b : Broadcast) → Among v (record_now st s).versions → Among b v.broadcasts →
       test (download (record { subject = s; version = v }) b) ≡ true

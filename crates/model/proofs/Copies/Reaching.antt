@@ -1,4 +1,4 @@
--- In every record an open broadcast is to every carrier.
+-- In every record an open broadcast is to every registered carrier.
 use Rattle.std.proofs.Common.{◌≡◌, ℕ, Bool, true, false, ◌||◌, List, [], ◌∷◌, map, refl, ap, sym, ◌∙◌}
 use Rattle.std.specs.Prelude.{◌==◌, if◌then◌else◌}
 use Rattle.std.specs.List.{AllByRecursion}
@@ -17,7 +17,7 @@ Reaches cs b = b.outcome ≡ Open → (k : ℕ) → is_among k cs ≡ true → i
 abbrev pub AllReach : List ℕ → List Broadcast → Type 0
 AllReach cs bs = AllByRecursion (Reaches cs) bs
 
--- what closes is open no more
+-- A broadcast that closes is not open.
 closed_reach : (cs : List ℕ) (outcome : Outcome) (bs : List Broadcast) → (outcome ≡ Open → ⊥)
     → AllReach cs bs → AllReach cs (on_newest (λ b. record b { outcome = outcome }) bs)
 closed_reach cs outcome [] closed all = tt
@@ -37,7 +37,7 @@ answered_reach cs c attempt (b ∷ bs) all =
     by_cases true = all.0
     by_cases false = all.0
 
--- a carrier that registers is a recipient of it too
+-- A carrier that registers is a recipient of it too.
 joined_reach : (cs : List ℕ) (c : ℕ) (bs : List Broadcast) → AllReach cs bs
     → AllReach (with_number c cs) (map (joined_broadcast c) bs)
 joined_reach cs c [] all = tt
@@ -55,7 +55,7 @@ joined_reach cs c (b ∷ bs) all = (by_cases (is_open_broadcast b) refl, joined_
     by_cases false e = λ opened k is. let no : true ≡ false = sym (ap is_open_outcome opened) ∙ e in
         cc
 
--- every move keeps it
+-- Every move keeps it.
 pub reach_kept : (w : WindowSet) → MovesKeep w (λ m cs v. AllReach cs v.broadcasts)
 reach_kept w = sends_kept (record {
   later = λ m n cs attempt bs up is. is;

@@ -1,5 +1,5 @@
--- Of the broadcasts that stand, those that were not sent to a carrier are behind those that were,
--- and the last of them says its starting row.
+-- Of the selected broadcasts, those that were not sent to a carrier are older than those that were.
+-- The latest of the former has the carrier's starting row.
 use Rattle.std.proofs.Common.{◌≡◌, ℕ, suc, Bool, true, false, cond, not, ◌&&◌, ◌||◌, List, [], ◌∷◌, ◌++◌, map, Option, None, refl, ap, sym, ◌∙◌, subst}
 use Rattle.std.specs.Prelude.{filter, if◌then◌else◌}
 use Rattle.std.specs.List.{AllByRecursion}
@@ -26,7 +26,7 @@ use Rattle.model.proofs.Copies.Passing.{entry_next}
 use Rattle.numbers.proofs.Small.{same_number}
 use Rattle.model.proofs.Copies.LastWord.{Say, force_says}
 
--- ---- where the carrier registers, it becomes a recipient of what is open
+-- ---- a carrier that registers becomes a recipient of what is open
 
 module _ (c : ℕ) (cs : List ℕ) (out : is_among c cs ≡ false) where
   joined_own : (id : ℕ) (bs : List Broadcast) → AllKnown cs bs
@@ -98,7 +98,7 @@ module _ (c : ℕ) (cs : List ℕ) (out : is_among c cs ≡ false) where
       (joined_own v.id v.broadcasts known.0) ∙ ap (λ ps. own Closed v ++ ps)
       (joined_placed vs known.1)
 
--- one that does not register now was registered before
+-- A carrier that does not register now was registered before.
 known_before : (c : ℕ) (request : Request) (cs : List ℕ) → registers c request ≡ false
     → is_among c (carrier_added (carrier_named request) cs) ≡ true → is_among c cs ≡ true
 known_before c (CommandRequest (RegisterCarrier spid)) cs other is =
@@ -108,7 +108,7 @@ known_before c _ cs other is = is
 -- ---- every record
 
 module _ (w : Windows) (c : ℕ) (s : Subject) where
-  -- once the carrier is registered
+  -- Holds once the carrier is registered.
   abbrev pub SaysStart : List Entry → ℕ → Record → Type 0
   SaysStart h m r = is_among c (carriers h) ≡ true
       → Say (starting_row w c s h) (placed (Unsent c) r.versions)
@@ -131,7 +131,7 @@ module _ (w : Windows) (c : ℕ) (s : Subject) where
       (placed (Unsent c) (judge (present_set w h) (suc m) (replay w s h m)).versions)
       (minute_next (Unsent c) w s h m is (lasts h m known)) (says known)
 
-  -- a registration of the carrier
+  -- A registration of the carrier.
   joins : (h : List Entry) (e : Entry) → IsHistory w (e ∷ h) e.minute → registers c e.request ≡ true
       → placed (Unsent c) (record_after w s h e).versions ≡ placed Closed
       (replay w s h e.minute).versions

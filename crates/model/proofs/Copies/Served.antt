@@ -1,4 +1,4 @@
--- In every record no version is in force behind one that is or was in force.
+-- In every record no version is in force that is older than one that is or was in force.
 use Rattle.std.proofs.Common.{◌≡◌, ℕ, suc, Bool, true, false, not, ◌&&◌, ◌||◌, List, [], ◌∷◌, map, Option, Some, None, refl, ap, ◌∙◌}
 use Rattle.std.specs.Prelude.{⊤, nat_lt, if◌then◌else◌}
 use Rattle.std.specs.List.{AllByRecursion}
@@ -35,17 +35,18 @@ abbrev pub is_old : Status → Bool
 is_old Old = true
 is_old _ = false
 
--- it is or was in force
+-- Whether a version with this status is or was in force.
 abbrev pub is_served : Status → Bool
 is_served status = in_force_status status || is_old status
 
--- no version is in force behind one that is or was
+-- Holds if no version is in force that is older than one that is or was.
 abbrev pub AreServed : List Version → Type 0
 AreServed [] = ⊤
 AreServed (v ∷ vs) = (is_served v.status ≡ true → NoneInForce vs) × AreServed vs
 
--- what is in force stays so or becomes old, what is old stays so, and the rest stays out of force;
--- only where a version may take over does one that sends a create come into force
+-- Whether a status may follow another. What is in force stays so or becomes old, what is old stays
+-- so, and the rest stays out of force. A version that sends a create comes into force only if it
+-- may supersede.
 abbrev pub follows : (takes : Bool) → Status → Status → Bool
 follows takes old new =
     if in_force_status old then is_served new
@@ -79,7 +80,7 @@ closed_sends_none s (Sending Delete) closed = refl
 closed_sends_none s (Sending (Modify routing)) closed = refl
 closed_sends_none s _ closed = refl
 
--- what neither is in force nor sends a create stays out of force
+-- A version that neither is in force nor sends a create stays out of force.
 pub stays_out : (takes : Bool) (old new : Status) → follows takes old new ≡ true
     → sends_create old ≡ false → in_force_status old ≡ false → in_force_status new ≡ false
 stays_out takes old new step idle out =
@@ -101,7 +102,7 @@ stays_out takes old new step idle out =
     by_cases true false false false true y e f g h is = cc
     by_cases false false false false true y e f g h is = cc
 
--- what is old was in force or old
+-- A version that is old was in force or old.
 pub was_served : (takes : Bool) (old new : Status) → follows takes old new ≡ true
     → in_force_status new ≡ false → is_served new ≡ true → is_served old ≡ true
 was_served takes old new step out served =
@@ -119,7 +120,7 @@ was_served takes old new step out served =
     by_cases true false false false false true e f is = cc
     by_cases false false false c false true e f is = cc
 
--- what is or was in force stays so
+-- A version that is or was in force stays so.
 pub still_served : (takes : Bool) (old new : Status) → follows takes old new ≡ true
     → is_served old ≡ true → is_served new ≡ true
 still_served takes old new step served =
@@ -134,7 +135,7 @@ still_served takes old new step served =
     by_cases false true false y z e is = is
     by_cases false false x y z e is = cc
 
--- what comes into force was sent, and where it may
+-- A version that comes into force sent a create, and may supersede.
 pub taker : (takes : Bool) (old new : Status) → follows takes old new ≡ true
     → in_force_status old ≡ false → in_force_status new ≡ true → (takes ≡ true)
     × (sends_create old ≡ true)
@@ -258,7 +259,7 @@ judged_follows w all_carriers j v = by_cases (is_expired j v v.status) v.status 
 
 -- ---- entries
 
--- a version takes over by an acknowledgement alone
+-- Whether the request is an acknowledgement; only by one does a version supersede another.
 abbrev pub is_answer : Request → Bool
 is_answer (AcknowledgementRequest id attempt) = true
 is_answer (CommandRequest command) = false
@@ -269,7 +270,7 @@ either : (takes : Bool) (old : Status) (b : Bool) (u v : Version)
 either takes old true u v one other = one refl
 either takes old false u v one other = other
 
--- a status that passed a command's test
+-- The status passed a command's test.
 awaiting_follows : (status : Status) → awaits_creates status ≡ true
     → follows false status Conflict ≡ true
 awaiting_follows Pending is = refl
@@ -481,7 +482,7 @@ module _ (w : Windows) (s : Subject) where
         now,
       )
 
-  -- every record of every history
+  -- Every record of every history.
   pub are_served : (h : List Entry) (m : ℕ) → IsHistory w h m → AreServed (replay w s h m).versions
   are_served = kept w s (λ h m r. AreServed r.versions) (record {
     first = λ m. tt;

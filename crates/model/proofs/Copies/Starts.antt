@@ -1,4 +1,4 @@
--- Where a carrier registers, it has acknowledged nothing yet.
+-- A carrier that registers has acknowledged nothing yet.
 use Rattle.std.proofs.Common.{◌≡◌, ℕ, Bool, true, false, List, ◌∷◌, map, refl, sym, ◌∙◌, subst}
 use Rattle.std.specs.Prelude.{if◌then◌else◌}
 use Rattle.std.specs.List.{AllByRecursion}
@@ -17,7 +17,7 @@ use Rattle.model.proofs.Copies.{Carrier, stands_for, placed, NoneMarked, each_pl
 use Rattle.model.proofs.Copies.Joining.{was_out, versions_joined, known_before_it}
 use Rattle.model.proofs.Copies.Steps.{changed_placed}
 
--- one that is not among the carriers has acknowledged nothing
+-- A carrier that is not registered has acknowledged nothing.
 module _ (w : WindowSet) (c : ℕ) (cs : List ℕ) (out : is_among c cs ≡ false) where
   joined_none : (b : Broadcast) → AreKnown cs b → is_among c (joined_broadcast c b).acknowledged
       ≡ false
@@ -43,7 +43,7 @@ module _ (w : WindowSet) (c : ℕ) (cs : List ℕ) (out : is_among c cs ≡ fals
       → is_among c b.acknowledged ≡ false) v.broadcasts (each (λ b is stands. joined_none b is)
       v.broadcasts all)) vs known)))
 
--- a registration of the carrier
+-- A registration of the carrier marks nothing.
 pub starts_none : (w : Windows) (c : ℕ) (s : Subject) (h : List Entry) (e : Entry)
     → IsHistory w (e ∷ h) e.minute → registers c e.request ≡ true
     → NoneMarked (placed (Carrier c) (record_after w s h e).versions)

@@ -1,4 +1,4 @@
--- What a change of each version makes of the broadcasts that stand, and what a minute does.
+-- What a change of each version makes of the selected broadcasts, and what a minute does.
 use Rattle.std.proofs.Common.{◌≡◌, ℕ, suc, ◌+◌, Bool, true, false, cond, not, ◌&&◌, ◌||◌, List, [], ◌∷◌, ◌++◌, map, Option, refl, ap, sym, ◌∙◌, subst, ◌⊎◌, inl, inr}
 use Rattle.std.specs.Prelude.{⊤, filter, if◌then◌else◌}
 use Rattle.std.specs.List.{list_any, AllByRecursion}
@@ -29,7 +29,7 @@ use Rattle.model.proofs.Copies.Told.{AllWithdrawn, IsToldAs, IsTold, told_kept}
 use Rattle.model.proofs.Copies.Reaching.{Reaches, AllReach, reach_kept}
 use Rattle.model.proofs.Copies.Served.{is_old, is_served, AreServed, are_served}
 
--- neither open nor ever in force: nothing of it was sent, or all is withdrawn
+-- If a version is neither open nor ever in force, nothing of it was sent, or all is withdrawn.
 unserved_all : (s : Subject) (status : Status) (routing : Option Routing) (bs : List Broadcast)
     → is_served status ≡ false → open_by s status ≡ false → IsToldAs status routing bs
     → AllWithdrawn bs
@@ -50,8 +50,8 @@ planned_in_force : (status : Status) → is_planned status ≡ true → in_force
 planned_in_force (DisconnectPending release) e = refl
 planned_in_force _ e = cc
 
--- a look whose marks stay while a broadcast closes; at what was not sent to a carrier, the carrier
--- is one of those that there are
+-- Holds if the look's marks stay while a broadcast closes. If it looks at what was not sent to a
+-- carrier, that carrier is registered.
 abbrev pub Lasts : Look → List ℕ → Type 0
 Lasts (Carrier c) all_carriers = ⊤
 Lasts Nobody all_carriers = ⊤
@@ -66,7 +66,7 @@ close_same Nobody all_carriers lasts b outcome = refl
 close_same (Unsent c) all_carriers lasts b outcome = refl
 close_same Closed all_carriers lasts b outcome = absurd lasts
 
--- what is open, is to everyone and was acknowledged by nobody is not marked
+-- An open broadcast to every carrier that nobody acknowledged is not marked.
 open_unmarked : (o : Look) (all_carriers : List ℕ) → Lasts o all_carriers → (b : Broadcast)
     → ((k : ℕ) → is_among k all_carriers ≡ true → is_among k b.recipients ≡ true)
     → b.acknowledged ≡ []
@@ -91,7 +91,7 @@ withdrawn_own o id (b ∷ bs) all =
     off x false e = cc
 
 module _ (w : WindowSet) (o : Look) (all_carriers : List ℕ) (lasts : Lasts o all_carriers) where
-  -- a send puts one in front that nobody has acknowledged
+  -- A send adds one that nobody has acknowledged.
   pub sent_next : (action : Send) (minute : ℕ) (v : Version)
       → IsNext minute (own o v) (own o (next_attempt w action all_carriers minute v))
   sent_next action minute v = by_cases (wants o all_carriers)
@@ -118,7 +118,7 @@ module _ (w : WindowSet) (o : Look) (all_carriers : List ℕ) (lasts : Lasts o a
       )
       by_cases false = next_thinned minute (own o v) (own o v) (thinned_same (own o v))
 
-  -- where an open broadcast closes with an acknowledgement, it stands as it stood
+  -- An open broadcast that closes with an acknowledgement stays as it was.
   closed_newest : (id : ℕ) (b : Broadcast) (rest : List Broadcast) (outcome : Outcome)
       → b.outcome ≡ Open → is_withdrawn_outcome outcome ≡ false →
       own_of o id (record b { outcome = outcome } ∷ rest) ≡ own_of o id (b ∷ rest)
@@ -151,7 +151,7 @@ module _ (w : WindowSet) (o : Look) (all_carriers : List ℕ) (lasts : Lasts o a
       ap (λ xs. own_of o id (on_newest (λ b. record b { outcome = outcome }) xs)) begun.2
       ∙ closed_newest id begun.0 begun.1 outcome begun.3 stands ∙ ap (own_of o id) (sym begun.2)
 
-  -- where it closes with none, it is taken away
+  -- One that closes with none is removed.
   none_thins : (id : ℕ) (b : Broadcast) (rest : List Broadcast) → b.outcome ≡ Open
       → Reaches all_carriers b → b.acknowledged ≡ []
       → IsThinned (own_of o id (b ∷ rest)) (own_of o id (record b {
@@ -197,7 +197,7 @@ module _ (w : WindowSet) (o : Look) (all_carriers : List ℕ) (lasts : Lasts o a
       by_cases (k ∷ ks) e =
           thinned_is _ _ (closed_newest id begun.0 begun.1 SomeAcknowledged begun.3 refl)
 
-  -- a minute sends only what is disconnect-pending
+  -- A minute sends only a disconnect-pending version.
   judged_sends : (minute : ℕ) (v : Version) → HasBegun v → AllReach all_carriers v.broadcasts →
       IsThinned (own o v) (own o (judged_version w all_carriers minute v))
       ⊎ (IsNext minute (own o v) (own o (judged_version w all_carriers minute v))
@@ -236,7 +236,7 @@ module _ (w : WindowSet) (o : Look) where
       by_cases true = refl
       by_cases false = refl
 
-  -- a change of each version changes its own
+  -- A change of each version changes its own broadcasts only.
   pub changed_placed : (minute : ℕ) (change : Version → Version) (vs : List Version)
       → placed o (changed_at w minute change vs) ≡ placed o (map change vs)
   changed_placed minute change [] = refl
@@ -248,7 +248,7 @@ module _ (w : WindowSet) (o : Look) where
     abbrev pub Thins : Version → Type 0
     Thins v = IsThinned (own o v) (own o (change v))
 
-    -- one that passes a test may be sent
+    -- Holds if only a version that passes the test may be sent.
     abbrev pub SendsOnly : (Version → Bool) → Version → Type 0
     SendsOnly test v = Thins v ⊎ (IsNext minute (own o v) (own o (change v)) × (test v ≡ true))
 
@@ -266,14 +266,14 @@ module _ (w : WindowSet) (o : Look) where
         (thinned_append (own o v) (own o (change v)) (placed o vs)
         (placed o (changed_at w minute change vs)) thin.0 (changed_thinned vs thin.1))
 
-    -- where none is sent
+    -- No version is sent.
     pub thins_next : (vs : List Version) → AllByRecursion Thins vs
         → IsNext minute (placed o vs) (placed o (changed_at w minute change vs))
     thins_next vs thin =
         next_thinned minute (placed o vs) (placed o (changed_at w minute change vs))
         (changed_thinned vs thin)
 
-    -- where the newest alone may be sent
+    -- Only the newest version may be sent.
     first_next : (v : Version) (vs : List Version) → IsNext minute (own o v) (own o (change v))
         → AllByRecursion Thins vs
         → IsNext minute (placed o (v ∷ vs)) (placed o (changed_at w minute change (v ∷ vs)))
@@ -286,7 +286,7 @@ module _ (w : WindowSet) (o : Look) where
     any_next test v (inl thin) = next_thinned minute (own o v) (own o (change v)) thin
     any_next test v (inr sends) = sends.0
 
-    -- where none passes the test
+    -- If none passes the test, none is sent.
     none_sends : (test : Version → Bool) (vs : List Version) → AllByRecursion (SendsOnly test) vs
         → list_any test vs ≡ false → AllByRecursion Thins vs
     none_sends test [] sends none = tt
@@ -299,7 +299,7 @@ module _ (w : WindowSet) (o : Look) where
         by_cases (inl thin) e = thin
         by_cases (inr sent_one) e = true-false (test v) sent_one.1 e
 
-    -- where what is in force may be sent and none is open: nothing newer stands
+    -- The version in force may be sent, and none is open: it has the newest broadcasts.
     pub force_next : (s : Subject) (vs : List Version) → AllByRecursion IsTold vs → AreServed vs
         → NoneOpen s vs → AllByRecursion (SendsOnly in_force) vs →
         IsNext minute (placed o vs) (placed o (changed_at w minute change vs))
@@ -340,7 +340,7 @@ module _ (w : WindowSet) (o : Look) where
     none_open s (v ∷ vs) closed = ap (λ b. b || list_any (is_open s) vs) closed.0
         ∙ none_open s vs closed.1
 
-    -- where the open one may be sent: it is the newest
+    -- The open version may be sent: it is the newest.
     pub open_next : (s : Subject) (vs : List Version) → AreSound s vs
         → AllByRecursion (SendsOnly (is_open s)) vs
         → IsNext minute (placed o vs) (placed o (changed_at w minute change vs))
@@ -369,7 +369,7 @@ module _ (w : WindowSet) (o : Look) where
         by_cases v (inl thin) = inl thin
         by_cases v (inr sent_one) = inr (sent_one.0, planned_in_force v.status sent_one.1)
 
-    -- where what is disconnect-pending may be sent: beside an open version there is none
+    -- A disconnect-pending version may be sent: no open version is beside it.
     planned_next : (s : Subject) (vs : List Version) → AllByRecursion IsTold vs → AreServed vs
         → AreSound s vs → AllByRecursion (SendsOnly (λ (v : Version). is_planned v.status)) vs →
         IsNext minute (placed o vs) (placed o (changed_at w minute change vs))
@@ -383,7 +383,7 @@ module _ (w : WindowSet) (o : Look) where
             (active_rests vs (sound.2 e) sends.1)
         by_cases false e = force_next s (v ∷ vs) told served (e, sound.0) (forces (v ∷ vs) sends)
 
--- a minute
+-- A minute makes a list that `IsNext` permits.
 pub minute_next : (o : Look) (w : Windows) (s : Subject) (h : List Entry) (m : ℕ) → IsHistory w h m
     → Lasts o (replay w s h m).carriers →
     IsNext (suc m) (placed o (replay w s h m).versions)

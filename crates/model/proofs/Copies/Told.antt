@@ -1,5 +1,5 @@
--- In every record the broadcasts of a version tell what it is: what is in force has its routing at
--- every carrier, and what was never in force has nothing anywhere.
+-- In every record the broadcasts of a version say what it is: what is in force has its routing at
+-- every carrier, and what was never in force has none anywhere.
 use Rattle.std.proofs.Common.{◌≡◌, ℕ, Bool, true, false, List, [], ◌∷◌, map, Option, Some, None, refl, ap, ◌∙◌, subst, ◌⊎◌, inl, inr}
 use Rattle.std.specs.Prelude.{⊤, ◌==◌, if◌then◌else◌}
 use Rattle.std.specs.List.{AllByRecursion}
@@ -17,7 +17,7 @@ use Rattle.model.proofs.Moves.{MovesKeep, MayActivate, is_before_sending, is_uns
 use Rattle.model.proofs.Sends.{end_closes}
 use Rattle.model.specs.Windows.{WindowSet}
 
--- ---- what is said of a version
+-- ---- what broadcasts say of a version
 
 abbrev pub AllWithdrawn : List Broadcast → Type 0
 AllWithdrawn bs = AllByRecursion (λ b. is_withdrawn b ≡ true) bs
@@ -25,17 +25,17 @@ AllWithdrawn bs = AllByRecursion (λ b. is_withdrawn b ≡ true) bs
 abbrev pub AllClosed : List Broadcast → Type 0
 AllClosed bs = AllByRecursion (λ b. is_open_broadcast b ≡ false) bs
 
--- the newest that is not withdrawn has this routing
+-- Holds if the newest broadcast that is not withdrawn has this routing.
 abbrev pub HeadIs : Option Routing → List Broadcast → Type 0
 HeadIs routing [] = ⊥
 HeadIs routing (b ∷ bs) = ((is_withdrawn b ≡ true) × HeadIs routing bs)
     ⊎ ((is_withdrawn b ≡ false) × (b.routing ≡ routing))
 
--- all are closed, and the last word is this routing
+-- Holds if all broadcasts are closed and their last word is this routing.
 abbrev pub Says : Option Routing → List Broadcast → Type 0
 Says routing bs = AllClosed bs × HeadIs routing bs
 
--- the newest is open and has this routing, and the rest are so
+-- Holds if the newest broadcast is open with this routing, and the rest have the property.
 abbrev pub Opens : Option Routing → (List Broadcast → Type 0) → List Broadcast → Type 0
 Opens routing rest [] = ⊥
 Opens routing rest (b ∷ bs) = (b.outcome ≡ Open) × (b.routing ≡ routing) × rest bs
@@ -172,9 +172,9 @@ joined_same c b = by_cases (is_open_broadcast b)
     by_cases true = (refl, refl)
     by_cases false = (refl, refl)
 
--- ---- where the open one closes
+-- ---- the open broadcast closes
 
--- with an acknowledgement: it has the last word
+-- With an acknowledgement, it has the last word.
 pub closing_says : (routing : Option Routing) (rest : List Broadcast → Type 0)
     → ((bs : List Broadcast) → rest bs → AllClosed bs) → (outcome : Outcome)
     → is_open_outcome outcome ≡ false → is_withdrawn_outcome outcome ≡ false →
@@ -184,7 +184,7 @@ closing_says routing rest closed outcome over stands [] is = absurd is
 closing_says routing rest closed outcome over stands (b ∷ bs) is =
     ((over, closed bs is.2), inr (stands, is.1))
 
--- with none: the rest have it
+-- With none, the rest have the last word.
 none_withdrawn : (routing : Option Routing) (bs : List Broadcast) → Opens routing AllWithdrawn bs
     → AllWithdrawn (on_newest (λ b. record b { outcome = NoneAcknowledged }) bs)
 none_withdrawn routing [] is = absurd is
@@ -220,12 +220,12 @@ pub answered_told : (c attempt : ℕ) (status : Status) (routing : Option Routin
     → IsToldAs status routing (map (acknowledged_broadcast c attempt) bs)
 answered_told c attempt = told_same (acknowledged_broadcast c attempt) (answered_same c attempt)
 
--- in this status
+-- The property, by a known status.
 pub told_in : (v : Version) (status : Status) → v.status ≡ status → IsTold v
     → IsToldAs status v.routing v.broadcasts
 told_in v status e told = subst (λ x. IsToldAs x v.routing v.broadcasts) e told
 
--- every move keeps it
+-- Every move keeps it.
 pub told_kept : (w : WindowSet) → MovesKeep w (λ m cs v. IsTold v)
 told_kept w = record {
   later = λ m n cs v up told. told;

@@ -1,4 +1,4 @@
--- A version that is found by a column of its row is the one of its record.
+-- A version found by a column of its row is the one of its record.
 use Rattle.std.proofs.Common.{◌≡◌, ℕ, Bool, Option, Some, None, refl, ap, sym, ◌∙◌}
 use Rattle.std.specs.Prelude.{find}
 use Rattle.numbers.specs.Subjects.{Subject}
@@ -17,7 +17,7 @@ use Rattle.settle.proofs.Passing.{OnePasses, sound_open}
 use Rattle.register.proofs.OnVersions.RowVersion.{row_version, row_subject}
 use Rattle.register.proofs.Asking.Alone.{row_is_held, none_held, one_in_force}
 
--- what was found is the version of the record that passes the test
+-- Holds if the version found is the one of the record that passes the test.
 abbrev pub IsFound : State → Subject → (Version → Bool) → Option (ℕ × VersionImpl) → Type 0
 IsFound st s f None = find f (record_now st s).versions ≡ None
 IsFound st s f (Some e) =

@@ -52,7 +52,7 @@ module _ (st : State) (c : Content) (refines : Refines c st) (s : Subject)
       sym (ap (option_map its_id) held.1
       ∙ ap (λ x. Some x) (id_found row.id (record_now st s).versions held.0 held.2))
 
--- nobody is refused
+-- No caller is refused.
 never_refused : (st : State) (caller tn : ℕ) → refusal st (QuestionFrom caller (Ids tn)) ≡ None
 unfolding tests
 never_refused st caller tn = refl

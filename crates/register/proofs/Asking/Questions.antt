@@ -1,4 +1,4 @@
--- What questions are answered, over contents.
+-- The answers to questions, over contents.
 use Rattle.std.proofs.Common.{◌≡◌, ℕ, Bool, true, false, not, ◌&&◌, ◌||◌, List, map, Option, Some, None, refl, ap, sym, ◌∙◌}
 use Rattle.std.specs.Prelude.{◌==◌, is_some, option_map, option_and_then, if◌then◌else◌}
 use Rattle.std.specs.FinMap.{get}
@@ -108,7 +108,7 @@ module _ (st : State) (c : Content) (refines : Refines c st) where
       ∙ ap (routed_else o) (routing_read (Block (block_of tn))
       (settled (Block (block_of tn)) (block_of_number st tn)) p block)
 
-  -- by the number's own
+  -- The routing of the number's own version.
   pub routed_by_number : (tn : ℕ) → ((s : Subject) → is_of_number tn st s ≡ true → IsSettled c st s)
       → (routing : Option Routing) → IsRoutingInForce c (Number tn) (Some routing)
       → routing_of st tn ≡ routing
@@ -156,7 +156,7 @@ answers_opened old new caller tn routing known same opened is =
     ∙ sym (ap (λ b. if b then Opened (routing_of st tn)
     else Closed) (sym (ap is_some (refines.represents.codes (code_of tn))) ∙ opened)))
 
--- ---- everything in force
+-- ---- all versions in force
 
 in_force_by : (st : State) → refusal st (QuestionFrom 0 AllInForce) ≡ None
 unfolding tests

@@ -1,4 +1,4 @@
--- A question changes nothing, and what is answered to it is the machine's.
+-- A question changes nothing, and its answer is the machine's.
 use Rattle.std.proofs.Common.{◌≡◌, ℕ, List, Option, Some, None, refl, subst}
 use Rattle.model.specs.Content.{Content}
 use Rattle.model.specs.Machine.{Reply, Rows, out, next, unless_refused, refused_or}
@@ -24,7 +24,7 @@ pub kept : (old new : Content) (caller : ℕ) (q : Question) (o : Option Reply)
 kept old new caller q None h st s = h st s
 kept old new caller q (Some reply) h st s = stays new st caller q (h st s).1
 
--- the rows in force
+-- The rows in force are the machine's.
 same_rows : (r : Option ℕ) (xs ys : List InForce) → Rows xs ≡ refused_or r (Rows ys) → xs ≡ ys
 same_rows None xs ys e = cc
 same_rows (Some k) xs ys e = cc

@@ -1,4 +1,4 @@
--- A version that is shown, over contents.
+-- The view of a version, over contents.
 use Rattle.std.proofs.Common.{◌≡◌, ℕ, Bool, true, false, not, ◌&&◌, ◌||◌, List, [], ◌∷◌, Some, None, refl, ap, sym, ◌∙◌}
 use Rattle.std.specs.Prelude.{◌==◌, is_none, is_some}
 use Rattle.std.specs.FinMap.{get}
@@ -24,7 +24,7 @@ use Rattle.register.proofs.EveryCall.HeldSets.{row_held}
 use Rattle.register.proofs.OnVersions.OnVersion.{clock_is_of, clock_of, shown_is}
 use Rattle.register.proofs.EveryCall.Settled.{row_now}
 
--- ---- who may ask, and of what
+-- ---- who may ask for which version
 
 abbrev show_table : (known is_admin none : Bool) → List (ℕ × Bool)
 show_table known is_admin none =

@@ -1,4 +1,4 @@
--- What an acknowledgement answers and leaves, over contents.
+-- The answer to an acknowledgement and the content after it.
 use Rattle.std.proofs.Common.{◌≡◌, ℕ, Bool, true, false, not, ◌&&◌, List, [], ◌∷◌, ◌++◌, Option, Some, None, refl, ap, sym, ◌∙◌, subst, arith}
 use Rattle.std.specs.Prelude.{◌==◌, find, filter, is_some, option_map, option_and_then, if◌then◌else◌}
 use Rattle.std.specs.FinMap.{get, keys}
@@ -38,7 +38,7 @@ use Rattle.settle.proofs.Among.{among-filtered, among_keys}
 use Rattle.register.proofs.Downloads.Queued.{IsAwaited, waiting-awaited, awaited-waiting}
 use Rattle.register.proofs.Downloads.Answering.{last_is, acknowledged_one, left_without, waiters_are, answered_one, row_was, stored_before, stored_after, waits_after, answered_all, acknowledged_is, other_broadcast, this_broadcast, takes_is, acknowledging-quiet, acknowledged_id, last-same}
 
--- ---- who waits for it
+-- ---- the broadcast of the download
 
 module _ (st : State) (old : Content) (refines : Refines old st) (caller : ℕ) (s : Subject)
     (due : IsSettled old st s) (minute id attempt : ℕ) (is : IsAwaited st caller s minute id
@@ -51,7 +51,7 @@ module _ (st : State) (old : Content) (refines : Refines old st) (caller : ℕ) 
     attempt = attempt;
   }))
 
-  -- the wait of any carrier is for this broadcast
+  -- Each carrier's download at the key is of this broadcast.
   same_wait-broadcast : (k : ℕ) (t : Subject) → get old.waits (record {
     carrier = k;
     minute = minute;
@@ -147,12 +147,12 @@ module _ (st : State) (old : Content) (refines : Refines old st) (caller : ℕ) 
       ∙ ap (option_and_then (stored_broadcast s)) is.sent ∙ stored_before caller is.broadcast
       is.waits s
 
-  -- it has a row
+  -- The broadcast has a row.
   pub broadcast_there : get old.broadcasts (record { id = id; attempt = attempt }) ≡ None → ⊥
   broadcast_there absent = let no_row : None ≡ Some (row_was caller is.broadcast is.waits s) =
       ap (of_subject s (λ (x : BroadcastRow). x.subject)) (sym absent) ∙ shown_row in cc
 
-  -- which is this one
+  -- The row is the one of the broadcast.
   pub broadcast_read : (row : BroadcastRow) → get old.broadcasts (record {
     id = id;
     attempt =
@@ -184,9 +184,9 @@ acknowledged-record : (st : State) (caller id attempt : ℕ) (s : Subject)
 acknowledged-record st caller id attempt s =
     entered-record st caller (AcknowledgementRequest id attempt) s [] refl refl
 
--- ---- rows put
+-- ---- rows written
 
--- one's own row, if it changes, comes last
+-- The version's own row, if it changes, is written last.
 last_put : (w : WindowSet) (minute : ℕ) (s : Subject) (id k : ℕ) (row : VersionRow) (x : Bool)
     (o : Option Version) (before : Option VersionRow) →
     put_rows ◌==◌ (puts_of w minute s o ++ own_rows x id row) k before ≡ (if x && (id == k)
@@ -197,7 +197,7 @@ last_put w minute s id k row false (Some u) before = refl
 
 module _ (st : State) (old : Content) (refines : Refines old st) (s : Subject)
     (due : IsSettled old st s) where
-  -- rows of other subjects
+  -- Rows of other subjects stay.
   puts_apart : (takes_over : Bool) (id : ℕ) (v : Version)
       → version_with id (record_now st s) ≡ Some v → (row : VersionRow) (x : Bool) → row.subject ≡ s
       → (t : Subject) → subject_eq s t ≡ false → (k : ℕ) →
@@ -248,7 +248,7 @@ taken_miss : (key here : BroadcastKey) (row : BroadcastRow) (before : Option Bro
 taken_miss key here row before true e = ap (λ b. if b then None else before) e
 taken_miss key here row before false e = ap (λ b. if b then Some row else before) e
 
--- all but the versions' rows are of the one version
+-- All rows but those of versions are of this version.
 one_version : (caller minute id attempt : ℕ) (last : Bool) (s : Subject) (row : BroadcastRow)
     → row.subject ≡ s
     → AreOfVersion id s (acknowledgement_changes caller minute id attempt last [] row)
@@ -395,7 +395,7 @@ module _ (st : State) (old new : Content) (refines : Refines old st) (caller : �
             takes_over k
             ∙ sym (ap (option_map (row_of s)) (miss k f))
 
-    -- all broadcasts but the one are the same
+    -- All broadcasts but this one stay.
     same_elsewhere : (k a : ℕ) (x : Bool) → (id == k) ≡ x → (x && (attempt == a)) ≡ false
         → broadcast_with k a (record_after st caller id attempt s) ≡ broadcast_with k a
         (record_now st s)

@@ -1,4 +1,4 @@
--- The subjects that wait for a carrier, as a store lists them, are those of its queue.
+-- The subjects with downloads pending for a carrier, as a store lists them, are those of its queue.
 use Rattle.std.proofs.Common.{◌≡◌, inl, inr, ℕ, Bool, true, false, List, [], ◌∷◌, map, Option, Some, None, refl, ap, sym, ◌∙◌, subst}
 use Rattle.std.specs.Prelude.{Result, Ok, Err, IfOk, is_some, Contains, if◌then◌else◌}
 use Rattle.std.specs.List.{list_any}
@@ -85,7 +85,7 @@ module _ (st : State) (c : Content) (refines : Refines c st) (settled : (s : Sub
       subst (λ t. Among t (map subject_of subjects)) same (mapped-to subject_of x.0 subjects
       (contains-among subjects x.0 x.1))
 
-  -- the store's list is the definitions'
+  -- The store's list is the list of the definitions.
   pub subjects_awaited : map subject_of subjects ≡ each_once of_queue
   subjects_awaited =
       same_rising subject_key (map subject_of subjects) (each_once of_queue)
@@ -120,7 +120,7 @@ answers_awaited old new caller subjects known same are =
           are),
     ))
 
--- ---- what the carrier's copy has of each other subject
+-- ---- the carrier's copy of every other subject
 
 told : (number : Option ℕ) (xs ys : List Subject) → Awaited xs ≡ refused_or number (Awaited ys)
     → (number ≡ None) × (ys ≡ xs)

@@ -1,4 +1,4 @@
--- A carrier that fetches and is answered nothing holds what was published to it.
+-- A carrier that fetches and gets no download has what was published to it.
 use Rattle.std.proofs.Common.{◌≡◌, ◌<◌, ℕ, zero, suc, Bool, true, false, List, [], ◌∷◌, map, Option, Some, None, refl, ap, sym, ◌∙◌, arith}
 use Rattle.std.specs.Prelude.{take, Result, Ok, Err, IfOk}
 use Rattle.std.specs.List.{list_any}
@@ -26,7 +26,7 @@ pub known_by : (known : Bool) → may_fetch known ≡ None → known ≡ true
 known_by true e = refl
 known_by false e = let f : ◌≡◌ {A = Option ℕ} (Some 1) None = e in cc
 
--- what the machine answered, where it answered downloads
+-- The machine's downloads, if the answer has downloads.
 told : (number : Option ℕ) (xs ys : List Download) → Fetched xs ≡ refused_or number (Fetched ys)
     → (number ≡ None) × (ys ≡ xs)
 told None xs ys e = (refl, (let f : Fetched xs ≡ Fetched ys = e in cc))

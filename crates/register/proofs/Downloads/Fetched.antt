@@ -1,4 +1,4 @@
--- The front of a carrier's queue, as a store answers it, is the front of the queue.
+-- The first downloads of a carrier's queue, as a store lists them, are those of the queue.
 use Rattle.std.proofs.Common.{◌≡◌, ◌<◌, ◌≤◌, ◌⊎◌, ℕ, zero, suc, inl, inr, Bool, true, false, List, [], ◌∷◌, length, map, Option, Some, None, refl, ap, sym, ◌∙◌, subst, arith}
 use Rattle.std.specs.Prelude.{not, is_some, take, All, Contains, slice_index_or, if◌then◌else◌}
 use Rattle.std.specs.declared.cmp.Ordering.TheVariants.{Less}
@@ -45,7 +45,7 @@ length-mapped : (ds : List DownloadImpl) → length (map download_of ds) ≡ len
 length-mapped [] = refl
 length-mapped (d ∷ ds) = omega (arith, length-mapped ds)
 
--- the order of the code is that of the queue
+-- The order of the code is the order of the queue.
 less-before : (a b : Download)
     → ordering_then (nat_cmp a.minute b.minute) (ordering_then (nat_cmp a.id b.id)
     (nat_cmp a.attempt b.attempt)) ≡ Less → is_before a b ≡ true
@@ -62,7 +62,7 @@ mapped-rises (d ∷ ds) sorted = (behind ds sorted.0, mapped-rises ds sorted.1)
     behind [] all = tt
     behind (e ∷ es) all = (less-before (download_of d) (download_of e) all.0, behind es all.1)
 
--- of a rising list two that have one place are one
+-- Two downloads of an ascending list with equal keys are the same.
 no_place : (a b : Download) → a.minute ≡ b.minute → a.id ≡ b.id → a.attempt ≡ b.attempt
     → is_before a b ≡ true → ⊥
 no_place a b m i t before = grind (arith, nat_tests)
@@ -82,7 +82,7 @@ one_place (d ∷ ds) x y rises (inr there) (inr also) m i t =
 
 module _ (st : State) (c : Content) (refines : Refines c st) (settled : (s : Subject)
     → IsSettled c st s) (carrier many : ℕ) where
-  -- what waits in the store waits in the queue
+  -- A download pending in the store is in the queue.
   waits-queued : (d : DownloadImpl) → IsWaitingDownload c carrier d
       → Among (download_of d) (queue st carrier)
   waits-queued d w = by_cases (get c.waits (record {
@@ -179,7 +179,7 @@ module _ (st : State) (c : Content) (refines : Refines c st) (settled : (s : Sub
             q.attempt awaited e)
         by_cases (Some row) e = found (are.each q.minute q.id q.attempt row (ap is_some waiting, e))
 
-    -- the store's front is the definitions'
+    -- The store's list is the list of the definitions.
     pub front_fetched : map download_of downloads ≡ take many (queue st carrier)
     front_fetched =
         front_is many (map download_of downloads) (queue st carrier)

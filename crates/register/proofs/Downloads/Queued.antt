@@ -1,4 +1,4 @@
--- What waits for a carrier: the register's queue, and the rows of one subject.
+-- The register's queue of a carrier, and the pending downloads of one subject in it.
 use Rattle.std.proofs.Common.{◌≡◌, ℕ, inl, inr, zero, suc, ◌<◌, Bool, true, false, not, ◌&&◌, List, [], ◌∷◌, length, Option, Some, None, refl, ap, sym, ◌∙◌, subst, arith}
 use Rattle.std.specs.Prelude.{◌==◌, find, is_none, option_and_then, if◌then◌else◌, is_some, All, slice_index_or}
 use Rattle.std.specs.List.{list_any}
@@ -27,10 +27,10 @@ use Rattle.settle.specs.Settling.{IsSettled}
 use Rattle.register.specs.Refinement.{Refines}
 use Rattle.register.proofs.EveryCall.Settled.{IdSettled, row_now, row_settled}
 
--- ---- what waits
+-- ---- pending downloads
 
--- the carrier has not acknowledged the attempt of the version, sent at the minute, of the subject's
--- record
+-- Holds if the carrier has not acknowledged this attempt, sent at the minute, of the version in the
+-- subject's record.
 pub record IsAwaited (st : State) (carrier : ℕ) (s : Subject) (minute id attempt : ℕ) : Type 0 where
   pub version : Version
   pub broadcast : Broadcast
@@ -40,7 +40,7 @@ pub record IsAwaited (st : State) (carrier : ℕ) (s : Subject) (minute id attem
   pub waits : is_among carrier (waiters broadcast) ≡ true
 
 module _ (st : State) (c : Content) (refines : Refines c st) (carrier : ℕ) where
-  -- by the rows of the subject
+  -- Downloads pending by the rows of the subject are pending in its record.
   pub waiting-awaited : (s : Subject) → IsSettled c st s → (minute id attempt : ℕ)
       → IsWaiting c carrier s minute id attempt → IsAwaited st carrier s minute id attempt
   waiting-awaited s due minute id attempt is =
@@ -193,7 +193,7 @@ module _ (st : State) (c : Content) (refines : Refines c st) (carrier : ℕ) whe
     contained (x ∷ xs) k zero lt at = inl (sym at)
     contained (x ∷ xs) k (suc n) lt at = inr (contained xs k n (omega (arith, lt)) at)
 
-    -- each key's download stands in the queue
+    -- The download of each key is in the queue.
     pub key-awaited : (k : DownloadKey) → Among k keys
         → IsAwaited st carrier s k.minute.number k.id k.attempt
     key-awaited k is =
@@ -218,7 +218,7 @@ module _ (st : State) (c : Content) (refines : Refines c st) (carrier : ℕ) whe
           of_key k awaited,
         )
 
-    -- and each download of the subject has its key
+    -- Each download of the subject in the queue has its key.
     queued-key : (d : Download) → Among d (queue st carrier) → d.subject ≡ s → (k : DownloadKey)
         × Among k keys × IsKeyOf s k d
     queued-key d is of_it =
@@ -233,7 +233,7 @@ module _ (st : State) (c : Content) (refines : Refines c st) (carrier : ℕ) whe
 
     module _ (id attempt : ℕ) (v : Version) (found : version_with id (record_now st s)
         ≡ Some v) where
-      -- a download of the id is of the subject
+      -- A download with the id is of the subject.
       of_subject_s : (d : Download) → Among d (queue st carrier) → is_download id attempt d ≡ true
           → d.subject ≡ s
       of_subject_s d is named =
@@ -294,7 +294,7 @@ module _ (st : State) (c : Content) (refines : Refines c st) (carrier : ℕ) whe
           (ap (λ b. b && has_earlier keys k.0) (sym (key_same s id attempt k.0 d.0 k.2))
           ∙ ap (λ b. is_download id attempt d.0 && b) (earlier_same k.0 d.0 k.2) ∙ d.2))
 
-      -- the keys are refused as the queue is
+      -- The keys are refused as the queue is.
       pub keys_refused : key_refusal keys id attempt ≡ first_refusal
           ((25, is_not_among (queue st carrier) id attempt) ∷ (
             26,
@@ -306,7 +306,7 @@ module _ (st : State) (c : Content) (refines : Refines c st) (carrier : ℕ) whe
           ∙ ap (λ b. first_refusal ((25, is_not_among (queue st carrier) id attempt) ∷ (26, b)
           ∷ [])) behind_same
 
-      -- the key that is found is that of a download which waits
+      -- A key that is found is the key of a pending download.
       pub found-awaited : (k : DownloadKey) → find (is_key id attempt) keys ≡ Some k
           → IsAwaited st carrier s k.minute.number id attempt × (k.id ≡ id) × (k.attempt ≡ attempt)
       found-awaited k is =
@@ -354,7 +354,7 @@ module _ (old : Content) (caller id attempt : ℕ) (st : State) (refines : Refin
       ∙ ap (λ o. acknowledgement_table st caller id attempt true (is_none o))
       (no_row_now st old refines.represents id none)
 
-  -- by the downloads of the version's subject
+  -- The refusal by the downloads of the version's subject.
   pub refused_by_keys : IdSettled old st id → (row : VersionRow) (keys : List DownloadKey)
       → is_some (get old.carriers caller) ≡ true → get old.versions id ≡ Some row
       → AreWaitsAbout old caller row.subject keys →

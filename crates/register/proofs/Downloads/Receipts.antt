@@ -1,4 +1,4 @@
--- What an acknowledgement owes at each of its ends, over what its code reads.
+-- The contract of an acknowledgement at each of its exits, by what its code reads.
 use Rattle.std.proofs.Common.{◌≡◌, inl, inr, ℕ, Bool, true, false, ◌&&◌, List, [], ◌∷◌, ◌++◌, Option, Some, None, refl, ap, sym, ◌∙◌, subst}
 use Rattle.std.specs.Prelude.{◌⊎◌, ◌==◌, nat_lt, is_some, find, if◌then◌else◌, Result, Ok, Err, IfOk, IfErr}
 use Rattle.std.specs.FinMap.{get}
@@ -52,7 +52,7 @@ use Rattle.register.proofs.Downloads.Queued.{IsAwaited, found-awaited, refused_u
 use Rattle.register.proofs.Downloads.Answering.{answered_all, row_was}
 use Rattle.register.proofs.Downloads.Acknowledged.{broadcast_there, broadcast_read, acknowledged-stands, acknowledged-leaves, acknowledged-answer}
 
--- the downloads that were read of a content that was as the old one wait there
+-- Downloads read of a content equal to the old one are pending in the old one.
 pub waits_read : (old read : Content) (carrier : ℕ) (s : Subject) (found slice : List DownloadKey)
     → read ≡ old → slice ≡ found → AreWaitsAbout read carrier s found
     → AreWaitsAbout old carrier s slice
@@ -62,7 +62,7 @@ waits_read old read carrier s found slice same is waits =
 
 -- ---- rows of the code
 
--- a broadcast's row after one more acknowledgement
+-- A broadcast's row after one more acknowledgement.
 pub answered_seen : (row after : BroadcastRow) (closes : Bool)
     → ((s : Subject) (b : Broadcast) (c : ℕ) → row ≡ broadcast_row s b
     → after ≡ broadcast_row s (after_acknowledgement c closes b)) → after ≡ answered_row closes row
@@ -144,7 +144,7 @@ answers_by_keys old new caller id attempt row u keys k same known found is waits
     found (subst (λ s. AreWaitsAbout old caller s keys) (ap (λ (r : VersionRow). r.subject) is)
     waits) ∙ sym refused)
 
--- a download that waits is of a broadcast that has a row
+-- A pending download's broadcast has a row.
 pub never_missing : (old : Content) (caller id attempt : ℕ) (row : VersionRow) (u : Inside)
     (keys : List DownloadKey) (key : DownloadKey) →
     get old.versions id ≡ Some row → version_row_of u ≡ row
@@ -174,7 +174,7 @@ never_missing old caller id attempt row u keys key found is waits key_is absent 
 
 -- ---- an acknowledgement
 
--- a version that is answered keeps its id
+-- A version keeps its id when it is acknowledged.
 completed_id : (w : WindowSet) (b : Bool) (minute : ℕ) (v : Version) →
     (completed_if w b minute v).id ≡ v.id
 completed_id w false minute v = refl
@@ -192,7 +192,7 @@ completed_id w true minute v = by_status v.status
     by_status Old = refl
     by_status Canceled = refl
 
--- and holds what it held, or the present set
+-- A version then holds the set that it held, or the present set.
 completed_holds : (w : WindowSet) (b : Bool) (minute : ℕ) (v : Version) →
     ((completed_if w b minute v).held ≡ v.held) ⊎ ((completed_if w b minute v).held ≡ w)
 completed_holds w false minute v = inl refl
@@ -211,7 +211,7 @@ completed_holds w true minute v = by_status v.status
     by_status Old = inl refl
     by_status Canceled = inl refl
 
--- so its windows are told by the numbers
+-- The numbers of the sets decide which windows the version has.
 either_held : (present before after : WindowSet) → (after ≡ before) ⊎ (after ≡ present) →
     (before.number ≡ present.number → before ≡ present) →
     windows_after present before.windows before.number after.number ≡ after.windows
@@ -357,7 +357,7 @@ answers_acknowledged old new caller id attempt clock row held u keys key broadca
             (answered_all caller attempt st.now awaited.version).broadcasts
             awaited.version.held.windows)
 
-        -- the set that it holds then
+        -- The windows of the set that the version then holds.
         windows_is : windows ≡ finished.held.windows
         windows_is =
             windows_are
@@ -512,7 +512,7 @@ answers_acknowledged old new caller id attempt clock row held u keys key broadca
             (accepted st (RequestFrom caller (AcknowledgementRequest id attempt)))
             (record { subject = row.subject; version = x })) after_is
 
--- by what the store says of the download
+-- The decision by whether the download is the last of its broadcast.
 pub taken_by : (last : Bool) (old mid : Content) (clock : ClockRow) (held : Windows)
     (wait : WaitKey) (v : VersionImpl) (changes : Changes) (result : Result Reply Refusal) →
     mid ≡ old →
@@ -523,7 +523,7 @@ taken_by last old mid clock held wait v changes (Ok reply) same is takes =
     subst (λ k. TakesIt last k clock held wait v changes reply) same takes is
 taken_by last old mid clock held wait v changes (Err r) same is takes = tt
 
--- by what the taking came to
+-- The decision by the result of the acknowledgement.
 pub decides_taken : (old mid : Content) (input : Input) (clock : ClockRow) (held : Windows)
     (wait : WaitKey) (v : VersionImpl) (changes : Changes) (result : Result Reply Refusal) →
     IfOk result (IsTakenBy mid clock held wait v changes) →

@@ -1,5 +1,5 @@
--- A call that settles its subjects first: what the settling leaves, and what the whole call then
--- owes.
+-- A call that settles its subjects first: the content after settling, and the contract of the whole
+-- call.
 use Rattle.std.proofs.Common.{◌≡◌, ℕ, Bool, true, false, ◌||◌, [], ◌∷◌, Option, Some, None, refl, ap, sym, ◌∙◌}
 use Rattle.std.specs.Prelude.{is_some}
 use Rattle.std.specs.FinMap.{get}
@@ -29,7 +29,7 @@ use Rattle.numbers.proofs.Small.{impossible, or_false}
 
 -- ---- some subjects
 
--- a content that keeps its meaning stands
+-- A content that preserves a state refines it.
 pub meaning_stands : (old new : Content) → PreservesState old new → (st : State) → Refines old st
     → Refines new st
 meaning_stands old new kept st refines =
@@ -37,7 +37,7 @@ meaning_stands old new kept st refines =
     record { represents = still.0; written = ap is_some still.1 ∙ refines.written }
 
 module _ (those : State → Subject → Bool) (chosen : Subject → Bool) (old new : Content) where
-  -- where those that are not chosen are others, the others are kept
+  -- If all chosen subjects are among those, all others are kept.
   pub those_kept : PreservesState old new
       → ((s : Subject) → chosen s ≡ false → FramesRows old new s)
       → ((st : State) → Refines old st → (s : Subject) → those st s ≡ false → chosen s ≡ false)
@@ -47,7 +47,7 @@ module _ (those : State → Subject → Bool) (chosen : Subject → Bool) (old n
     λ t other. leaves t (others st refines t other) st refines.represents refines.written,
   )
 
-  -- where they are all chosen, they are settled
+  -- If all of those are chosen, they are settled.
   pub those_settled : ((s : Subject) → chosen s ≡ true → Settles old new s)
       → ((st : State) → Refines old st → (s : Subject) → those st s ≡ true → chosen s ≡ true)
       → SettlesThose those old new
@@ -56,7 +56,7 @@ module _ (those : State → Subject → Bool) (chosen : Subject → Bool) (old n
 
 -- ---- the subject of a version
 
--- an id is that of one subject's version
+-- An id is of one subject's version only.
 one_subject : (st : State) → HasHistory st → (id : ℕ) (s t : Subject)
     → is_of_id id st s ≡ true → is_of_id id st t ≡ true → t ≡ s
 one_subject st history id s t its also = by_cases (subject_eq s t) refl
@@ -124,7 +124,7 @@ all_settled old new settled st refines s its = settled s st refines.represents r
 module _ (old mid new : Content) (input : Input)
     (kept : PreservesAndFrames (λ st s. settles st input s)
     old mid) (settled : SettlesThose (λ st s. settles st input s) old mid) where
-  -- what was settled is so of the content in between
+  -- The subjects are settled in the content between.
   pub are_settled : (st : State) → Refines old st → AreSettled mid st input
   are_settled st refines = λ s its. settled st refines s its
 
@@ -146,8 +146,8 @@ module _ (old mid new : Content) (input : Input)
       rows_joined t old mid new ((kept st refines).1 t other)
       ((answers st (kept st refines).0 (are_settled st refines)).2 t other)
 
--- what a call owes whose settling owes its part, and what is behind that where its subjects are
--- settled
+-- A call keeps its promises if its settling does and, with its subjects settled, the rest of it
+-- does.
 pub owes_after : {S : Type 0} (IsUsable HasHonestDevice : S → Type 0) (failed : S
     → ℕ) (before middle after : S) {Settles Faults Answers Says : Type 0} (old mid : Content)
     (input : Input) →

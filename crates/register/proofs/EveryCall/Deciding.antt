@@ -1,4 +1,4 @@
--- What a command comes to, exit by exit, and what becomes of it once its changes are made.
+-- The decision of a command at each exit, and the content after its changes.
 use Rattle.std.proofs.Common.{◌≡◌, Some, refl, sym, subst}
 use Rattle.std.specs.Prelude.{Result, Ok, Err, IfErr}
 use Rattle.model.specs.Content.{Content}
@@ -26,25 +26,25 @@ module _ (c : Content) (input : Input) (changes : Changes) (result : Result Repl
     accepted = tt;
   })
 
-  -- by what is said of a refused call
+  -- The decision by the clause of a refused call.
   pub decides_replied : (r : Refusal) → result ≡ Err r → SimulatesSettledStep c c input
       (replied reply_of result) → Decides c input changes result
   decides_replied r is answers = decides_err r is (subst (λ x. SimulatesSettledStep c c input
       (replied reply_of x)) is answers)
 
-  -- for a fault of the store
+  -- The decision for a fault of the store.
   pub decides_fault : (fault : StoreFault) → result ≡ Err (refusal_of fault) →
       Decides c input changes result
   decides_fault fault is = decides_replied (refusal_of fault) is
       (answers_fault c c input reply_of result fault is refl)
 
--- and so where nothing is decided yet
+-- The refusal for a fault of the store, before any decision.
 pub refused_fault : {X : Type 0} (c : Content) (input : Input) (result : Result X Refusal)
     (fault : StoreFault) → result ≡ Err (refusal_of fault) → IfErr result (Refuses c input)
 refused_fault c input result fault is = subst (λ x. IfErr x (Refuses c input)) (sym is)
     (decides_fault c input no_changes (Err (refusal_of fault)) fault refl).refused
 
--- as the machine refuses
+-- The decision for a refusal of the machine.
 pub decides_refused : (c : Content) (input : Input) (changes : Changes) (r : Refusal) →
     ((st : State) → Refines c st → AreSettled c st input → refusal st input ≡ Some (number_of r)) →
     Decides c input changes (Err r)
@@ -54,7 +54,7 @@ decides_refused c input changes r refused = record {
   accepted = tt;
 }
 
--- ---- carried out
+-- ---- the changes committed
 
 pub carried_refused : (old new : Content) (input : Input) (changes : Changes)
     (result : Result ReplyImpl Refusal) (r : Refusal) → result ≡ Err r → new ≡ old →

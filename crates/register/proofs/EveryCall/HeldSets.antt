@@ -1,5 +1,4 @@
--- The sets of windows of a settled state: what is read of a version's set is what the version
--- holds.
+-- The sets of windows in a settled state: the set read for a version is the set that it holds.
 use Rattle.std.proofs.Common.{◌≡◌, ℕ, Bool, true, false, List, [], ◌∷◌, Option, Some, None, refl, ap, sym, ◌∙◌, subst, arith}
 use Rattle.std.specs.Prelude.{◌+◌, ◌==◌, option_map, if◌then◌else◌}
 use Rattle.std.specs.FinMap.{get}
@@ -20,12 +19,12 @@ use Rattle.register.proofs.EveryCall.Settled.{IdSettled, row_now}
 
 -- ---- windows of at least a minute
 
--- the windows that hold now are
+-- The present windows are of at least a minute.
 pub windows-now : (c : Content) (st : State) → Represents c st → AreWindows (set_now st).windows
 windows-now c st represents = present-are st.windows st.history st.now represents.windows
     represents.history
 
--- and so are those of each set of the history
+-- The windows of each set of the history are of at least a minute.
 set-are : (w : Windows) (h : List Entry) (now number : ℕ) (set : WindowSet) → AreWindows w →
     IsHistory w h now →
     set_of_number number w h ≡ Some set → AreWindows set.windows
@@ -71,18 +70,18 @@ module _ (st : State) (c : Content) (clock : ClockRow) (represents : Represents 
   stored = represents.sets set.number ∙ ap (λ o. stored_set o st set.number) clock_is
       ∙ ap (option_map (λ (x : WindowSet). x.windows)) its
 
-  -- a store has it
+  -- The store has the set.
   pub has_set : HasSet c clock set.number
   has_set = λ other none. let no : None ≡ Some set.windows = sym none ∙ stored in cc
 
-  -- it is the present one where their numbers are one
+  -- A set with the present set's number is the present set.
   pub same_set : set.number ≡ clock.present.number → set ≡ clock.present
   same_set is = some_is set clock.present (sym its
       ∙ ap (λ k. set_of_number k st.windows st.history)
       (is ∙ ap (λ (x : WindowSet). x.number) present_now)
       ∙ present-is st.windows st.history ∙ ap (λ x. Some x) (sym present_now))
 
-  -- and what is read by its number are its windows
+  -- The windows read by the set's number are its windows.
   pub held_read : (w : Windows) → AreHeld c clock set.number w → w ≡ set.windows
   held_read w are = by_cases (set.number == clock.present.number) refl
     where
@@ -98,7 +97,7 @@ module _ (st : State) (c : Content) (clock : ClockRow) (represents : Represents 
 
 -- ---- the set that a version holds
 
--- its windows are of at least a minute
+-- The windows of the set that a version holds are of at least a minute.
 pub held-are : (st : State) (c : Content) → Represents c st → (s : Subject) (id : ℕ) (v : Version) →
     version_with id (record_now st s) ≡ Some v →
     AreWindows v.held.windows
@@ -106,7 +105,7 @@ held-are st c represents s id v found =
     set-are st.windows st.history st.now v.held.number v.held represents.windows represents.history
     (held-is st represents.history s id v found)
 
--- the windows that are read with the row of a settled version
+-- The windows read with the row of a settled version.
 pub row_held : (st : State) (c : Content) (clock : ClockRow) → Represents c st → c.clock
     ≡ Some clock →
     (s : Subject) (id : ℕ) (v : Version) → version_with id (record_now st s) ≡ Some v →
@@ -116,7 +115,7 @@ row_held st c clock represents clock_is s id v found row is w are =
     held_read st c clock represents clock_is v.held (held-is st represents.history s id v found) w
     (subst (λ (r : VersionRow). AreHeld c clock r.held w) is are)
 
--- of each version of a settled subject there is such a set
+-- The set that a version of a settled subject holds is in the store.
 pub has_held_set : (st : State) (c : Content) (id : ℕ) → Refines c st → IdSettled c st id →
     HasHeldSet c id
 has_held_set st c id refines settled = record {

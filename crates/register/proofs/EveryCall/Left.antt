@@ -10,7 +10,7 @@ use Rattle.register.specs.Crashes.{KeepsState, TakesSettledStep}
 use Rattle.register.specs.Settling.{SimulatesSettledStep}
 use Rattle.register.proofs.EveryCall.Before.{meaning_stands}
 
--- a content of which a call would be answered
+-- A content with an answer takes the step.
 pub comes : (old new : Content) (input : Input) (reply : Reply)
     → SimulatesSettledStep old new input (Some reply) → TakesSettledStep old input new
 comes old new input reply answers = λ st refines settled. (answers st refines settled).1
@@ -31,7 +31,7 @@ module _ {S : Type 0} (IsUsable HasHonestDevice : S → Type 0) (content : S
       AddsOnlyCrashStates HasHonestDevice IsCrashState old new (λ m. IsUsable old
       × PreservesState (content old) m)
 
-  -- a settling alone
+  -- Settling only.
   pub left_settled : LeavesMeaning a d → LeavesStaying a d
   left_settled settles done m may = by_cases (settles done m may)
     where
@@ -40,7 +40,7 @@ module _ {S : Type 0} (IsUsable HasHonestDevice : S → Type 0) (content : S
       by_cases (inl before) = inl before
       by_cases (inr kept) = inr (kept.0, meaning_stands (content a) m kept.1)
 
-  -- a settling after what left the meaning
+  -- Settling after a step that kept the state.
   pub left_then : (HasHonestDevice d → HasHonestDevice b)
       → (IsUsable b → IsUsable a × KeepsState (content a) (content b)) → LeavesStaying a b
       → LeavesStaying b d → LeavesStaying a d
@@ -52,14 +52,14 @@ module _ {S : Type 0} (IsUsable HasHonestDevice : S → Type 0) (content : S
       by_cases (inr kept) = let was = stays kept.0 in
           inr (was.0, λ st refines. kept.1 st (was.1 st refines))
 
-  -- a settling after a read
+  -- Settling after a look-up.
   pub left_read : (HasHonestDevice d → HasHonestDevice b)
       → (IsUsable b → IsUsable a × (content b ≡ content a))
       → AddsNoCrashState HasHonestDevice IsCrashState a b → LeavesStaying b d → LeavesStaying a d
   left_read honest same read = left_then honest (λ usable. let was = same usable in
       (was.0, same_stays (content a) (content b) was.1)) (λ done m may. inl (read done m may))
 
-  -- a call that was answered: the store can be used, and a crash leaves its content alone
+  -- A call that was answered: the store is usable, and a crash leaves only its content.
   pub left_kept : ((s : S) (m : Content) → IsUsable s → IsCrashState s m → m ≡ content s)
       → (Holds : Content → Type 0) → (HasHonestDevice d → IsUsable d) → (IsUsable d → IsUsable a)
       → (IsUsable d → Holds (content d)) →

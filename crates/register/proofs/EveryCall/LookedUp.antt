@@ -1,4 +1,4 @@
--- What is answered where a version is looked up, in vain or not.
+-- The answers after a version was looked up, found or not.
 use Rattle.std.proofs.Common.{◌≡◌, ℕ, Bool, true, false, inl, inr, None, refl, ap, sym, ◌∙◌, subst}
 use Rattle.std.specs.Prelude.{Result, Err}
 use Rattle.model.specs.State.{State}
@@ -29,7 +29,7 @@ pub looked_up_before : (old mid : Content) (is_known : Bool) (id : ℕ) (clock :
 looked_up_before old mid is_known id clock row held same found =
     subst (λ m. IsLookedUp m is_known id clock row held) same found
 
--- by what is answered to a caller who is not known, and of an id that no version has
+-- The answer by the refusals of an unknown caller and of an id without a version.
 pub answers_in_vain : {A : Type 0} (old mid new : Content) (input : Input) (is_known : Bool)
     (id : ℕ) (seen : A → Reply) (result : Result A Refusal) (r : Refusal) →
     result ≡ Err r → mid ≡ old → new ≡ mid → IsLookupRefused mid is_known id r →
@@ -52,7 +52,7 @@ answers_in_vain old mid new input is_known id seen result r is early late vain u
         (missing registered none)
     by_cases (inr (inr past)) = answers_without old new input _ past (late ∙ early)
 
--- the same, before anything is written and where nothing else was read
+-- The decision by these refusals, before anything is written and if nothing else was read.
 pub decides_in_vain : (old : Content) (input : Input) (changes : Changes) (is_known : Bool)
     (id : ℕ) (result : Result ReplyImpl Refusal) (r : Refusal) → result ≡ Err r
     → IsLookupRefused old is_known id r
@@ -64,7 +64,7 @@ decides_in_vain old input changes is_known id result r is vain unknown missing =
     (answers_in_vain old old old input is_known id reply_of result r is refl refl vain unknown
     missing)
 
--- and what was read for it
+-- The look-up that was refused only reads.
 module _ {S : Type 0} {IsUsable HasHonestDevice : S → Type 0} {IsCrashState : S → Content → Type 0}
     {content : S → Content} {failed : S → ℕ} {a b : S} where
   pub reads_in_vain : {A B : Type 0} {old : Content} {id : ℕ} {input : Input} (r : Refusal)

@@ -1,4 +1,4 @@
--- What an assignment leaves and answers, over contents.
+-- The answer to an assignment and the content after it.
 use Rattle.std.proofs.Common.{◌≡◌, ℕ, ◌+◌, ◌≤◌, Bool, true, false, cond, ◌||◌, List, [], ◌∷◌, Option, Some, None, refl, ap, sym, ◌∙◌, subst}
 use Rattle.std.specs.Prelude.{nat_lt, is_none, option_map, if◌then◌else◌}
 use Rattle.std.specs.List.{list_any}
@@ -48,7 +48,7 @@ is_there : {A : Type 0} (o : Option A) → is_none o ≡ false → (x : A) × (o
 is_there None e = cc
 is_there (Some x) e = (x, refl)
 
--- an assignment is not refused with storage
+-- An assignment is not refused with `Storage`.
 pub assignment_never : (caller : ℕ) (facts : BlockFacts) (r : Refusal)
     → Some (number_of r) ≡ assignment_refusal caller facts → r ≡ Storage → ⊥
 assignment_never caller facts r is storage =
@@ -114,7 +114,7 @@ module _ (old new : Content) (caller : ℕ) (a : Assignment) (clock : ClockRow) 
       donor_is = (block_facts_are st old refines a.block.number settled read has.is_read clock
           has.clock_is caller (assigned a) facts has.are refl).donor
 
-      -- the version as the definitions make it
+      -- The version that the definitions make.
       made : (id : ℕ) (cs : List ℕ)
           → version_of id (next_attempt (set_now st) Create cs st.now (blank id)).broadcasts
           (set_now st).windows version ≡ next_attempt (set_now st) Create cs st.now (blank id)

@@ -1,4 +1,4 @@
--- What the commands on a block leave and answer, over contents.
+-- The answers to commands on a block and the contents after them.
 use Rattle.std.proofs.Common.{◌≡◌, ℕ, true, cond, not, List, [], ◌∷◌, Some, None, ap, sym, ◌∙◌, subst}
 use Rattle.std.specs.Prelude.{◌==◌, find, option_map}
 use Rattle.std.specs.FinMap.{keys}
@@ -39,7 +39,7 @@ first_has_id (u ∷ us) v is =
     ap (λ b. cond b (Some u) (find (λ x. x.id == v.id) us)) (ap (λ (x : Version). x.id == v.id) same
     ∙ same_number v.id) ∙ is
 
--- `u` is what was read of the block's last version, and `next` what becomes of it
+-- `u` is the block's last version as read, and `next` the version after the release.
 module _ (st : State) (old new : Content) (caller block : ℕ) (v : Version) (u next : VersionImpl)
     (id : ℕ) (clock : ClockRow) (all_carriers : List ℕ) (view : View)
     (refines : Refines old st) (due : IsSettled old st (Block block))

@@ -1,4 +1,4 @@
--- What a command on a block has read, and how it is refused, over contents.
+-- What a command on a block reads, and how it is refused, over contents.
 use Rattle.std.proofs.Common.{arith, ◌≡◌, ◌≤◌, ℕ, Bool, true, false, not, ◌&&◌, ◌||◌, inl, inr, List, Option, Some, refl, ap, sym, ◌∙◌, subst}
 use Rattle.std.specs.Prelude.{◌==◌, ◌≢◌, nat_lt, is_some, Result, Err}
 use Rattle.std.specs.FinMap.{get}
@@ -27,21 +27,21 @@ carrier_is : (st : State) (old : Content) → Refines old st → (k : ℕ) (b : 
     → b ≡ is_some (get old.carriers k) → is_carrier st k ≡ b
 carrier_is st old refines k b is = sym (refines.represents.carriers k) ∙ sym is
 
--- the donor, unless it is registered
+-- The donor is unknown if it is not registered.
 pub donor_unknown : (st : State) (old : Content) (caller block : ℕ) (used : List ℕ) (lrn : ℕ)
     (cic : Option ℕ) → Refines old st → (known : Bool) → known ≡ is_some (get old.carriers caller) →
     holds_at 1 (own_tests st caller (Donate block used lrn cic)) ≡ not known
 donor_unknown st old caller block used lrn cic refines known is =
     ap not (carrier_is st old refines caller known is)
 
--- the holder, unless it is registered
+-- The holder is unknown if it is not registered.
 pub holder_unknown : (st : State) (old : Content) (caller block holder lrn : ℕ) (cic : Option ℕ)
     → Refines old st → (known : Bool) → known ≡ is_some (get old.carriers holder) →
     holds_at 1 (own_tests st caller (Assign block holder lrn cic)) ≡ not known
 holder_unknown st old caller block holder lrn cic refines known is =
     ap not (carrier_is st old refines holder known is)
 
--- who releases, unless it is registered or the administrator
+-- The releaser is unknown if it is neither registered nor the administrator.
 pub releaser_unknown : (st : State) (old : Content) (caller block : ℕ) → Refines old st
     → (known : Bool) → known ≡ ((caller == npac) || is_some (get old.carriers caller)) →
     holds_at 1 (own_tests st caller (Release block)) ≡ not known
@@ -55,9 +55,9 @@ releaser_unknown st old caller block refines known is =
     by_cases false true = refl
     by_cases false false = refl
 
--- ---- refused for carriers
+-- ---- refusals of carriers
 
--- by what was answered where no block was found
+-- The answer when no block was found.
 pub answers_unfound : {A : Type 0} (old new : Content) (caller : ℕ) (command : Command)
     (is_known : Bool) (seen : A → Reply) (result : Result A Refusal) (r : Refusal) →
     result ≡ Err r → new ≡ old → IsBlockLookupRefused is_known r →
@@ -87,7 +87,7 @@ answers_unfound old new caller command is_known seen result r is same vain unkno
 pub not_past : (n : ℕ) → nat_lt limit n ≡ false → n ≤ limit
 not_past n below = grind (arith, nat_tests)
 
--- ---- what was read
+-- ---- the contents that were read
 
 pub record HasFound (old : Content) (caller block : ℕ) (command : Command) (clock : ClockRow)
     (read : BlockRead) (facts : BlockFacts) : Type 0 where
@@ -97,7 +97,7 @@ pub record HasFound (old : Content) (caller block : ℕ) (command : Command) (cl
   pub is_read : IsBlockRead old block read
   pub are : AreBlockFacts read (is_routing_good old caller command) clock.next_id facts
 
--- by the content of which the block was read, which is the old one
+-- The block was read of a content equal to the old one.
 pub has_found : (old mid : Content) (caller block : ℕ) (command : Command) (clock : ClockRow)
     (read : BlockRead) (facts : BlockFacts) (is_known good : Bool) →
     mid ≡ old → IsBlockFound mid is_known block clock read → ((st : State) → Refines old st
@@ -113,9 +113,9 @@ has_found old mid caller block command clock read facts is_known good same found
       are = subst (λ b. AreBlockFacts read b clock.next_id facts) is are;
     }
 
--- ---- refused by the facts
+-- ---- refusals by the facts
 
--- a refusal that the machine knows, or want of memory
+-- A refusal of the machine, or an allocation failure.
 pub answers_or_no_memory : {A : Type 0} (old new : Content) (caller : ℕ) (command : Command)
     (seen : A → Reply) (result : Result A Refusal) (r : Refusal) (o : Option ℕ) → result ≡ Err r
     → new ≡ old →

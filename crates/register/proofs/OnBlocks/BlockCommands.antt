@@ -1,4 +1,4 @@
--- The commands on a block: what each makes and changes.
+-- The commands on a block: the versions that each makes and the rows that it changes.
 use Rattle.std.proofs.Common.{◌≡◌, ℕ, Bool, true, false, cond, not, ◌&&◌, ◌||◌, List, [], ◌∷◌, map, Option, Some, None, refl, ap, sym, ◌∙◌}
 use Rattle.std.specs.Prelude.{◌==◌, filter, is_none, option_map, unwrap_or, if◌then◌else◌}
 use Rattle.std.specs.List.{list_any}
@@ -32,12 +32,12 @@ use Rattle.model.specs.Windows.{WindowSet}
 
 -- ---- donations
 
--- a protective version before it is sent
+-- A protective version before it is sent.
 abbrev pub protective : (w : WindowSet) (donor minute lrn : ℕ) (cic : Option ℕ) → ℕ → Version
 protective w donor minute lrn cic id = record (blank_version w id donor donor minute minute)
     { routing = Some (record { lrn = lrn; cic = cic }); protective = true }
 
--- the used numbers that have no version in force
+-- The used numbers without a version in force.
 abbrev pub to_protect : State → (block : ℕ) (used : List ℕ) → List Subject
 to_protect st block used =
     filter (λ s. is_none (version_in_force (record_now st s))) (used_numbers block used)
@@ -60,7 +60,7 @@ donation-makes st caller block used lrn cic lines = record {
   quiet_before = λ id. refl;
 }
 
--- the block is none of the numbers
+-- The block is not one of the numbers.
 no_block : (b block : ℕ) (test : Subject → Bool) (lines : List ℕ)
     → list_any (subject_eq (Block b))
     (filter test (map (λ line. Number (number_in block line)) lines)) ≡ false
@@ -77,7 +77,7 @@ no_block b block test (line ∷ lines) =
     by_cases later true = later
     by_cases later false = later
 
--- the block's row: its donor, and no version
+-- The block's row: its donor, and no version.
 abbrev pub donated_row : (block donor : ℕ) → Option (ℕ × BlockRow)
 donated_row block donor = Some (block, record { donor = donor; last = None })
 
@@ -122,7 +122,7 @@ donation-blocks st old caller block used lrn cic lines refines none k = by_cases
 
 -- ---- assignments
 
--- the block's version before it is sent
+-- The block's version before it is sent.
 abbrev pub unsent_block : (w : WindowSet) (donor : Option ℕ)
     → (holder minute lrn : ℕ) (cic : Option ℕ) → ℕ → Version
 unsent_block w donor holder minute lrn cic id =
@@ -148,7 +148,7 @@ assignment-makes st caller block holder lrn cic = record {
   quiet_before = λ id. refl;
 }
 
--- the block's row: its donor as before, and the version that is made
+-- The block's row: its donor as before, and the version that is made.
 abbrev pub assigned_row : (block donor id : ℕ) → Option (ℕ × BlockRow)
 assigned_row block donor id = Some (block, record { donor = donor; last = Some id })
 
@@ -210,7 +210,7 @@ assignment-blocks st old caller block holder lrn cic donor refines donated k =
 
 -- ---- releases
 
--- a release changes the block's version in force alone, which sends a delete
+-- A release changes only the block's version in force, which sends a delete.
 pub release-steps : (st : State) (old : Content) (caller block : ℕ) (v : Version) → Refines old st
     → version_with v.id (record_now st (Block block)) ≡ Some v → in_force v ≡ true →
     StepsOne st caller (CommandRequest (Release block)) (Block block) v.id

@@ -1,4 +1,4 @@
--- The facts of a block that are read are those of the state.
+-- The facts read of a block are those of the state.
 use Rattle.std.proofs.Common.{◌≡◌, ℕ, Bool, true, false, not, ◌||◌, List, [], ◌∷◌, Option, Some, None, refl, ap, sym, ◌∙◌, subst, inl}
 use Rattle.std.specs.Prelude.{option_map}
 use Rattle.std.specs.FinMap.{get}
@@ -57,14 +57,14 @@ not_not : (b : Bool) → b ≡ not (not b)
 not_not true = refl
 not_not false = refl
 
--- a command on a block
+-- Whether the command is one on a block.
 abbrev pub is_on_block : Command → Bool
 is_on_block (Donate block used lrn cic) = true
 is_on_block (Assign block holder lrn cic) = true
 is_on_block (Release block) = true
 is_on_block _ = false
 
--- its routing number
+-- The routing number of the command.
 pub routing_is : (st : State) (c : Content) → Refines c st → (caller : ℕ) (command : Command)
     → is_on_block command ≡ true
     → is_routing_good c caller command ≡ not (holds_at 7 (own_tests st caller command))
@@ -88,7 +88,7 @@ module _ (st : State) (c : Content) (refines : Refines c st) (block : ℕ) (sett
   pub block_due : IsSettled c st (Block block)
   block_due = settled (Block block) (ap (λ b. b || false) (subject_eq-refl (Block block)))
 
-  -- what was read by the id of the version made last
+  -- The version read by the id of the version made last.
   seen_by_id : (v : Version) → last_version (record_now st (Block block)) ≡ Some v
       → (e : Option (ℕ × VersionImpl)) → IsLast c (Some v.id) e
       → HasModelIfAny (option_map (λ p. p.1) e) (Some v)

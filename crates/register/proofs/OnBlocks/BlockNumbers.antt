@@ -30,7 +30,7 @@ use Rattle.register.proofs.Asking.Alone.{row_is_held, one_in_force}
 use Rattle.settle.proofs.Among.{all-among}
 use Rattle.register.proofs.OnBlocks.ForceCounted.{filtered-rise, rekeyed-rise, passing_rows, length-rows}
 
--- ---- what is told
+-- ---- keys of numbers
 
 told_is : {So : Type 0} (b : Bool) → Reflects b So → b ≡ true → So
 told_is true told e = told
@@ -51,7 +51,7 @@ not_told true told never = absurd (never told)
 not_is : (b : Bool) → b ≡ false → not b ≡ true
 not_is b e = ap not e
 
--- a later number has a later key
+-- A greater number has a greater key.
 grows : (n m : ℕ) → n < m → subject_key (Number n) < subject_key (Number m)
 grows n m less = omega (arith, less)
 
@@ -125,7 +125,7 @@ module _ (st : State) (c : Content) (refines : Refines c st) where
     its : (x : NumberInUse) → Among x numbers → IsInBlock c block x
     its x there = all-among (IsInBlock c block) numbers are.only x there
 
-    -- the number that is told of a subject which stands
+    -- A number with a version in force or an open one is listed.
     the_number : (n : ℕ) → block_of n ≡ block → HasRowInForce c (Number n) ⊎ HasOpenRow c (Number n)
         → (x : NumberInUse) × Among x numbers × (x.tn.number ≡ n)
     the_number n own stood = let x = are.each n own stood in
@@ -205,7 +205,7 @@ module _ (st : State) (c : Content) (refines : Refines c st) where
     abbrev its_subject : NumberInUse → Subject
     its_subject x = Number x.tn.number
 
-    -- a subject that is told in force
+    -- A subject listed as in force.
     told_force : (s : Subject) → Among s (in_force_numbers numbers) → (x : NumberInUse)
         × (s ≡ Number x.tn.number) × (block_of x.tn.number ≡ block)
         × HasRowInForce c (Number x.tn.number)
@@ -259,7 +259,7 @@ module _ (st : State) (c : Content) (refines : Refines c st) where
         (is_some (version_in_force (record_now st (Number (number_in block line)))))
         (line_told (number_in block line) own) (line_back (number_in block line) own)
 
-    -- ---- as many of them beside others
+    -- ---- equally many beside the named ones
 
     module _ (used : List Subject) where
       abbrev is_other : Subject → Bool

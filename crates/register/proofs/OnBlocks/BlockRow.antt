@@ -1,4 +1,4 @@
--- The row of a block names a version of which there is a row.
+-- A block's row names a version that has a row.
 use Rattle.std.proofs.Common.{◌≡◌, ℕ, true, false, List, [], ◌∷◌, ◌||◌, Option, Some, None, refl, ap, sym, ◌∙◌, subst}
 use Rattle.std.specs.Prelude.{◌==◌, is_some, option_map}
 use Rattle.std.specs.FinMap.{get}
@@ -15,7 +15,7 @@ use Rattle.settle.specs.Abstraction.{block_row_of}
 use Rattle.register.specs.Blocks.{IsRowThere, last_id}
 use Rattle.model.proofs.Answered.{first_has_id}
 
--- the id that a row names
+-- The id that a row names.
 abbrev pub named_by : Option BlockRow → Option ℕ
 named_by None = None
 named_by (Some row) = row.last
@@ -24,14 +24,14 @@ pub names_last : (o : Option BlockRowImpl) → last_id o ≡ named_by (option_ma
 names_last None = refl
 names_last (Some row) = refl
 
--- it is that of the version made last, where the block is donated
+-- The id is that of the version made last, if the block is donated.
 pub stored_last : (donor : Option ℕ) (last : Option ℕ)
     → named_by (option_map (λ d. record { donor = d; last = last }) donor)
     ≡ (elim donor [ Some d ↦ last | None ↦ None ])
 stored_last None last = refl
 stored_last (Some d) last = refl
 
--- a version of a record has a row
+-- A version of a record has a row.
 pub row_is_there : (st : State) (c : Content) → Represents c st → (s : Subject) (id : ℕ)
     → has_id id (record_now st s).versions ≡ true → is_some (get c.versions id) ≡ true
 row_is_there st c represents s id has = by_cases (get c.versions id) refl
@@ -42,7 +42,7 @@ row_is_there st c represents s id has = by_cases (get c.versions id) refl
 
 module _ (st : State) (c : Content) (represents : Represents c st) (block : ℕ)
     (row : Option BlockRowImpl) (is : option_map block_row_of row ≡ get c.blocks block) where
-  -- what the row names
+  -- What the row names.
   pub named_is : last_id row
       ≡ (elim (donor_of block st.history) [
         | Some d ↦ option_map (λ (v : Version). v.id)

@@ -1,4 +1,4 @@
--- What a donation leaves and answers, over contents.
+-- The answer to a donation and the content after it.
 use Rattle.std.proofs.Common.{◌≡◌, ℕ, suc, ◌+◌, ◌≤◌, ◌<◌, Bool, true, false, List, [], ◌∷◌, ◌++◌, map, length, Some, None, refl, ap, sym, ◌∙◌, subst, inl, inr}
 use Rattle.std.specs.Prelude.{◌==◌, ◌≢◌, nat_lt, filter, is_none, Result, Err, if◌then◌else◌}
 use Rattle.std.specs.List.{list_any}
@@ -45,7 +45,7 @@ use Rattle.register.proofs.Records.Pooled.{pooled-stands}
 use Rattle.model.proofs.Donated.{rising-lines}
 use Rattle.model.specs.Windows.{WindowSet}
 
--- a donation is not refused with storage
+-- A donation is not refused with `Storage`.
 pub donation_never : (caller : ℕ) (d : Donation) (facts : BlockFacts) (r : Refusal)
     → (r ≢ NoMemory → donation_refusal caller d facts ≡ Some (number_of r)) → r ≡ Storage → ⊥
 donation_never caller d facts r says storage =

@@ -1,4 +1,4 @@
--- What is in force counts as many subjects that pass a test as rows of them.
+-- As many subjects in force pass a test as rows in force do.
 use Rattle.std.proofs.Common.{◌≡◌, ℕ, suc, ◌<◌, Bool, true, false, cond, List, [], ◌∷◌, length, map, refl, ap, sym, ◌∙◌}
 use Rattle.std.specs.Prelude.{filter, if◌then◌else◌}
 use Rattle.numbers.specs.Subjects.{Subject, subject_lt}
@@ -6,7 +6,7 @@ use Rattle.model.specs.Versions.{in_force}
 use Rattle.model.specs.State.{SubjectVersion, InForce, row_inserted, rows_in_force}
 use Rattle.model.proofs.Ascending as ascending
 
--- ---- rising lists
+-- ---- ascending lists
 
 module _ {A : Type 0} (key : A → ℕ) (p : A → Bool) where
   above_filtered : (k : ℕ) (xs : List A) → ascending.AreAbove key k xs
@@ -19,7 +19,7 @@ module _ {A : Type 0} (key : A → ℕ) (p : A → Bool) where
       by_cases later true = (above.0, later)
       by_cases later false = later
 
-  -- those of a rising list that pass a test rise
+  -- The items of an ascending list that pass a test ascend.
   pub filtered-rise : (xs : List A) → ascending.Rise key xs → ascending.Rise key (filter p xs)
   filtered-rise [] rise = tt
   filtered-rise (x ∷ xs) rise = by_cases (filtered-rise xs rise.1) (p x)
@@ -29,7 +29,7 @@ module _ {A : Type 0} (key : A → ℕ) (p : A → Bool) where
       by_cases later true = (above_filtered (key x) xs rise.0, later)
       by_cases later false = later
 
--- what rises by one number rises by another that grows with it
+-- A list that ascends by one number ascends by another that grows with it.
 pub rekeyed-rise : {A : Type 0} (key other : A → ℕ)
     → ((x y : A) → key x < key y → other x < other y) → (xs : List A) → ascending.Rise key xs
     → ascending.Rise other xs
@@ -42,7 +42,7 @@ rekeyed-rise {A} key other grows (x ∷ xs) rise =
     above [] all = tt
     above (y ∷ ys) all = (grows x y all.0, above ys all.1)
 
--- ---- as many
+-- ---- equally many
 
 module _ (p : Subject → Bool) where
   abbrev pub passing_rows : List InForce → List Subject
@@ -66,7 +66,7 @@ module _ (p : Subject → Bool) where
   counted-swap false true n = refl
   counted-swap false false n = refl
 
-  -- a row inserted counts as one in front
+  -- An inserted row counts as if it were the first.
   length-inserted : (r : InForce) (qs : List InForce) → length (passing_rows (row_inserted r qs))
       ≡ counted (p r.subject) (length (passing_rows qs))
   length-inserted r [] = first_counted (p r.subject) r.subject []

@@ -17,7 +17,7 @@ use Rattle.pool.specs.Donations.{AreProtective}
 use Rattle.register.proofs.OnBlocks.BlockCommands.{protective}
 use Rattle.register.proofs.Records.MadeSent.{AreApart, AreBegun, bare}
 
--- ---- each begins as it is made
+-- ---- each begins to send as it is made
 
 abbrev pub cic_of : Donation → Option ℕ
 cic_of d = option_map (λ (c : Cic). c.number) d.routing.cic
@@ -47,7 +47,7 @@ planned-subjects w caller minute d from (s ∷ ss) (e ∷ es) are =
 planned-subjects w caller minute d from [] (e ∷ es) are = absurd are
 planned-subjects w caller minute d from (s ∷ ss) [] are = absurd are
 
--- ---- the used numbers are each one
+-- ---- the used numbers have no duplicates
 
 abbrev pub Once : List Subject → Type 0
 Once [] = ⊤
@@ -98,7 +98,7 @@ named : (s : Subject) (bs : List SendingVersion)
 named s [] = refl
 named s (b ∷ bs) = ap (λ c. subject_eq s b.subject || c) (named s bs)
 
--- so each of the versions is of a subject of its own
+-- Each of the versions is of a subject of its own.
 module _ (w : WindowSet) (minute : ℕ) (all_carriers : List ℕ) (blank : ℕ
     → Version) (is_id : (id : ℕ)
     → (blank id).id ≡ id) (unsent : (id : ℕ) → (blank id).broadcasts ≡ []) (quiet : (id : ℕ)

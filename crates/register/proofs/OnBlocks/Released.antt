@@ -1,4 +1,4 @@
--- What a release has read, over contents, and what it leaves and answers.
+-- What a release reads, its answer, and the content after it.
 use Rattle.std.proofs.Common.{◌≡◌, ℕ, false, ◌||◌, List, Option, Some, None, refl, ap, sym, ◌∙◌, subst}
 use Rattle.std.specs.Prelude.{is_none, option_map, if◌then◌else◌}
 use Rattle.std.specs.FinMap.{get, keys}
@@ -44,14 +44,14 @@ use Rattle.register.proofs.EveryCall.Composed.{Views, answers_accepted, answers_
 use Rattle.register.proofs.OnVersions.RowVersion.{row_subject}
 use Rattle.register.proofs.EveryCall.Unfailing.{never_storage}
 
--- a release is not refused with storage
+-- A release is not refused with `Storage`.
 pub release_never : (caller : ℕ) (facts : BlockFacts) (r : Refusal)
     → Some (number_of r) ≡ release_refusal caller facts → r ≡ Storage → ⊥
 release_never caller facts r is storage =
     never_storage (release_tests caller facts) (refl, (refl, (refl, (refl, (refl, (refl, tt))))))
     (sym is ∙ ap (λ x. Some (number_of x)) storage)
 
--- the version of the block that was made last
+-- Holds if `u` is the version made last of the block, with its id.
 record IsLastOne (st : State) (block id : ℕ) (u : VersionImpl) : Type 0 where
   version : Version
   last : last_version (record_now st (Block block)) ≡ Some version
@@ -93,7 +93,7 @@ module _ (old new : Content) (caller block : ℕ) (clock : ClockRow) (read : Blo
       due : IsSettled old st (Block block)
       due = block_due st old refines block settled
 
-      -- what was read of the version is so
+      -- The row read is the row of that version.
       its_row : (k : ℕ) → last_id read.row ≡ Some k → (id ≡ k) × (row : Inside)
           × (get old.versions k ≡ Some (version_row_of row)) × (row.version ≡ u)
       its_row k is =
@@ -123,7 +123,7 @@ module _ (old new : Content) (caller block : ℕ) (clock : ClockRow) (read : Blo
                 (row_of (Block block) v) (sym row.2 ∙ there));
           }
         where
-          -- a block that nobody donated is not found
+          -- A block that is not donated is not found.
           donated : (donor : Option ℕ)
               → (is_none donor || is_none (last_version (record_now st (Block block)))) ≡ false →
               (elim donor [

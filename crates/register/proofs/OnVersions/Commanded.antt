@@ -1,4 +1,4 @@
--- What a command on a version answers and leaves, over contents.
+-- The answer to a command on a version and the content after it.
 use Rattle.std.proofs.Common.{◌≡◌, ℕ, Bool, true, false, not, List, [], ◌∷◌, Option, Some, None, refl, ap, sym, ◌∙◌, subst}
 use Rattle.std.specs.Prelude.{is_some}
 use Rattle.std.specs.FinMap.{get, keys}
@@ -73,7 +73,7 @@ command-names : (c : VersionCommand) (id : ℕ) (s : Subject)
     → NamesVersion id s (CommandRequest (OnVersion id c))
 command-names c id s = record { unmade = λ at. refl; elsewhere = λ t vs apart none. none }
 
--- its refusals are the machine's
+-- Its refusals are the machine's.
 machine_own : (w : Windows) (now caller : ℕ) (told : CommandFacts) (c : VersionCommand)
     (s : Subject)
     (v : Version)
@@ -101,7 +101,7 @@ command_never w now caller told c s v r is storage =
     not_number : Bool
     not_number = not (is_number s)
 
--- what was told of the open version is so
+-- The fact read of the open version is that of the state.
 open_is : (st : State) (old : Content) (s : Subject) (o : Option NumberedRow) → Refines old st
     → IsSettled old st s → IsOpen old s o → is_some o ≡ has_open st s
 open_is st old s None refines due reads =
@@ -163,7 +163,7 @@ module _ (old : Content) (caller id : ℕ) (c : VersionCommand) where
       ∙ ap (λ b. version_table st caller c b (version_of_id st id)) (known_is st true refines known)
       ∙ ap (version_table st caller c true) (no_row_now st old refines.represents id none)
 
-  -- by the row, the windows that it holds and the clock, and what was told of the open version
+  -- The refusal by the row, the windows that it holds, the clock, and the facts.
   refused_by_row : (clock : ClockRow) (row : VersionRow) (held : Windows) (u : Inside)
       (told : CommandFacts)
       → is_some (get old.carriers caller) ≡ true →
@@ -193,7 +193,7 @@ module _ (old : Content) (caller id : ℕ) (c : VersionCommand) where
       ∙ ap (λ (k : ClockRow). version_refusal k.present.windows k.minute caller told c
       (subject_of u.version.subject) (model_with_windows held u.version)) (sym same_clock)
     where
-      -- the command asks neither for the id nor for the broadcasts
+      -- The command depends on neither the id nor the broadcasts.
       by_seen : (w : Windows) (now : ℕ) (s : Subject) (v : Version) →
           version_of v.id v.broadcasts held u.version ≡ v → subject_of u.version.subject ≡ s →
           version_refusal w now caller told c s v
@@ -237,7 +237,7 @@ answers_not_found old new caller id c same known none =
     answers_refused_same old new (RequestFrom caller (CommandRequest (OnVersion id c))) 10 same
     (λ st refines settled. refused_not_found old caller id c known none st refines)
 
--- what the code read
+-- What the code read.
 pub record HasRead (old : Content) (caller id : ℕ) (c : VersionCommand) (clock : ClockRow)
     (held : Windows) (u : Inside) (told : CommandFacts) : Type 0 where
   pub known : is_some (get old.carriers caller) ≡ true
@@ -247,7 +247,7 @@ pub record HasRead (old : Content) (caller id : ℕ) (c : VersionCommand) (clock
   pub tells : AreCommandFacts old c (subject_of u.version.subject) u.version.new_provider.number
       told
 
--- what is told was read of a content that was as the first
+-- The facts were read of a content equal to the first.
 pub has_read : (old read : Content) (caller id : ℕ) (c : VersionCommand) (clock : ClockRow)
     (held : Windows) (u : Inside) (told : CommandFacts) → read ≡ old
     → IsLookedUp old (is_some (get old.carriers caller)) id clock (version_row_of u) held
@@ -371,7 +371,7 @@ module _ (old : Content) (caller id : ℕ) (c : VersionCommand) (clock : ClockRo
               (told_is c st old s u.version.new_provider.number told refines due has.tells)))
               ∙ none
 
-          -- the version holds the present set then
+          -- The version holds the present set after the command.
           after_is : version_of shown.0.id (change shown.0).broadcasts (set_now st).windows
               step.version ≡ change shown.0
           after_is =
@@ -420,7 +420,7 @@ module _ (old : Content) (caller id : ℕ) (c : VersionCommand) (clock : ClockRo
               (model_with_windows k.present.windows step.version) all_carriers) old new) same_clock
               changed))))
             where
-              -- the rows have neither the version's id nor its broadcasts
+              -- The rows have neither the version's id nor its broadcasts.
               by_parts : (a : Option Send) → AppliesChanges
                   (transition_changes id st.now a s (model_with_windows (set_now st).windows
                   step.version) all_carriers) old

@@ -1,4 +1,4 @@
--- What a create answers and leaves, over contents.
+-- The answer to a create and the content after it.
 use Rattle.std.proofs.Common.{◌≡◌, ℕ, ◌+◌, ◌≤◌, Bool, true, false, cond, List, [], ◌∷◌, Option, Some, None, refl, ap, sym, ◌∙◌, subst, arith}
 use Rattle.std.specs.Prelude.{◌^◌, ◌-◌, min, find, option_map, if◌then◌else◌}
 use Rattle.numbers.specs.Digits.{block_of}
@@ -55,9 +55,9 @@ settles_number st c =
     create_settles c.creator c.tn.number c.old_provider.number c.new_provider.number c.due.number st
     (Number c.tn.number) ∙ number_of_number st c.tn.number
 
--- ---- what was read, and refusals
+-- ---- the contents that were read, and refusals
 
--- the number's rows were read of one content and the rest of another, both as the first was
+-- The number's rows were read of one content and the rest of another, both equal to the first.
 pub judged_by : (old first second : Content) (caller : ℕ) (c : CreateImpl) (clock : ClockRow)
     (held : Option VersionImpl) (opened : Option (ℕ × VersionImpl)) (block : Option VersionImpl)
     (facts : CreateFacts) → first ≡ old → second ≡ old → are_known old c caller ≡ true
@@ -109,7 +109,7 @@ answers_create_unknown old new caller c same unknown =
     (unknown_is st old c caller refines
     unknown))
 
--- ---- a version put
+-- ---- a version's row written
 
 -- ---- the request of a create
 
@@ -143,7 +143,7 @@ pub reply_by : (creator : Creator) (st new : State) (caller tn old_provider new_
 reply_by (OldProvider authorized) st new caller tn old_provider new_provider due = refl
 reply_by (NewProvider routing) st new caller tn old_provider new_provider due = refl
 
--- a version lacks a create whatever its id, its broadcasts and its windows
+-- Whether a version lacks a create does not depend on its id, its broadcasts and its windows.
 pub lacks_seen : (w : Windows) (creator : Creator) (old_provider new_provider id : ℕ)
     (broadcasts : List Broadcast) (u : VersionImpl) →
     lacks creator old_provider new_provider (version_of id broadcasts w u)
@@ -180,7 +180,7 @@ pub first_created : (w : WindowSet) (minute : ℕ) (c : CreateImpl) (o : Option 
 first_created w minute c None m is = (refl, is)
 first_created w minute c (Some e) m is = absurd is
 
--- the id of a second create is the open version's, which lacks the create
+-- The id of a second create is the open version's, which lacks the create.
 pub second_created : (w : WindowSet) (minute : ℕ) (c : CreateImpl) (o : Option (ℕ × VersionImpl))
     (id : ℕ) (m : VersionImpl) → IsCreated w minute c (answered_by c o) (Second id m) →
     (u : VersionImpl) × (o ≡ Some (id, u)) × (is_lacked c (model_of u) ≡ true)
@@ -208,6 +208,6 @@ found_quiet w now f (u ∷ us) v found quiet =
         quiet.0
     by_cases later false g = later g
 
--- the next id is far from where it would stay
+-- The next id is below its greatest value.
 pub one_more : (n more : ℕ) → n ≤ limit → more ≡ min (n + 1) (2 ^ 64 - 1) → more ≡ n + 1
 one_more n more below is = omega arith

@@ -32,7 +32,7 @@ use Rattle.register.proofs.EveryCall.Settled.{number_of_number, block_of_number}
 use Rattle.register.proofs.Asking.Columns.{IsFound, opened_is, held_is}
 use Rattle.numbers.proofs.Small.{mapped_there}
 
--- ---- what was found is seen
+-- ---- the versions that were read
 
 sees_found : (st : State) (s : Subject) (f : Version → Bool) (e : Option (ℕ × VersionImpl))
     → IsFound st s f e → HasModelIfAny (option_map (λ p. p.1) e) (find f (record_now st s).versions)
@@ -62,7 +62,7 @@ known_by : (st : State) (creator : Creator) (caller tn old_provider new_provider
 known_by st (OldProvider authorized) caller tn old_provider new_provider due = refl
 known_by st (NewProvider routing) caller tn old_provider new_provider due = refl
 
--- a carrier that is not registered, and none
+-- One of three carriers is unknown if not all are registered.
 carriers_unknown : (a b c : Bool) → (a && (b && c)) ≡ false
     → (not a || (not b || (not c || false))) ≡ true
 carriers_unknown true true true e = cc
@@ -130,7 +130,7 @@ is_none_mapped : {A B : Type 0} (f : A → B) (o : Option A) → is_none o ≡ i
 is_none_mapped f None = refl
 is_none_mapped f (Some x) = refl
 
--- where its code is opened, nobody serves a number only in the pool
+-- If a number's code is open, nobody serves it exactly if it is in the pool.
 by_code_is : (block : Option Version) (donated : Bool) (code : Option ℕ) → is_some code ≡ true →
     is_none (carrier_of (if donated then served_by_block block else ByCode code))
     ≡ is_in_pool (if donated then served_by_block block else ByCode code)
@@ -174,7 +174,7 @@ module _ (st : State) (old : Content) (caller : ℕ) (c : CreateImpl) (clock : C
     (facts : CreateFacts) (refines : Refines old st)
     (settled : (s : Subject) → is_of_number c.tn.number st s ≡ true → IsSettled old st s)
     (has : IsJudgedBy old caller c clock facts) where
-  -- what tells who serves the number is so in the state
+  -- The facts that decide who serves the number match the state.
   they_serve : ServingFactsMatch st c.tn.number has.read.server.0
   they_serve =
       let row = has.read.server.1 in
@@ -240,7 +240,7 @@ module _ (st : State) (old : Content) (caller : ℕ) (c : CreateImpl) (clock : C
         (clock_is_of old st clock refines.represents has.clock_is);
   }
 
-  -- so a create is refused as they say
+  -- A create is refused by these facts.
   pub refused_by_facts : refusal st (RequestFrom caller (CommandRequest (command_of c)))
       ≡ create_refusal
       clock.present.windows clock.minute caller c facts

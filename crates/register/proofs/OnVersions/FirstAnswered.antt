@@ -1,4 +1,4 @@
--- What a first create answers and leaves, over contents.
+-- The answer to a first create and the content after it.
 use Rattle.std.proofs.Common.{◌≡◌, ℕ, ◌+◌, ◌≤◌, false, cond, [], ◌∷◌, Some, None, refl, ap, sym, ◌∙◌, subst}
 use Rattle.std.specs.Prelude.{◌==◌, option_map}
 use Rattle.std.specs.List.{list_any}

@@ -1,4 +1,4 @@
--- A call on one version of a subject: what it leaves, over contents.
+-- A call on one version of a subject: the content after it.
 use Rattle.std.proofs.Common.{◌≡◌, ℕ, Bool, true, false, List, [], ◌∷◌, map, Some, None, refl, ap, sym, ◌∙◌, subst}
 use Rattle.std.specs.Prelude.{◌==◌, option_map, is_some, if◌then◌else◌}
 use Rattle.std.specs.FinMap.{get}
@@ -21,7 +21,7 @@ use Rattle.settle.specs.Settling.{IsSettled}
 use Rattle.register.proofs.Records.Touched.{RegistryShows, touched-stands, clock-stays, clock-written}
 use Rattle.model.specs.Windows.{WindowSet}
 
--- the clock's row of a state
+-- The clock's row of a state.
 abbrev pub clock_of : State → ClockRow
 clock_of st = record {
   minute = st.now;
@@ -33,7 +33,7 @@ pub clock_is_of : (c : Content) (st : State) (clock : ClockRow) → Represents c
     → c.clock ≡ Some clock → clock ≡ clock_of st
 clock_is_of c st clock rep is = subst (λ o. ClockRowMatches o st) is rep.clock
 
--- the request neither changes the registry nor names lines
+-- Holds if the request neither changes the registry nor names lines.
 pub record LeavesRegistry (caller : ℕ) (request : Request) : Type 0 where
   pub carrier : carrier_named request ≡ None
   pub lrn : (k : ℕ) → lrn_named k caller request ≡ None
@@ -42,7 +42,7 @@ pub record LeavesRegistry (caller : ℕ) (request : Request) : Type 0 where
   pub lines : HasValues request
   pub unset : windows_named request ≡ None
 
--- what the request does to the records: those of other subjects stay, and have no version of the id
+-- Holds if the request leaves the records of other subjects, which have no version with the id.
 pub record IsOnOne (st : State) (caller : ℕ) (request : Request) (s : Subject)
     (id : ℕ) : Type 0 where
   pub elsewhere : (t : Subject) → subject_eq s t ≡ false
@@ -63,14 +63,14 @@ module _ (st : State) (old new : Content) (caller : ℕ) (request : Request) (s 
   abbrev after_it : State
   after_it = accepted st (RequestFrom caller request)
 
-  -- the rows of all other subjects stay
+  -- The rows of all other subjects stay.
   pub others_stay : (t : Subject) → subject_eq s t ≡ false → SameRows t old new
   others_stay t apart =
       lagging_aside st old new changes s id are changed t (refines.represents.subjects t) apart
       (one.free t apart)
 
-  -- what is left to show: the record of the subject after it, that nothing of it is over, and that
-  -- its rows show it
+  -- What is left to prove: the subject's record after the request, no timer of which has expired,
+  -- and rows that match it.
   module _ (is : record_now after_it s ≡ r) (shows : RowsMatch new s r)
       (quiet : IsQuiet st.now r.versions) where
     here : (t : Subject) → subject_eq s t ≡ true → IsSettled new after_it t
@@ -113,9 +113,9 @@ module _ (st : State) (old new : Content) (caller : ℕ) (request : Request) (s 
         ∙ ap (λ o. put_row ◌==◌ (option_map (λ (x : WindowSet). (x.number, x.windows)) o) k
         (get old.sets k)) are.set) registry (λ t e. (one.elsewhere t e, others_stay t e)) here
 
--- ---- requests on a version that is there
+-- ---- requests on a version that exists
 
--- the version's id or its subject is named, and none is made
+-- Holds if the request names the version's id or its subject, and makes no version.
 pub record NamesVersion (id : ℕ) (s : Subject) (request : Request) : Type 0 where
   pub unmade : (at : Subject → Record) → subjects_made_by request at ≡ []
   pub elsewhere : (t : Subject) (vs : List Version) → subject_eq s t ≡ false → has_id id vs ≡ false
@@ -125,7 +125,7 @@ pub acknowledge-names : (id attempt : ℕ) (s : Subject)
     → NamesVersion id s (AcknowledgementRequest id attempt)
 acknowledge-names id attempt s = record { unmade = λ at. refl; elsewhere = λ t vs apart none. none }
 
--- a change of the version of one id leaves the id of the last
+-- A change of the version with one id keeps the id of the version made last.
 pub last-same : (id : ℕ) (f : Version → Version) → ((v : Version) → (f v).id ≡ v.id)
     → (vs : List Version) →
     option_map (λ (v : Version). v.id) (first_of_versions (map (of_id id f) vs))
@@ -147,7 +147,7 @@ module _ (st : State) (caller : ℕ) (request : Request) (s : Subject) (id : ℕ
       (names.elsewhere t (record_now st t).versions apart (none_with id (record_now st t).versions
       (none_elsewhere st history s t id v found apart)))
 
-  -- where the versions of its subject are changed and keep their ids
+  -- A request that changes the versions of its subject and keeps their ids.
   pub on_one : (f : Version → Version) → ((u : Version) → (f u).id ≡ u.id) →
       (record_now (accepted st (RequestFrom caller request)) s).versions ≡ map (of_id id f)
       (record_now st s).versions → IsOnOne st caller request s id
@@ -171,14 +171,14 @@ module _ (st : State) (caller : ℕ) (request : Request) (s : Subject) (id : ℕ
           (ap (λ vs. option_map (λ (x : Version). x.id) (first_of_versions vs)) is
           ∙ last-same id f keeps (record_now st s).versions)
 
-  -- and the clock's row stays
+  -- The clock's row stays.
   pub clock_same : windows_named request ≡ None → (old new : Content) → Refines old st → new.clock
       ≡ old.clock →
       ClockRowMatches new.clock (accepted st (RequestFrom caller request))
   clock_same unset = clock-stays st caller request unset
       (next_id-same st caller request (names.unmade (record_now st)))
 
--- the version that is shown
+-- The view of the version.
 pub shown_is : (st : State) (s : Subject) (id : ℕ) (v : Version)
     → HasHistory st → version_with id (record_now st s) ≡ Some v →
     shown st id ≡ Shown (Some (view_of st (record { subject = s; version = v })))

@@ -1,4 +1,4 @@
--- What a second create answers and leaves, over contents.
+-- The answer to a second create and the content after it.
 use Rattle.std.proofs.Common.{◌≡◌, ℕ, true, false, [], map, Some, None, refl, ap, sym, ◌∙◌, subst}
 use Rattle.std.specs.Prelude.{◌==◌, option_map, if◌then◌else◌}
 use Rattle.std.specs.List.{list_any}
@@ -296,7 +296,7 @@ answers_second old new caller c clock facts id m w view has accepts created are_
         Becomes (with_create clock.present c.creator clock.minute) u m
     second = second_created clock.present clock.minute c facts.opened id m created
 
--- of the set that the version then holds there are windows
+-- The set that the version then holds has windows.
 pub second_has_set : (old : Content) (caller : ℕ) (c : CreateImpl) (clock : ClockRow)
     (facts : CreateFacts) (id : ℕ) (m : VersionImpl) → IsJudgedBy old caller c clock facts →
     IsCreated clock.present clock.minute c (answered_by c facts.opened) (Second id m) →

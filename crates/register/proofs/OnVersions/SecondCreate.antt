@@ -1,4 +1,4 @@
--- A second create: the record after it, and the rows that show it.
+-- A second create: the record after it, and the rows that match it.
 use Rattle.std.proofs.Common.{◌≡◌, ℕ, Bool, true, false, cond, not, ◌&&◌, ◌||◌, List, [], ◌∷◌, map, Option, Some, None, refl, ap, sym, ◌∙◌}
 use Rattle.std.specs.Prelude.{◌==◌, find, is_some, is_none, option_and_then, if◌then◌else◌}
 use Rattle.std.specs.List.{AllByRecursion}
@@ -31,9 +31,9 @@ use Rattle.model.proofs.HasCreate.{HasCreate, HasCreateAs}
 use Rattle.numbers.proofs.Small.{true-false, no_takeover, equal_number, still_false, or_first, or_second}
 use Rattle.register.proofs.OnVersions.FirstCreate.{put-shows}
 
--- ---- changes that are the same
+-- ---- equal changes
 
--- both changes make the same of each version
+-- Holds if both changes are equal on each version.
 abbrev pub SameEach : (g h : Version → Version) → List Version → Type 0
 SameEach g h vs = AllByRecursion (λ v. g v ≡ h v) vs
 
@@ -46,7 +46,7 @@ changed_at-each w minute g h (v ∷ vs) same =
     ∙ ap (λ us. h v ∷ map (retired w (not (in_force v) && in_force (h v)) minute) us)
     (changed_at-each w minute g h vs same.1)
 
--- where none passes the test and none has the id, both leave
+-- If no version passes the test and none has the id, both changes leave all.
 same_leaving : (test : Version → Bool) (f : Version → Version) (id : ℕ) (vs : List Version)
     → NonePass test vs → has_id id vs ≡ false → SameEach (λ v. if test v then f v
     else v) (of_id id f) vs
@@ -57,7 +57,7 @@ same_leaving test f id (v ∷ vs) none gone = (
   same_leaving test f id vs none.1 (or_second (v.id == id) (has_id id vs) gone),
 )
 
--- to change the one that passes the test is to change the one of its id
+-- Changing the version that passes the test is changing the version with its id.
 pub same_change : (made : List Subject) (s : Subject) (test : Version → Bool) (f : Version
     → Version) (id : ℕ) (vs : List Version) (v : Version) → AreGiven made s vs → OnePasses test vs →
     find (λ u. u.id == id) vs ≡ Some v → test v ≡ true → SameEach (λ u. if test u then f u
@@ -86,7 +86,7 @@ same_change made s test f id (u ∷ us) v given one found passes =
         fails true t = true-false (test v) passes (none_found test id us v (one.0 t) g)
         fails false t = t
 
--- a test that only open versions pass is passed by one at most
+-- If only open versions pass a test, at most one does.
 none_of : (test other : Version → Bool) → ((v : Version) → test v ≡ true → other v ≡ true)
     → (vs : List Version) → NonePass other vs → NonePass test vs
 none_of test other implies [] none = tt
@@ -161,7 +161,7 @@ pub create-carrier : (creator : Creator) (tn old_provider new_provider due : ℕ
 create-carrier (OldProvider authorized) tn old_provider new_provider due = refl
 create-carrier (NewProvider routing) tn old_provider new_provider due = refl
 
--- the record after a second create
+-- The record after a second create.
 pub second-record : (st : State) (caller : ℕ) (creator : Creator) (tn old_provider new_provider due
     id : ℕ) (v : Version) →
     subjects_made_by (CommandRequest (command_by creator tn old_provider new_provider due))
@@ -204,7 +204,7 @@ second-record st caller creator tn old_provider new_provider due id v unmade giv
     st.now) (made_now st) (Number tn) (record_now st (Number tn)).versions v given
     found (with_create-forces_none (set_now st) creator st.now v)))
 
--- ---- nothing is over
+-- ---- timers that have not expired
 
 still_quiet : (w : WindowSet) (now : ℕ) (id : ℕ) (f : Version → Version) (vs : List Version)
     → has_id id vs ≡ false → IsQuiet now vs → IsQuiet now (map (of_id id f) vs)
@@ -220,7 +220,7 @@ still_quiet w now id f (v ∷ vs) gone quiet = (
     by_cases true e = cc
     by_cases false e = quiet.0
 
--- where the changed version is not over, no version is
+-- If no timer of the changed version has expired, none of the record has.
 pub changed-quiet : (w : WindowSet) (now : ℕ) (made : List Subject) (s : Subject) (id : ℕ)
     (f : Version → Version) (vs : List Version) (v : Version) → AreGiven made s vs →
     find (λ u. u.id == id) vs ≡ Some v → is_expired now (f v) (f v).status ≡ false → IsQuiet now vs
@@ -250,8 +250,7 @@ awaits_of status b c is = by_cases (awaits_creates status) b c is
     by_cases true false z e = cc
     by_cases false y z e = cc
 
--- a version with the old provider's authorized create is over when it was before: it had the new
--- provider's create
+-- An old provider's create expires no timer of a version with the new provider's create.
 old_quiet : (w : Windows) (now due : ℕ) (old_at new_at : Option ℕ) (since : ℕ) (status : Status)
     → awaits_creates status ≡ true → is_none old_at ≡ true
     → ((is_some old_at || is_some new_at) ≡ true) →
@@ -270,7 +269,7 @@ old_quiet w now due old_at new_at since (DisconnectPending release) awaits lacks
 old_quiet w now due old_at new_at since Old awaits lacks has quiet = cc
 old_quiet w now due old_at new_at since Canceled awaits lacks has quiet = cc
 
--- one with the new provider's create is retained from now on
+-- A version with the new provider's create is retained from now on.
 new_quiet : (w : Windows) → AreWindows w → (now due : ℕ) (old_at new_at : Option ℕ) (since : ℕ)
     (status : Status) → awaits_creates status ≡ true →
     has_expired w now due old_at new_at since status ≡ false
@@ -300,7 +299,7 @@ awaiting_needs old_at new_at (DisconnectPending release) awaits has = cc
 awaiting_needs old_at new_at Old awaits has = cc
 awaiting_needs old_at new_at Canceled awaits has = cc
 
--- the version is judged by the windows that it held, or by those of the set that holds now
+-- A version is judged by the windows that it held, or by the present ones.
 pub with_create-quiet : (w : WindowSet) → AreWindows w.windows →
     (creator : Creator) (old_provider new_provider now : ℕ) (v : Version) →
     AreWindows v.held.windows →
@@ -324,7 +323,7 @@ with_create-quiet w windows (NewProvider routing) old_provider new_provider now 
     (is_none v.new_at) lacking in
     new_quiet v.held.windows held now v.due v.old_at v.new_at v.since v.status parts.0 quiet
 
--- it holds what it held, or the set that holds now
+-- A version holds the set that it held, or the present set.
 pub with_create-holds : (K : WindowSet → Type 0) (w : WindowSet) (creator : Creator) (minute : ℕ)
     (v : Version) → K w → K v.held → K (with_create w creator minute v).held
 with_create-holds K w (OldProvider true) minute v now before = before
@@ -333,7 +332,7 @@ with_create-holds K w (NewProvider routing) minute v now before = before
 
 -- ---- rows
 
--- the rows of the subject show its record with a version changed, whose broadcasts stay
+-- The rows match the record with a version changed whose broadcasts stay.
 pub changed-shows : (w : WindowSet) (s : Subject) (id : ℕ) (f : Version → Version)
     → ((u : Version) → (f u).id ≡ u.id) → (v : Version) → (f v).broadcasts ≡ v.broadcasts
     → (r : Record) (clock : Option ClockMove) (old new : Content) →

@@ -1,4 +1,4 @@
--- Versions that are made and sent at once: the rows that show them.
+-- Versions that begin to send as they are made: the rows that match them.
 use Rattle.std.proofs.Common.{◌≡◌, ◌≤◌, ℕ, suc, ◌+◌, Bool, true, false, cond, not, ◌&&◌, List, [], ◌∷◌, map, Some, None, refl, ap, sym, ◌∙◌, subst, arith}
 use Rattle.std.specs.Prelude.{⊤, ◌==◌, find, if◌then◌else◌}
 use Rattle.std.specs.List.{list_any}
@@ -26,7 +26,7 @@ use Rattle.register.proofs.Records.Stepped.{stepped-shows}
 
 -- ---- one version
 
--- where no version has the id, a change of that one leaves all
+-- If no version has the id, a change of it leaves all.
 others_left : (id : ℕ) (f : Version → Version) (vs : List Version) → has_id id vs ≡ false
     → map (of_id id f) vs ≡ vs
 others_left id f [] none = refl
@@ -42,7 +42,7 @@ module _ (w : WindowSet) (s : Subject) (now id : ℕ) (blank : Version) (all_car
     (changed : AppliesChanges (send_changes id now Create s (next_attempt w Create r.carriers now
     blank)
     (routing_sent Create (next_attempt w Create r.carriers now blank)) all_carriers) old new) where
-  -- as if it were put before it is sent
+  -- The content as if the version were written before it is sent.
   abbrev between : Content
   between = applied (version_changes id s blank None) old
 
@@ -117,21 +117,21 @@ module _ (w : WindowSet) (s : Subject) (now id : ℕ) (blank : Version) (all_car
 
 -- ---- many versions, one after the other
 
--- without its id and its broadcasts, which are kept elsewhere
+-- The version without its id and its broadcasts, which its row does not have.
 abbrev pub bare : Version → Version
 bare v = record v { id = 0; broadcasts = [] }
 
 module _ (w : WindowSet) (now : ℕ) (all_carriers : List ℕ) (blank : ℕ → Version)
     (is_id : (id : ℕ) → (blank id).id ≡ id) (unsent : (id : ℕ) → (blank id).broadcasts ≡ [])
     (quiet_before : (id : ℕ) → in_force (blank id) ≡ false) where
-  -- they take their ids in turn, and begin to send as they are made
+  -- Holds if the versions take ids one after the other, and begin to send as they are made.
   abbrev pub AreBegun : ℕ → List SendingVersion → Type 0
   AreBegun from [] = ⊤
   AreBegun from (b ∷ bs) =
       (b.id ≡ from) × (b.version ≡ bare (next_attempt w Create [] now (blank from)))
       × AreBegun (suc from) bs
 
-  -- each is of a subject of its own
+  -- Holds if each version is of a subject of its own.
   abbrev pub AreApart : List SendingVersion → Type 0
   AreApart [] = ⊤
   AreApart (b ∷ bs) = (list_any (λ (x : SendingVersion). subject_eq b.subject x.subject) bs ≡ false)
@@ -156,7 +156,7 @@ module _ (w : WindowSet) (now : ℕ) (all_carriers : List ℕ) (blank : ℕ → 
       is
       (one_changed w now Create all_carriers b c))
 
-  -- those of other subjects leave its rows
+  -- Versions of other subjects leave the subject's rows.
   one_aside : (b : SendingVersion) (from : ℕ) (c : Content) (t : Subject) (r : Record) → b.id ≡ from
       → subject_eq t b.subject ≡ false → version_with from r ≡ None → RowsMatch c t r
       → RowsMatch (applied (sending_one w now Create all_carriers b) c) t r
@@ -180,7 +180,7 @@ module _ (w : WindowSet) (now : ℕ) (all_carriers : List ℕ) (blank : ℕ → 
       (one_aside b from c t r are.0 (or_first (subject_eq t b.subject) (begins t bs) apart)
       (free from (omega arith)) shows)
 
-  -- a subject's own version stands in front
+  -- The subject's own version is its newest.
   pub each_shown : (bs : List SendingVersion) (from : ℕ) (c : Content) (t : Subject) (r : Record)
       → AreBegun from bs → AreApart bs → ((k : ℕ) → from ≤ k → version_with k r ≡ None) →
       ((k : ℕ) → is_among k all_carriers ≡ is_among k r.carriers) → RowsMatch c t r →

@@ -1,5 +1,4 @@
--- A request that makes versions which begin to send as they are made, and changes none that is
--- there.
+-- A request that makes versions which begin to send, and changes no other version.
 use Rattle.std.proofs.Common.{◌≡◌, ◌≤◌, ℕ, suc, ◌+◌, Bool, true, false, ◌||◌, List, [], ◌∷◌, ◌++◌, map, length, Option, Some, None, refl, ap, sym, ◌∙◌, subst, arith}
 use Rattle.std.specs.Prelude.{⊤, nat_le, flat_map, is_some, if◌then◌else◌}
 use Rattle.std.specs.List.{list_any}
@@ -35,8 +34,8 @@ use Rattle.register.proofs.Records.Sent.{carriers_agree}
 use Rattle.register.proofs.Records.Touched.{RegistryShows, clock-moves, clock-written, touched-stands}
 use Rattle.register.proofs.EveryCall.HeldSets.{windows-now}
 
--- the request makes versions of these subjects, `blank` before they are sent, and nothing else but
--- a block's row
+-- Holds if the request makes versions of these subjects, `blank` before they are sent, and changes
+-- nothing else but a block's row.
 pub record MakesSent (st : State) (caller : ℕ) (request : Request) (news : List Subject) (blank : ℕ
     → Version) : Type 0 where
   pub carrier : carrier_named request ≡ None
@@ -56,7 +55,7 @@ pub record MakesSent (st : State) (caller : ℕ) (request : Request) (news : Lis
   pub unsent : (id : ℕ) → (blank id).broadcasts ≡ []
   pub quiet_before : (id : ℕ) → in_force (blank id) ≡ false
 
--- each of them is of a subject that is touched
+-- Holds if each version is of a touched subject.
 abbrev AllTouched : (Subject → Bool) → List SendingVersion → Type 0
 AllTouched touched [] = ⊤
 AllTouched touched (b ∷ bs) = (touched b.subject ≡ true) × AllTouched touched bs
@@ -101,7 +100,7 @@ module _ (st : State) (caller : ℕ) (request : Request) (news : List Subject) (
   abbrev first : ℕ
   first = next_of st
 
-  -- the record of each subject has its new version in front, if it has one
+  -- The record of each subject with its new version, if it has one, as its newest.
   abbrev record_after : Subject → Record
   record_after t = record {
     carriers = (record_now st t).carriers;
@@ -140,7 +139,7 @@ module _ (st : State) (caller : ℕ) (request : Request) (news : List Subject) (
       (or_first (subject_eq t s) (list_any (subject_eq t) ss) none)
       ∙ unmade t (suc k) ss (or_second (subject_eq t s) (list_any (subject_eq t) ss) none)
 
-  -- a subject of which none is made keeps its record
+  -- A subject without a new version keeps its record.
   pub unmade-same : (t : Subject) → list_any (subject_eq t) news ≡ false
       → record_now after_it t ≡ record_now st t
   unmade-same t none =
@@ -152,7 +151,7 @@ module _ (st : State) (caller : ℕ) (request : Request) (news : List Subject) (
             (blank id)) (record_now st t).versions;
       }) (unmade t first news none)
 
-  -- the new ids are free
+  -- The new ids are free.
   pub above_free : HasHistory st → (t : Subject) (k : ℕ)
       → next_of st ≤ k → version_with k (record_now st t) ≡ None
   above_free history t k above =
@@ -180,7 +179,7 @@ module _ (st : State) (caller : ℕ) (request : Request) (news : List Subject) (
       waits = changed.waits;
     }
 
-    -- a subject that was settled is shown as it stands afterwards
+    -- The rows of a settled subject match its record after the request.
     pub pooled-shows : (t : Subject) → IsSettled old st t → RowsMatch new t (record_now after_it t)
     pooled-shows t settled =
         subst (RowsMatch new t) (ap (λ ss. record {
@@ -197,7 +196,7 @@ module _ (st : State) (caller : ℕ) (request : Request) (news : List Subject) (
         (λ k. carriers_agree old st all_carriers refines.represents are_all t k)
         settled.rows_match))
 
-    -- and nothing of it is over
+    -- No timer of that record has expired.
     pub pooled-quiet : (t : Subject) → IsSettled old st t
         → IsQuiet st.now (record_now after_it t).versions
     pooled-quiet t settled =
@@ -301,8 +300,8 @@ module _ (st : State) (caller : ℕ) (request : Request) (news : List Subject) (
 
     -- ---- the state after it
 
-    -- what is left to show: that each subject of which a version is made was settled, the block's
-    -- row, and the clock's
+    -- What is left to prove: the subjects of the new versions were settled, the block's row, and
+    -- the clock's row.
     module _ (due : (t : Subject) → is_new t ≡ true → IsSettled old st t) (blocks : (k : ℕ)
         → get new.blocks k ≡ stored_block after_it k)
         (next_is : clock ≡ record {
@@ -325,7 +324,7 @@ module _ (st : State) (caller : ℕ) (request : Request) (news : List Subject) (
         blocks = blocks;
       }
 
-      -- the new content stands, and the rows of others stay
+      -- The new content refines the next state, and the rows of other subjects stay.
       pub pooled-stands : ((t : Subject) → settles st (RequestFrom caller request) t ≡ false
           → is_new t ≡ false)
           → Refines new after_it × FramesOthers old new st (RequestFrom caller request)

@@ -1,5 +1,4 @@
--- A version that a request steps, over contents: whatever the request, the state after it is
--- represented.
+-- A request that steps one version: the state after it is represented, whatever the request.
 use Rattle.std.proofs.Common.{◌≡◌, ℕ, ◌+◌, Bool, true, false, not, ◌&&◌, List, [], map, Option, Some, None, refl, ap, sym, ◌∙◌, subst}
 use Rattle.std.specs.Prelude.{◌==◌, find, option_map, if◌then◌else◌}
 use Rattle.std.specs.FinMap.{get, keys}
@@ -38,7 +37,7 @@ use Rattle.register.proofs.EveryCall.Settled.{leaves_but}
 
 -- ---- the record of the subject
 
--- where a request changes the version of one id, and brings it not into force
+-- A request that changes the version with one id, and does not bring it into force.
 pub stepped-record : (st : State) (caller : ℕ) (request : Request) (s : Subject) (id : ℕ)
     (f : Version → Version) (v : Version) →
     HasHistory st → LeavesRegistry caller request
@@ -130,7 +129,7 @@ module _ (w : WindowSet) (s : Subject) (now id : ℕ) (f : Version → Version) 
           (sym (equal_number id k e)) ∙ hit))
       version_at k false e = shows.versions k ∙ sym (ap (option_map (row_of s)) (miss k e))
 
-  -- by what is sent
+  -- The rows match, by what is sent.
   pub stepped-shows : (a : Option Send) → IsStepped w now r.carriers v (f v) a
       → AppliesChanges (transition_changes id now a s (f v) all_carriers) old new →
       find (λ b. b.attempt == v.attempt + 1) v.broadcasts ≡ None
@@ -149,7 +148,7 @@ module _ (w : WindowSet) (s : Subject) (now id : ℕ) (f : Version → Version) 
       all_carriers) old new) is.0 changed))
       unsent agree
 
--- ---- what is not over, and what comes into force
+-- ---- timers that have not expired, and versions in force
 
 pub stepped-quiet : (w : WindowSet) → AreWindows w.windows
     → (now : ℕ) (all_carriers : List ℕ) (v u : Version) (a : Option Send)
@@ -169,7 +168,7 @@ stepped-forces_none w now all_carriers v u (Some action) is =
 
 -- ---- the whole step
 
--- a request that changes the version of one id alone, as f
+-- Holds if the request changes only the version with one id, by `f`.
 pub record StepsOne (st : State) (caller : ℕ) (request : Request) (s : Subject) (id : ℕ)
     (f : Version → Version) (a : Option Send) (v : Version) : Type 0 where
   pub leaves : LeavesRegistry caller request

@@ -1,5 +1,5 @@
--- A request that touches some subjects: the state after it is represented where their rows show
--- their records and the rows of all others stay.
+-- A request that touches some subjects: the state after it is represented if their rows match and
+-- all others stay.
 use Rattle.std.proofs.Common.{◌≡◌, ℕ, Bool, true, false, None, refl, sym, subst, arith, Option, Some, ap, ◌∙◌}
 use Rattle.std.specs.Prelude.{is_some, option_map}
 use Rattle.std.specs.FinMap.{get}
@@ -18,7 +18,7 @@ use Rattle.register.proofs.EveryCall.Settled.{due_lags}
 use Rattle.model.proofs.SettingWindows.{sets-same}
 use Rattle.model.specs.Windows.{WindowSet}
 
--- the registry's rows and the clock's are those of the state
+-- Holds if the rows of the registry and of the clock are those of the state.
 pub record RegistryShows (c : Content) (st : State) : Type 0 where
   pub clock : ClockRowMatches c.clock st
   pub written : is_some c.clock ≡ true
@@ -27,13 +27,13 @@ pub record RegistryShows (c : Content) (st : State) : Type 0 where
   pub codes : (k : ℕ) → get c.codes k ≡ code_holder k st.history
   pub blocks : (k : ℕ) → get c.blocks k ≡ stored_block st k
 
--- where a request sets no windows, the present set stays
+-- If a request sets no windows, the present set stays.
 pub present-stays : (st : State) (caller : ℕ) (request : Request) → windows_named request ≡ None
     → set_now (accepted st (RequestFrom caller request)) ≡ set_now st
 present-stays st caller request unset = ap (λ o. set_added o (set_now st)) unset
 
--- so where the clock's row is moved alone, to the next id after it, it is the row of the state
--- after
+-- If only the next id of the clock's row moves, to that after the request, the row is that of the
+-- state after it.
 pub clock-moves : (st : State) (caller : ℕ) (request : Request) → windows_named request ≡ None →
     (old new : Content) → Refines old st → (m : ClockMove) → new.clock
     ≡ clock_after (Some m) None old.clock →
@@ -68,7 +68,7 @@ clock-moves st caller request unset old new refines m moved is =
         ∙ ap (row last) (ap (λ (k : ClockRow). k.present) shows
         ∙ sym (present-stays st caller request unset)))
 
--- and where it stays and no id is given
+-- If the clock's row stays and no id is given, the row is that of the state after it.
 pub clock-stays : (st : State) (caller : ℕ) (request : Request) → windows_named request ≡ None →
     next_id st.windows (accepted st (RequestFrom caller request)).history
     ≡ next_of st →
@@ -91,7 +91,7 @@ clock-stays st caller request unset ids old new refines same =
         ∙ ap (row (next_id st.windows (accepted st (RequestFrom caller request)).history))
         (sym (present-stays st caller request unset)))
 
--- a clock's row that was written stays so
+-- A clock's row that was written stays written.
 pub clock-written : (m : Option ClockMove) (set : Option WindowSet) (o : Option ClockRow) →
     is_some o ≡ true →
     is_some (clock_after m set o) ≡ true
@@ -102,7 +102,7 @@ clock-written None (Some set) (Some row) is = refl
 clock-written None (Some set) None is = is
 clock-written (Some m) (Some set) o is = refl
 
--- and so do those of every number
+-- The sets with each number stay.
 sets-stay : (st : State) (caller : ℕ) (request : Request) → windows_named request ≡ None
     → (o n : Option ClockRow) → is_some o ≡ true → is_some n ≡ true → (k : ℕ) →
     stored_set o st k ≡ stored_set n (accepted st (RequestFrom caller request)) k

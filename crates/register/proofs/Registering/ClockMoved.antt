@@ -1,4 +1,4 @@
--- The clock that is moved, over contents.
+-- A move of the clock, over contents.
 use Rattle.std.proofs.Common.{◌≡◌, ◌≤◌, ◌<◌, ℕ, true, false, Some, None, refl, ap, sym, ◌∙◌, subst, arith}
 use Rattle.std.specs.Prelude.{nat_lt, is_some, if◌then◌else◌, Result, Err}
 use Rattle.std.proofs.lemmas.Bool.Decides.{nat_tests}
@@ -73,7 +73,7 @@ module _ (old new : Content) (clock : ClockRow) (m : ℕ) (is : old.clock ≡ So
             refines)),
       )
 
--- a call that ends for a fault of the store
+-- A call that ends with a fault of the store.
 pub means_fault : {A : Type 0} (old new : Content) (input : Input) (seen : A
     → Reply) (result : Result A Refusal) (fault : StoreFault) → result ≡ Err (refusal_of fault) →
     ((st : State) → Refines old st → Refines new st)

@@ -1,4 +1,4 @@
--- A registration: the records after it, and the rows that show them.
+-- A registration: the records after it, and the rows that match them.
 use Rattle.std.proofs.Common.{◌≡◌, ℕ, Bool, true, false, cond, not, ◌&&◌, ◌||◌, List, [], ◌∷◌, map, Option, Some, None, refl, ap, sym, ◌∙◌, arith}
 use Rattle.std.specs.Prelude.{◌==◌, find, filter, option_map, option_and_then, if◌then◌else◌}
 use Rattle.std.specs.FinMap.{get, entries, entries_sorted, get-entries}
@@ -64,7 +64,7 @@ pub joined-quiet : (w : WindowSet) (c now : ℕ) (vs : List Version) → IsQuiet
 joined-quiet w c now [] quiet = tt
 joined-quiet w c now (v ∷ vs) quiet = (quiet.0, joined-quiet w c now vs quiet.1)
 
--- ---- what is found in it
+-- ---- versions and broadcasts of it
 
 joined_version : (c id : ℕ) (vs : List Version) → find (λ u. u.id == id) (map (joined_by c) vs)
     ≡ option_map (joined_by c) (find (λ u. u.id == id) vs)
@@ -109,7 +109,7 @@ joined_with c id attempt r =
     by_cases None = refl
     by_cases (Some v) = joined_found c attempt v.broadcasts
 
--- ---- what is stored of a broadcast
+-- ---- the rows of a broadcast
 
 joined_row : (s : Subject) (c : ℕ) (b : Broadcast) → stored_broadcast s (joined_broadcast c b)
     ≡ stored_broadcast s b
@@ -169,7 +169,7 @@ among-filter p k (x ∷ xs) = by_cases (among-filter p k xs) (p x) (x == k) refl
     by_cases later false true e f = later ∙ lost (p k) (is_among k xs) (sym (ap p (equal f)) ∙ e)
     by_cases later false false e f = later
 
--- whether a carrier waits for an open broadcast that the newcomer joins
+-- An open broadcast is pending for the new carrier, and for others as before.
 open_waits : (c k : ℕ) (b : Broadcast) → is_open_broadcast b ≡ true
     → is_among c b.acknowledged ≡ false →
     is_among k (waiters (record b { recipients = with_number c b.recipients }))
@@ -201,7 +201,7 @@ open_waits c k b opens new =
         ∙ new)
     by_cases false e = refl
 
--- ---- what stands at a key of a wait
+-- ---- the row at the key of a download
 
 module _ (s : Subject) (c k m : ℕ) (key : WaitKey) (carrier : key.carrier ≡ k) (minute : key.minute
     ≡ m) where
@@ -222,7 +222,7 @@ module _ (s : Subject) (c k m : ℕ) (key : WaitKey) (carrier : key.carrier ≡ 
       by_cases false f = refl
       by_cases true f = cc
 
-  -- no broadcast is there
+  -- The broadcast has no row.
   at_none : (o : Option BroadcastRow) (before : Option Subject)
       → of_subject s (λ (b : BroadcastRow). b.subject) o ≡ None → seen before ≡ None
       → seen (joined_at c key o before) ≡ None
@@ -241,7 +241,7 @@ module _ (s : Subject) (c k m : ℕ) (key : WaitKey) (carrier : key.carrier ≡ 
     any = is_nonempty b.acknowledged;
   }
 
-  -- an open one is there
+  -- The broadcast is open.
   at_open : (b : Broadcast) (before : Option Subject) → is_open_broadcast b ≡ true
       → is_among c b.acknowledged ≡ false → seen before ≡ stored_wait s k m b →
       seen (joined_at c key (Some (row_seen b)) before) ≡ stored_wait s k m (record b {
@@ -264,7 +264,7 @@ module _ (s : Subject) (c k m : ℕ) (key : WaitKey) (carrier : key.carrier ≡ 
       by_cases false true e = e
       by_cases false false e = e
 
-  -- one is there that is closed
+  -- The broadcast is closed.
   at_closed : (o : Option BroadcastRow) (b : Broadcast) (before : Option Subject)
       → is_open_broadcast b ≡ false → of_subject s (λ (x : BroadcastRow). x.subject) o
       ≡ stored_broadcast s b →

@@ -1,4 +1,4 @@
--- What the registration of a carrier answers and leaves, over contents.
+-- The answer to a carrier's registration and the content after it.
 use Rattle.std.proofs.Common.{◌≡◌, ℕ, Bool, true, false, not, ◌||◌, List, [], ◌∷◌, map, length, Option, Some, None, refl, ap, sym, ◌∙◌, subst}
 use Rattle.std.specs.Prelude.{◌==◌, nat_le, filter, is_some, option_map, if◌then◌else◌}
 use Rattle.std.specs.FinMap.{get, keys, entries, entries_sorted}
@@ -28,7 +28,7 @@ use Rattle.numbers.proofs.Small.{or_second}
 
 -- ---- carriers
 
--- the rows of carriers are those of the registered
+-- The rows of carriers are those of the registered carriers.
 pub carriers_are : (c : Content) (st : State) → Represents c st
     → keys c.carriers ≡ carriers st.history
 carriers_are c st rep =
@@ -95,7 +95,7 @@ module _ (old : Content) (caller spid : ℕ) where
   carrier_accepted admin free room st refines =
       by_taken admin false free st refines ∙ ap (carrier_refusal true false) room
 
--- ---- what is left
+-- ---- the content after it
 
 module _ (old new : Content) (caller spid : ℕ)
     (changed : AppliesChanges
@@ -156,7 +156,7 @@ module _ (old new : Content) (caller spid : ℕ)
   last_is [] = refl
   last_is (v ∷ vs) = refl
 
-  -- the minute, the windows and the next id are what they were
+  -- The minute, the windows and the next id stay.
   clock_after : (o : Option ClockRow) → is_some o ≡ true → ClockRowMatches o st
       → ClockRowMatches o after_it
   clock_after (Some row) e is = is ∙ ap (λ k. record {
@@ -189,7 +189,7 @@ module _ (old new : Content) (caller spid : ℕ)
     quiet = subst (λ (r : Record). IsQuiet st.now r.versions) (sym (the_record t)) (quiet t);
   }
 
-  -- every subject is touched
+  -- Every subject is touched.
   pub registered_stands : Refines new after_it
   registered_stands =
       touched-stands st old new caller (CommandRequest (RegisterCarrier spid)) (λ t. true) refines

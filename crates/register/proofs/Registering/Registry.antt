@@ -1,4 +1,4 @@
--- What the registration of a routing number and the opening of a code leave, over contents.
+-- The contents after the registration of a routing number and the opening of a code.
 use Rattle.std.proofs.Common.{◌≡◌, ℕ, Bool, true, false, not, [], ◌∷◌, Option, Some, None, refl, ap, sym, ◌∙◌, subst}
 use Rattle.std.specs.Prelude.{◌==◌, is_some, option_map, if◌then◌else◌}
 use Rattle.std.specs.FinMap.{get}
@@ -18,7 +18,7 @@ use Rattle.register.specs.Settling.{SimulatesSettledStep}
 use Rattle.register.proofs.Records.Touched.{touched-stands, present-stays}
 use Rattle.register.proofs.EveryCall.Composed.{answers_accepted}
 
--- ---- an entry that concerns no subject, and rows of the registry alone
+-- ---- an entry on no subject, and rows of the registry only
 
 module _ (st : State) (old new : Content) (caller : ℕ) (request : Request)
     (refines : Refines old st)
@@ -94,7 +94,7 @@ module _ (st : State) (old new : Content) (caller : ℕ) (request : Request)
               } in row) (or_else o (donor_of b st.history))) (no_donor b));
         }) (λ t e. (same_record t, same_rows t)) (λ t e. let never : true ≡ false = sym e in cc)
 
--- where a carrier is known, something was done
+-- If a carrier is known, the history is not empty.
 pub has_begun : (st : State) (caller : ℕ) → is_carrier st caller ≡ true → st.history ≡ [] → ⊥
 has_begun st caller known h = let no : true ≡ false =
     sym known ∙ ap (λ l. is_carrier (record st { history = l }) caller) h in cc

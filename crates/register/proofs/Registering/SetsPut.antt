@@ -1,4 +1,4 @@
--- What setting the windows answers and leaves, over contents.
+-- The answer to a set of windows and the content after it.
 use Rattle.std.proofs.Common.{◌≡◌, ℕ, ◌+◌, Bool, true, false, not, [], ◌∷◌, Option, Some, None, refl, ap, sym, ◌∙◌}
 use Rattle.std.specs.Prelude.{◌==◌, nat_le, is_some}
 use Rattle.model.specs.Commands.{SetWindows}
@@ -16,7 +16,7 @@ use Rattle.register.proofs.EveryCall.Composed.{answers_accepted}
 use Rattle.register.proofs.OnVersions.OnVersion.{clock_is_of}
 use Rattle.register.proofs.Records.Touched.{clock-written}
 
--- ---- who may, and how often
+-- ---- who may set windows, and how often
 
 abbrev sets_refusal : (is_admin full : Bool) → Option ℕ
 sets_refusal is_admin full = first_refusal ((2, not is_admin) ∷ (28, full) ∷ [])
@@ -54,7 +54,7 @@ module _ (old : Content) (caller : ℕ) (windows : Windows) where
           refusal st (RequestFrom caller (CommandRequest (SetWindows windows))) ≡ None
       sets_accepted room st refines = by_number false room st refines
 
--- ---- what is left
+-- ---- the content after it
 
 pub answers_sets : (old new : Content) (caller : ℕ) (windows : Windows) (clock : ClockRow) →
     (caller == npac) ≡ true → old.clock ≡ Some clock →

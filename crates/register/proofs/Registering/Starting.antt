@@ -1,5 +1,4 @@
--- Everything in force, as a store lists it and as the definitions do: the same rows in the same
--- order.
+-- The versions in force, as a store lists them, are those of the definitions in the same order.
 use Rattle.std.proofs.Common.{◌≡◌, ℕ, inl, inr, zero, suc, ◌<◌, true, false, List, [], ◌∷◌, map, length, Option, Some, None, refl, ap, sym, ◌∙◌, subst, arith}
 use Rattle.std.specs.Prelude.{is_some, All, slice_index_or}
 use Rattle.numbers.specs.Subjects.{Subject, subject_key}
@@ -27,7 +26,7 @@ use Rattle.register.proofs.Asking.Alone.{row_is_held, one_in_force}
 
 -- ---- the rows of a store
 
--- a row that is among those of the code is one of them
+-- A row in the models of the code's rows is the model of one of them.
 mapped-from : (P : RoutedRow → Type 0) (rows : List RoutedRow) (x : InForce) → All P rows
     → Among x (map in_force_of rows) → (r : RoutedRow) × P r × (x ≡ in_force_of r)
 mapped-from P [] x all is = absurd is
@@ -67,7 +66,7 @@ module _ (st : State) (c : Content) (refines : Refines c st) (settled : (s : Sub
       sym (id_found id (record_now st s).versions a.0 a.2) ∙ ap (λ (x : Version). x.id)
       (some_is a.0 b.0 (sym a.1 ∙ b.1)) ∙ id_found other (record_now st s).versions b.0 b.2
 
-  -- a row of the content is among those in force
+  -- A row of the content in force is in the list of the definitions.
   routed-listed : (s : Subject) (routing : Routing) → IsRouted c s routing
       → Among (record { subject = s; routing = Some routing }) (all_in_force st)
   routed-listed s routing is =
@@ -88,7 +87,7 @@ module _ (st : State) (c : Content) (refines : Refines c st) (settled : (s : Sub
             held.0;
       }) is.0 given held.2 force)
 
-  -- and a row that is in force is one of the content
+  -- A row in the list of the definitions is a row of the content.
   listed-routed : (r : InForce) → Among r (all_in_force st) → (routing : Routing)
       × (r ≡ record { subject = r.subject; routing = Some routing }) × IsRouted c r.subject routing
   listed-routed r is =
@@ -153,7 +152,7 @@ module _ (st : State) (c : Content) (refines : Refines c st) (settled : (s : Sub
         subst (λ x. Among x (map in_force_of rows)) (sym same) (mapped-to rows row.0 row.1.0 row.1.1
         row.1.2)
 
-    -- the store's list is the definitions'
+    -- The store's list is the list of the definitions.
     pub in_force_listed : map in_force_of rows ≡ all_in_force st
     in_force_listed =
         same_rising key (map in_force_of rows) (all_in_force st) (mapped-rise key in_force_of rows

@@ -1,4 +1,4 @@
-//! Command lines, carried out whole, with files that the test makes.
+//! Tests command lines, executed whole, with files that the test makes.
 use super::connections::{CUT, FIRST, LAST, new_listener};
 use crate::said::WINDOWS;
 use cli::parse::{CommandLine, Subcommand, parse};
@@ -9,8 +9,8 @@ use std::net::OpenListener;
 use std::rt::Files;
 use std::{env, fs, io};
 
-/// A command line, its input, its exit status, what is written, and what is told. Where `None`
-/// stands some text of `clap`'s is.
+/// A command line, its input, its exit status, its output, and its report. `None` is a text of
+/// `clap`'s.
 pub type Row<'a> = (&'a str, &'a str, u8, Option<&'a str>, Option<&'a str>);
 
 pub const NO_TEXT: Option<&str> = Some("");
@@ -32,7 +32,7 @@ const FIRST_AND_CUT: &str = "POST /carriers HTTP/1.1\r\nx-spid: NPAC\r\n\
     content-length: 15\r\n\r\n{\"spid\":\"AAAA\"}POST /carriers HTTP/1.1\r\n\
     x-spid: NPAC\r\ncontent-length: 15\r\n\r\n{\"spid\"";
 
-// Mistakes of the line, before any file is opened.
+// Mistakes in the line, found before any file is opened.
 static MISTAKES: [Row<'static>; 11] = [
     ("npacd", "", 2, NO_TEXT, None),
     ("npacd listen --windows good.toml", "", 2, NO_TEXT, None),
@@ -95,8 +95,8 @@ static HELP: [Row<'static>; 3] = [
     ("npacd --version", FIRST, 0, Some("npacd 0.1.0\n"), NO_TEXT),
 ];
 
-// Faults, the first of which is told: of the windows file, then of the file of messages, then of
-// the input.
+// Faults; the first in this order is reported: of the windows file, then of the file of messages,
+// then of the input.
 static FAULTS: [Row<'static>; 8] = [
     (
         "npacd feed --windows narrow.toml",
@@ -156,7 +156,7 @@ static FAULTS: [Row<'static>; 8] = [
     ),
 ];
 
-// What is fed first is answered to nobody, and what stands behind its end is dropped.
+// What is fed first is answered to nobody, and what follows its end is discarded.
 static FED: [Row<'static>; 3] = [
     (
         "npacd feed --windows good.toml",
@@ -181,7 +181,7 @@ static FED: [Row<'static>; 3] = [
     ),
 ];
 
-// Lines over a file, each after those before it.
+// Lines over a file, each after the ones before it.
 static STORED: [Row<'static>; 5] = [
     (
         "npacd feed --windows good.toml --db made.db",
@@ -227,7 +227,7 @@ fn is_text(bytes: &[u8], wanted: Option<&str>) -> bool {
     }
 }
 
-/// The words of a line.
+/// Splits a line into its words.
 pub fn words_in(alloc: Global, line: &str) -> Result<Vec<&str>, AllocError> {
     let mut words = Vec::new(alloc);
     for word in line.split(' ') {
@@ -246,7 +246,7 @@ fn is_carried_out(rt: &HostRuntime, row: &Row<'_>) -> Option<bool> {
     Some(ended == status && is_text(&output, written) && is_text(&errors, told))
 }
 
-/// The first line that ends otherwise.
+/// Returns the first line with another end.
 pub fn first_wrong<'a>(rt: &HostRuntime, rows: &'a [Row<'a>]) -> Option<&'a str> {
     for row in rows {
         if is_carried_out(rt, row) != Some(true) {
@@ -256,7 +256,7 @@ pub fn first_wrong<'a>(rt: &HostRuntime, rows: &'a [Row<'a>]) -> Option<&'a str>
     None
 }
 
-// The files of the rows, in the folder that the test's own are in.
+// Writes the files of the rows to the directory of the test's own files.
 fn make_files<T: Files + AllocGlobal + Env>(rt: &T) -> io::Result<()> {
     env::set_current_dir(rt, env::temp_dir(rt)?)?;
     let narrow = WINDOWS.strip_suffix(BROADCAST).unwrap_or("");
@@ -280,7 +280,7 @@ fn lines_are_carried_out(rt: HostRuntime) {
     assert_eq!(rt; is_port_taken(&rt), Some(true));
 }
 
-// A port that another listener has.
+// Tests a port that another listener has.
 fn is_port_taken(rt: &HostRuntime) -> Option<bool> {
     let listener = new_listener(rt)?;
     let port = listener.local_addr().ok()?.port();
@@ -291,7 +291,7 @@ fn is_port_taken(rt: &HostRuntime) -> Option<bool> {
     )
 }
 
-// Whether the words are this line.
+// Returns whether the words parse as this line.
 fn is_line(alloc: Global, text: &str, line: &CommandLine<'_>) -> Option<bool> {
     let words = words_in(alloc, text).ok()?;
     let parsed = parse(alloc, words.as_slice()).ok()?;
@@ -341,7 +341,7 @@ fn lines_that_serve(rt: HostRuntime) {
     assert_eq!(rt; are_lines(rt.alloc()), Some(true));
 }
 
-// These words, and no environment.
+// An environment with these words and no variables.
 #[derive(Clone, Copy)]
 struct GivenWords<'a> {
     words: &'a [&'a [u8]],
@@ -372,7 +372,7 @@ static NOT_UTF_8: [&[u8]; 3] = [b"npacd", b"feed", b"\xff"];
 
 static ASCII: [&[u8]; 2] = [b"npacd", b"feed"];
 
-// The exit status of words that are not had, or how many there are.
+// Returns the number of words, or the exit status if they are refused.
 fn status_of(alloc: Global, words: &[&[u8]]) -> Result<usize, u8> {
     match words_of(&(GivenWords { words }, alloc)) {
         Ok(words) => Ok(words.len()),

@@ -1,4 +1,4 @@
-//! Connections over a real listener, one after the other.
+//! Tests connections over a real listener, one after the other.
 use crate::said::{WINDOWS, windows_of};
 use api::{End, Fault, MessageFault, NoTicks, Served, Ticks};
 use cli::{serve_connections, serve_next};
@@ -13,15 +13,15 @@ use std::net::{
 };
 use store::MemoryStore;
 
-/// The carrier AAAA is registered.
+/// Registers the carrier AAAA.
 pub const FIRST: &str = "POST /carriers HTTP/1.1\r\nx-spid: NPAC\r\ncontent-length: 15\r\n\r\n\
     {\"spid\":\"AAAA\"}";
 
-/// The same with a part of its body.
+/// The same message with only a part of its body.
 pub const CUT: &str =
     "POST /carriers HTTP/1.1\r\nx-spid: NPAC\r\ncontent-length: 15\r\n\r\n{\"spid\"";
 
-/// The carrier BBBB is registered, and asks for the end; what stands behind that is not read.
+/// Registers the carrier BBBB and asks to close; what follows is not read.
 pub const LAST: &str = "POST /carriers HTTP/1.1\r\nx-spid: NPAC\r\nconnection: close\r\n\
     content-length: 15\r\n\r\n{\"spid\":\"BBBB\"}POST /carriers HTTP/1.1\r\n\r\n";
 
@@ -40,7 +40,7 @@ const BAD_HEAD: &str = "\r\n\r\n{\"error\":\"bad_head\",\"number\":45}";
 
 const NO_PATH: &str = "\r\n\r\n{\"error\":\"no_path\",\"number\":42}";
 
-// Hands in this minute, once.
+// Supplies this minute, once.
 #[derive(Drop)]
 struct OneMinute {
     minute: Option<Minute>,
@@ -52,18 +52,18 @@ impl Ticks for OneMinute {
     }
 }
 
-/// A listener at some port of this machine.
+/// Opens a listener on some port of this machine.
 pub fn new_listener<T: Net>(rt: &T) -> Option<T::Listener> {
     TcpListener::bind(rt, (Ipv4Addr::LOCALHOST, 0)).ok()
 }
 
-/// A register over memory with the windows of the tests.
+/// Opens a register in memory with the windows of the tests.
 pub fn new_register(alloc: Global) -> Option<Register<MemoryStore>> {
     let windows = windows_of(alloc, WINDOWS)?;
     Register::open(alloc, MemoryStore::new(alloc), &windows).ok()
 }
 
-/// A client that has said this, and no more comes from it.
+/// Connects a client that sends this text and nothing more.
 pub fn client_of<T: Net>(rt: &T, address: SocketAddr, text: &str) -> Option<T::Stream> {
     let mut client = TcpStream::connect(rt, address).ok()?;
     client.write_all(text.as_bytes()).ok()?;
@@ -71,14 +71,15 @@ pub fn client_of<T: Net>(rt: &T, address: SocketAddr, text: &str) -> Option<T::S
     Some(client)
 }
 
-/// What a client hears until its connection ends.
+/// Reads what a client receives until its connection ends.
 pub fn heard_by<C: Read>(alloc: Global, client: &mut C) -> Option<String> {
     let mut heard = String::new(alloc);
     client.read_to_string(&mut heard).ok()?;
     Some(heard)
 }
 
-// What becomes of a connection that says this, and what it hears.
+// Serves a connection that sends this text. Returns how serving ended, and what the client
+// received.
 fn met<T: Net + AllocGlobal>(
     rt: &T,
     listener: &T::Listener,
@@ -91,7 +92,7 @@ fn met<T: Net + AllocGlobal>(
     Some((served, heard_by(rt.alloc(), &mut client)?))
 }
 
-// Whether a connection that says this, with the minute handed in, ends so and hears this last.
+// Returns whether a connection that sends this text at this minute ends so, with this body last.
 fn is_met<T: Net + AllocGlobal>(
     rt: &T,
     listener: &T::Listener,
@@ -108,9 +109,9 @@ fn is_met<T: Net + AllocGlobal>(
     Some(served == Ok(Served { count: 1, end }) && heard.as_str().ends_with(body))
 }
 
-// A connection that ends, one that is cut, one that asks for its end, one for the clock, and one
-// that is no message, each as it should be. A minute below the present one is dropped. Each client
-// hears the end of its connection, which so is not left open.
+// Tests a connection that ends, one that is cut, one that asks to close, one for the clock, and one
+// that is no message. A minute below the present one is ignored. Each client sees the end of its
+// connection, so none is left open.
 fn are_served<T: Net + AllocGlobal>(rt: &T) -> Option<bool> {
     let listener = new_listener(rt)?;
     let mut register = new_register(rt.alloc())?;
@@ -150,7 +151,7 @@ fn connections_are_served_one_after_the_other(rt: HostRuntime) {
     assert_eq!(rt; are_served(&rt), Some(true));
 }
 
-// A listener that refuses so many connections first, and counts how often it is asked.
+// A listener that refuses its first connections, and counts how often it is called.
 #[derive(Drop)]
 struct Refusing<'a, L> {
     listener: &'a L,
@@ -172,7 +173,7 @@ impl<L: OpenListener> OpenListener for Refusing<'_, L> {
     }
 }
 
-// A connection that is refused and one that is cut leave the next one served, and count.
+// Tests that a refused connection and a cut one count, and leave the next one served.
 fn are_counted<T: Net + AllocGlobal>(rt: &T) -> Option<bool> {
     let listener = new_listener(rt)?;
     let address = listener.local_addr().ok()?;

@@ -1,4 +1,4 @@
-//! Command lines of bulk files, exports and audits, carried out whole, with files that the test
+//! Tests command lines of bulk files, exports and audits, executed whole, with files that the test
 //! makes.
 use super::command_lines::{NO_TEXT, Row, first_wrong, words_in};
 use super::connections::{CUT, LAST};
@@ -22,7 +22,7 @@ const CARRIERS: &str = "POST /carriers HTTP/1.1\r\nx-spid: NPAC\r\ncontent-lengt
 const CLOCK: &str = "POST /clock HTTP/1.1\r\nx-spid: NPAC\r\ncontent-length: 14\r\n\r\n\
     {\"minute\":100}";
 
-// The windows of `wide.toml`.
+// Sets the windows of `wide.toml`.
 const WIDE: &str = "POST /windows HTTP/1.1\r\nx-spid: NPAC\r\ncontent-length: 217\r\n\r\n\
     {\"broadcast\":16,\"cancellation_final\":60,\"cancellation_initial\":60,\
     \"conflict_expiration\":1000,\"conflict_resolution\":120,\"conflict_restriction\":30,\
@@ -35,7 +35,7 @@ const ACKNOWLEDGED: &str = "POST /downloads/acknowledge HTTP/1.1\r\nx-spid: AAAA
     POST /downloads/acknowledge HTTP/1.1\r\nx-spid: CCCC\r\ncontent-length: 20\r\n\r\n\
     {\"attempt\":1,\"id\":1}";
 
-// Both creates of a port at minute 100, and another's create between them.
+// Both creates of a port at minute 100, and another provider's create between them.
 const CREATES: &str = "caller,action,subject,old,new,due,lrn,cic,flag\n\
     AAAA,subscriptionVersionNewSP-Create,2025331234,BBBB,AAAA,100,2025440000,,\n\
     CCCC,subscriptionVersionNewSP-Create,2025331234,BBBB,CCCC,100,2025550000,,\n\
@@ -54,7 +54,7 @@ const COPY: &str = "subject,lrn,cic\n2025331234,2025550000,\n2025339999,20253300
 
 const NOTHING_IN_FORCE: &str = "subject,lrn,cic\n";
 
-// Mistakes of the line, before any file is opened, and help.
+// Mistakes in the line, found before any file is opened, and help.
 static WORDS: [Row<'static>; 8] = [
     ("npacd bulk", CREATES, 2, NO_TEXT, None),
     ("npacd export", "", 2, NO_TEXT, None),
@@ -78,7 +78,7 @@ static WORDS: [Row<'static>; 8] = [
     ("npacd audit --help", COPY, 0, None, NO_TEXT),
 ];
 
-// Over memory: from nothing, from what was fed, and from what stands before the end of what was
+// Lines over memory: from nothing, from what was fed, and from what precedes the end of what was
 // fed.
 static RUN: [Row<'static>; 7] = [
     (
@@ -133,7 +133,7 @@ static RUN: [Row<'static>; 7] = [
     ),
 ];
 
-// Over a file, each after those before it: a port is created, sent when it is due, and
+// Lines over a file, each after the ones before it: a port is created, sent when it is due, and
 // acknowledged.
 static STORED: [Row<'static>; 8] = [
     (
@@ -194,9 +194,9 @@ static STORED: [Row<'static>; 8] = [
     ),
 ];
 
-// Faults, of which the first is told: each line has those of the lines behind it too. They come in
-// this order: of the windows file, of the file of `--db`, of that of `--feed`, the carrier's, and
-// those of the file that is read.
+// Faults; the first of a line is reported, and each line has those of the later lines too. They
+// come in this order: of the windows file, of the file of `--db`, of that of `--feed`, the
+// carrier's, and those of the file that is read.
 static FAULTS: [Row<'static>; 20] = [
     (
         "npacd bulk --windows narrow.toml --db good.toml --feed none.http",
@@ -340,7 +340,7 @@ static FAULTS: [Row<'static>; 20] = [
     ),
 ];
 
-// What was refused left the file as it was.
+// The refused lines left the file as it was.
 static KEPT: [Row<'static>; 1] = [(
     "npacd export --windows good.toml --db files.db",
     "",
@@ -349,7 +349,7 @@ static KEPT: [Row<'static>; 1] = [(
     NO_TEXT,
 )];
 
-// The administrator sets other windows: the file goes on with these, and no more with the first.
+// The administrator sets other windows: the file then opens with these, and not with the first.
 static RETUNED: [Row<'static>; 3] = [
     (
         "npacd export --windows good.toml --db files.db --feed wide.http",
@@ -374,7 +374,7 @@ static RETUNED: [Row<'static>; 3] = [
     ),
 ];
 
-// The files of the rows, in the folder that the test's own are in.
+// Writes the files of the rows to the directory of the test's own files.
 fn make_files<T: Files + AllocGlobal + Env>(rt: &T) -> io::Result<()> {
     env::set_current_dir(rt, env::temp_dir(rt)?)?;
     fs::write(rt, "good.toml", WINDOWS)?;
@@ -401,7 +401,7 @@ fn files_are_carried_out(rt: HostRuntime) {
     assert_eq!(rt; first_unbroken(&rt), None);
 }
 
-// Neither gives a byte nor takes one.
+// A reader and writer whose calls all fail.
 #[derive(Drop)]
 struct Broken {}
 
@@ -427,7 +427,7 @@ static UNREAD: [&str; 2] = [
     "npacd audit --windows good.toml --feed carriers.http --spid AAAA",
 ];
 
-// Lines, and their input, of which nothing can be written.
+// Lines, with their input, whose output cannot be written.
 static UNWRITTEN: [(&str, &str); 3] = [
     ("npacd bulk --windows good.toml", ACTIVATES),
     ("npacd export --windows good.toml", ""),
@@ -437,7 +437,7 @@ static UNWRITTEN: [(&str, &str); 3] = [
     ),
 ];
 
-// Nothing can be written, and the line ends with 3 and tells this.
+// Returns whether the line ends with status 3 and this report if nothing can be written.
 fn tells<R: Read>(rt: &HostRuntime, line: &str, reader: &mut R, told: &str) -> Option<bool> {
     let words = words_in(rt.alloc(), line).ok()?;
     let mut errors = Vec::new(rt.alloc());
@@ -445,7 +445,7 @@ fn tells<R: Read>(rt: &HostRuntime, line: &str, reader: &mut R, told: &str) -> O
     Some(ended == 3 && errors.as_slice() == told.as_bytes())
 }
 
-// The first line that tells another fault.
+// Returns the first line with another fault.
 fn first_unbroken(rt: &HostRuntime) -> Option<&'static str> {
     for line in &UNREAD {
         if tells(rt, line, &mut Broken {}, "npacd: read\n") != Some(true) {

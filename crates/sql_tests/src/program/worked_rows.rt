@@ -1,4 +1,4 @@
-//! Worked rows, played over a real listener with the minutes handed in beside the messages.
+//! Tests worked rows over a real listener, with the minutes supplied beside the messages.
 use super::connections::{client_of, heard_by, new_listener, new_register};
 use crate::said::message;
 use api::Ticks;
@@ -12,8 +12,7 @@ use std::net::{Net, OpenListener, OpenStream, SocketAddr};
 use std::time::Duration;
 use store::MemoryStore;
 
-// The minute that is handed in, the caller, the path, the body (an empty one: a GET), and the body
-// that is answered.
+// The supplied minute, the caller, the path, the body (empty: a GET), and the body of the answer.
 type Row<'a> = (u64, &'a str, &'a str, &'a str, &'a str);
 
 static OPENING: [Row<'static>; 7] = [
@@ -199,7 +198,7 @@ const CREATE_OF_ANOTHER: &str =
 
 const ANOTHER: &str = r#"{"id":2}"#;
 
-// The nine windows, those of concurrence shorter.
+// The nine windows, with shorter concurrence windows.
 const SHORTER: &str = concat!(
     r#"{"broadcast":15,"cancellation_final":60,"cancellation_initial":60,"#,
     r#""conflict_expiration":1000,"conflict_resolution":120,"conflict_restriction":30,"#,
@@ -218,7 +217,7 @@ const ANOTHER_SENT_AT_70: &str = concat!(
 
 const NOT_CONCURRED: &str = r#"{"error":"not_concurred","number":16}"#;
 
-// The windows are set anew between two creates: each goes by those of its own minute.
+// The windows are set again between two creates: each create goes by the windows of its own minute.
 static RETUNED: [Row<'static>; 7] = [
     (0, "AAAA", NEW, CREATE, INITIAL),
     (50, "NPAC", "/windows", SHORTER, r#"{"now":50,"set":2}"#),
@@ -229,14 +228,14 @@ static RETUNED: [Row<'static>; 7] = [
     (120, "AAAA", ACTIVATE, FIRST, SENT_AT_120),
 ];
 
-// The minute 30 is below the present one.
+// Minute 30 is below the present one.
 static MINUTE_BELOW: [Row<'static>; 3] = [
     (0, "AAAA", NEW, CREATE, INITIAL),
     (60, "CCCC", "/versions/1", "", FINAL),
     (30, "CCCC", "/versions/1", "", FINAL),
 ];
 
-// Hands in the minutes of the rows, one after the other.
+// Supplies the minutes of the rows, in order.
 #[derive(Drop)]
 struct Minutes<'a> {
     rows: &'a [Row<'static>],
@@ -255,7 +254,7 @@ fn minutes_of<'a>(rows: &'a [Row<'static>]) -> Minutes<'a> {
     Minutes { rows, at: 0 }
 }
 
-// A stream that hands out one byte a read.
+// A stream that reads one byte at a time.
 #[derive(Drop)]
 struct ByteByByte<C: Drop> {
     stream: C,
@@ -290,7 +289,7 @@ impl<C: OpenStream + Drop> OpenStream for ByteByByte<C> {
     }
 }
 
-// A listener to whose streams their bytes come one by one.
+// A listener whose streams read one byte at a time.
 #[derive(Clone, Copy)]
 struct OneByOne<'a, L> {
     listener: &'a L,
@@ -309,7 +308,7 @@ impl<L: OpenListener> OpenListener for OneByOne<'_, L> {
     }
 }
 
-// The answer with this body: each refusal of these rows is a conflict.
+// Returns the answer with this body. Each refusal in these rows is a conflict.
 fn answered(alloc: Global, body: &str) -> Result<String, AllocError> {
     let status = if body.starts_with("{\"error\"") {
         "409 Conflict"
@@ -323,7 +322,7 @@ fn answered(alloc: Global, body: &str) -> Result<String, AllocError> {
     )
 }
 
-// What the rows say on one connection, and what they are answered.
+// Returns the messages of the rows on one connection, and their answers.
 fn texts_of(alloc: Global, rows: &[Row<'static>]) -> Result<(String, String), AllocError> {
     let mut messages = String::new(alloc);
     let mut answers = String::new(alloc);
@@ -334,7 +333,7 @@ fn texts_of(alloc: Global, rows: &[Row<'static>]) -> Result<(String, String), Al
     Ok((messages, answers))
 }
 
-// Whether the rows are answered so, on one connection.
+// Returns whether the rows have these answers, on one connection.
 fn is_played<T, L>(
     rt: &T,
     listener: &L,
@@ -352,7 +351,7 @@ where
     Some(heard_by(rt.alloc(), &mut client)? == answers)
 }
 
-// Whether the rows are answered so by a register that was just opened for three carriers.
+// Returns whether the rows have these answers from a new register with three carriers.
 fn is_story<T, L>(rt: &T, listener: &L, rows: &[Row<'static>]) -> Option<bool>
 where
     T: Net + AllocGlobal,
@@ -382,7 +381,7 @@ where
     )
 }
 
-// The rows, their messages all in one piece, and then byte by byte.
+// Tests the rows with all messages in one piece, and then byte by byte.
 fn are_played<T: Net + AllocGlobal>(rt: &T) -> Option<bool> {
     let listener = new_listener(rt)?;
     let whole = are_stories(rt, &listener)?;
@@ -397,7 +396,8 @@ fn worked_rows_over_a_listener(rt: HostRuntime) {
     assert_eq!(rt; are_played(&rt), Some(true));
 }
 
-// A create without its last byte changes nothing: what comes next is the first version.
+// Tests that a create without its last byte changes nothing: the next create makes the first
+// version.
 fn is_cut<T: Net + AllocGlobal>(rt: &T) -> Option<bool> {
     let listener = new_listener(rt)?;
     let mut register = new_register(rt.alloc())?;

@@ -5,7 +5,7 @@ use Rattle.api.proofs.StepLemmas.{tick_then, tick_withheld}
 use Rattle.api.proofs.Withheld.{refused_or}
 use Rattle.api.proofs.serving.tick_and_answer.Goals as goal
 
--- the minute that was handed in
+-- The supplied minute.
 abbrev minute_of : Option Minute → Option ℕ
 minute_of tick = option_map (λ (m : Minute). m.number) tick
 

@@ -2,7 +2,7 @@ use Rattle.std.proofs.Common.{◌≡◌, ◌≤◌, ◌++◌, length, drop}
 use Rattle.numbers.specs.Texts.{digits_of}
 use Rattle.bulk.proofs.digits.digits.Given as goal
 
--- the digits of what is left, and behind them those that are written, are the number's
+-- The digits of what is left, followed by those written, are the number's.
 abbrev pub invariant-fours : goal.invariant-fours
 invariant-fours g l =
     (l.place ≤ g.row.N) × (length l.digits ≡ g.row.N)

@@ -22,7 +22,7 @@ returns-in_err-tn_in-2-clause-none c = if_none c.from_residual-in_err-tn_in-2.re
     e in
     c.in_err-tn_in-2.ensures.none numbers.last.number numbers.last.valid same.1)
 
--- another range of this text would be of the numbers that were read
+-- Any range of this text has the numbers that were read.
 pub returns-clause-none : goal.returns-clause-none
 returns-clause-none c = if_none_of c.new.result (λ other numbers e.
     let cut = c.in_ok-first.ensures.some in

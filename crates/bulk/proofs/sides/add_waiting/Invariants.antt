@@ -4,7 +4,8 @@ use Rattle.bulk.specs.Sides.{sides_at}
 use Rattle.bulk.proofs.Sided.{with_waiting}
 use Rattle.bulk.proofs.sides.add_waiting.Given as goal
 
--- the subjects that are left make of the sides what all of them make of those at the beginning
+-- Adding the subjects left to the sides so far gives what adding all subjects to the first sides
+-- gives.
 abbrev pub invariant-loop-subject : goal.invariant-loop-subject
 invariant-loop-subject l = (s : Subject)
     → with_waiting (drop l.subject-index l.subjects) s (sides_at l.all s) ≡ with_waiting l.subjects

@@ -4,7 +4,7 @@ use Rattle.bulk.specs.Sides.{no_sides, sides_at}
 use Rattle.bulk.proofs.Sided.{Taken, with_copied}
 use Rattle.bulk.proofs.sides.copy_sides.Given as goal
 
--- the entries that are left make of the sides what all of them make of none
+-- Adding the entries left to the sides so far gives what adding all entries to no sides gives.
 abbrev pub invariant-loop-entry : goal.invariant-loop-entry
 invariant-loop-entry l = record {
   added : (s : Subject) → with_copied (drop l.entry-index l.entries) s (sides_at l.all s)

@@ -29,7 +29,7 @@ both : {Z : Type 0} (x : Option (Box SubCommand Z)) (n : Text) (rs : List Row)
 both None n rs a b = cc
 both (Some x) n rs a b = cc
 
--- so what the words name is what was found
+-- The words name the subcommand that was found.
 named : {Z : Type 0} (words : List Text) (x : Option (Box SubCommand Z)) (n : Text) (rs : List Row)
     → subcommand_rows x ≡ subcommand_of npacd_app words
     → Some n ≡ option_map (λ b. (out-SubCommand (box_value b)).name.now) x
@@ -89,7 +89,7 @@ free : is_simple_and_free npacd_app ≡ true
 unfolding clap_on_literals
 free = refl
 
--- help was told, so `clap`'s rule says of the words that they ask for it
+-- A usage of status 0 implies that the words ask for help, by the rule of `clap`.
 asks : (kinds : Kinds) (error : Error) (status : ℕ) → status ≡ 0 → (kind_of error ≡ kind.OutOfMemory
     → status ≡ 3) → HasKind kinds error → (kind_of error ≡ kind.DisplayHelp)
     ⊎ (kind_of error ≡ kind.DisplayVersion) →

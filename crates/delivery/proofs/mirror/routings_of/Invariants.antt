@@ -8,7 +8,7 @@ use Rattle.model.specs.Copies.{copy_of_rows}
 use Rattle.delivery.specs.Mirrors.{routing_in_copy, in_force_of}
 use Rattle.delivery.proofs.mirror.routings_of.Given as goal
 
--- the rows that are left make of the map what all of them make of an empty one
+-- Inserting the remaining rows into the map gives the copy of all rows.
 abbrev pub invariant-loop-row : goal.invariant-loop-row
 invariant-loop-row l =
     (s : Subject) → fold (λ before (r : InForce). if subject_eq r.subject (subject_of s)

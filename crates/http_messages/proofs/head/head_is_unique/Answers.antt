@@ -8,7 +8,7 @@ use lib.Utf8.{encode}
 use Rattle.httparse.proofs.GrammarLemmas.{request_unique, print_request-append, ReadsRequest-append}
 use Rattle.http_messages.proofs.head.head_is_unique.Goals as goal
 
--- a front of a whole that is no longer than another front is a front of that
+-- Of two prefixes of one list, the shorter is a prefix of the longer.
 front_of : (a b c d : List ℕ) → a ++ b ≡ c ++ d → length c ≤ length a → a ≡ c ++ drop (length c) a
 front_of a b c d e l =
     let same : take (length c) a ≡ c =
@@ -27,7 +27,7 @@ returns-clause-full c = λ buf more h rest long none x.
           rest x.reads.1 fits,
     )
 
--- the shortest head behind empty lines
+-- The shortest head after the empty lines.
 abbrev witness : List LineEnd → RequestHead
 witness ends = record {
   blank = ends;

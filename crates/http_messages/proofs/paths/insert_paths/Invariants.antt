@@ -5,7 +5,7 @@ use Rattle.http_messages.specs.declared.paths.Route.{Route}
 use Rattle.http_messages.specs.Table.{all_placed, texts_of}
 use Rattle.http_messages.proofs.paths.insert_paths.Given as goal
 
--- what is left to put makes the rows that all of them make
+-- The rest of the paths makes the rows that all of them make.
 abbrev pub invariant-loop-path : goal.invariant-loop-path
 invariant-loop-path l = (rows : RowsOf (RouteOf Route))
     → all_placed (texts_of l.paths) l.fn.router ≡ Some rows

@@ -3,7 +3,7 @@ use Rattle.matchit.proofs.OnLiterals.{matchit_on_literals}
 use Rattle.http_messages.specs.Table.{all_placed, table, texts_of}
 use Rattle.http_messages.proofs.paths.router.Goals as goal
 
--- all the paths can stand in one router, and make the table: computed
+-- All paths have a place in one router and make the table; by computation.
 pub returns-clause-paths : goal.returns-clause-paths
 unfolding matchit_on_literals
 returns-clause-paths c =

@@ -4,7 +4,7 @@ use Rattle.json_api.specs.declared.flat.Member.{Member}
 use Rattle.json_api.specs.Flat.{is_among}
 use Rattle.json_api.proofs.flat.are_known.Given as goal
 
--- those that are left decide
+-- The members left decide.
 abbrev pub invariant-members : goal.invariant-members
 invariant-members l =
     list_all (λ (m : Member). is_among l.allowed m.key.now) (drop l.member-index l.members)

@@ -4,7 +4,7 @@ use Rattle.pool.specs.Donations.{lines_of}
 use Rattle.json_api.specs.Forms.{AreLineTexts}
 use Rattle.json_api.proofs.used.lines_of.Given as goal
 
--- those passed are the texts of the lines
+-- The values passed are the texts of the lines.
 abbrev pub invariant-loop-value : goal.invariant-loop-value
 invariant-loop-value l =
     AreLineTexts (items_view (take l.value-index l.values)) (lines_of l.lines.items)

@@ -2,7 +2,7 @@ use Rattle.std.proofs.Common.{◌≡◌, ◌^◌, ◌<◌, take}
 use Rattle.numbers.specs.Texts.{digits_of}
 use Rattle.numbers.proofs.digits.read_digits.Given as goal
 
--- the bytes so far are the digits of the number so far
+-- The bytes read are the digits of the number so far.
 abbrev pub invariant-loop-byte : goal.invariant-loop-byte
 invariant-loop-byte l =
     (l.number < 10 ^ l.byte-index)

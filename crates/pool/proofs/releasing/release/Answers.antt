@@ -1,5 +1,4 @@
--- The next attempt is within the limit, and what is refused as the facts say is refused as the
--- state says.
+-- The next attempt is within the limit, and a refusal by the facts is the state's.
 use Rattle.std.proofs.Common.{refl, arith, rules}
 use Rattle.std.proofs.lemmas.Bool.Decides.{nat_tests}
 use Rattle.pool.proofs.BlockRefused.{release_refused_in}

@@ -18,7 +18,7 @@ use Rattle.register.proofs.acknowledgement.put_last.Goals as goal
 abbrev told : BroadcastKeyImpl × Broadcast → BroadcastKey × BroadcastRow
 told e = (broadcast_key_of e.0, broadcast_row_of e.1)
 
--- a row that is seen, where it is wanted
+-- The model of an optional row.
 when-seen : {X Y : Type 0} (f : X → Y) (x : X) (b : Bool) → map f (if b then x ∷ [] else [])
     ≡ (if b then f x ∷ [] else [])
 when-seen f x true = refl

@@ -16,7 +16,7 @@ use Rattle.register.proofs.EveryCall.Deciding.{decides_refused}
 use Rattle.register.proofs.Registering.SetsPut.{sets_not_admin, sets_full, answers_sets}
 use Rattle.register.proofs.clock.set_windows.Goals as goal
 
--- the next number is far from where it would stay
+-- The next number is below its greatest value.
 next_number : (n next : ℕ) → n < 1000 → next ≡ min (n + 1) (2 ^ 16 - 1) → next ≡ n + 1
 next_number n next below is = omega arith
 

@@ -8,7 +8,7 @@ use Rattle.register.specs.Looking.{HasSet}
 use Rattle.settle.proofs.Faults.{storage_by}
 use Rattle.register.proofs.looking.look_up.Goals as goal
 
--- the set of the row is there, so that none is said only where the device failed
+-- The set of the row is there, so `Storage` is reported only if the device failed.
 pub returns-in_err-held-clause-read_only : goal.returns-in_err-held-clause-read_only
 returns-in_err-held-clause-read_only g c = record {
   same = λ usable.

@@ -4,7 +4,7 @@ use Rattle.settle.specs.declared.rows.NumberedRow.{NumberedRow}
 use Rattle.sql_store.specs.Blocks.{number_by, number_of_tn}
 use Rattle.sql_store.proofs.blocks.numbers_of.Given as goal
 
--- the numbers of those passed are in the list
+-- The numbers of the versions passed are in the list.
 abbrev pub invariant-loop-version : goal.invariant-loop-version
 invariant-loop-version l =
     map number_of_tn l.tns.items ≡ filter_map (λ (v : NumberedRow). number_by l.standing v.row)

@@ -4,7 +4,7 @@ use Rattle.sql_store.specs.Changes.{all_made, without_version}
 use Rattle.sql_store.specs.Store.{IsTransactionProgress}
 use Rattle.sql_store.proofs.commit.clear_versions.Given as goal
 
--- the rows so far, and those that are left, make together what all of them make
+-- The changes so far, with those left after them, are all changes.
 abbrev pub invariant-loop-row : goal.invariant-loop-row
 invariant-loop-row g l = record {
   same_reference : l.tx.conn.ghost_name ≡ l.fn.tx.conn.ghost_name;

@@ -14,7 +14,7 @@ use Rattle.sql_store.specs.Changes.{IsChangedOver}
 use Rattle.sql_store.proofs.CallLemmas.{looked_ours, looked_turned, looked_unturned, read_leaves, unread_leaves}
 use Rattle.sql_store.proofs.commit.commit.Goals as goal
 
--- the clock's row that was read is the one before the changes
+-- The clock's row that was read is the one before the changes.
 by_clock_read : (old mid : State) (changes : Changes) (row : Option ClockRow)
     → HasQueried old mid true
     → (IsTrue mid.is_open → option_map clock_row_of row ≡ (content_at old).clock)

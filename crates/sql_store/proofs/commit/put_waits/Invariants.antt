@@ -6,7 +6,7 @@ use Rattle.numbers.specs.Abstraction.{subject_of}
 use Rattle.sql_store.specs.Store.{IsTransactionProgress}
 use Rattle.sql_store.proofs.commit.put_waits.Given as goal
 
--- the rows so far, and those that are left, make together what all of them make
+-- The changes so far, with those left after them, are all changes.
 abbrev pub invariant-loop-row : goal.invariant-loop-row
 invariant-loop-row g l = record {
   same_reference : l.tx.conn.ghost_name ≡ l.fn.tx.conn.ghost_name;

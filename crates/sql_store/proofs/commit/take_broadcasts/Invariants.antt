@@ -5,7 +5,7 @@ use Rattle.settle.specs.Abstraction.{broadcast_key_of}
 use Rattle.sql_store.specs.Store.{IsTransactionProgress}
 use Rattle.sql_store.proofs.commit.take_broadcasts.Given as goal
 
--- the rows so far, and those that are left, make together what all of them make
+-- The changes so far, with those left after them, are all changes.
 abbrev pub invariant-loop-key : goal.invariant-loop-key
 invariant-loop-key g l = record {
   same_reference : l.tx.conn.ghost_name ≡ l.fn.tx.conn.ghost_name;

@@ -2,6 +2,6 @@ use Rattle.std.proofs.Common.{◌≡◌, map, take}
 use Rattle.sql_store.specs.Lists.{download_of}
 use Rattle.sql_store.proofs.lists.downloads_of.Given as goal
 
--- those passed are in the list
+-- The downloads passed are in the list.
 abbrev pub invariant-loop-wait : goal.invariant-loop-wait
 invariant-loop-wait l = l.downloads.items ≡ map download_of (take l.wait-index l.waits)

@@ -5,7 +5,7 @@ use Rattle.settle.specs.Abstraction.{broadcast_key_of}
 use Rattle.settle.specs.declared.rows.BroadcastKey.{BroadcastKey}
 use Rattle.sql_store.proofs.lists.rise.Given as goal
 
--- up to here each is below the next
+-- Each broadcast so far has a lower key than the next.
 abbrev pub invariant-loop-at : goal.invariant-loop-at
 invariant-loop-at l = (0 < l.at) × ((k : ℕ) (d : BroadcastKey × Broadcast) → k + 1 < l.at
     → broadcast_cmp (broadcast_key_of (slice_index_or l.broadcasts k d).0)

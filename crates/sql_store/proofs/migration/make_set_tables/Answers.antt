@@ -9,7 +9,7 @@ use Rattle.sql_store.specs.Migration.{MigratesInTransaction, IsBegun, AreTablesC
 use Rattle.sql_store.proofs.MigrationLemmas.{Both, alters_as, alters_none, does_stop, does_then, grown_sets}
 use Rattle.sql_store.proofs.migration.make_set_tables.Goals as goal
 
--- the first two tables, and then the third
+-- The first two tables, and then the third.
 two : (a b d : State) → MigratesInTransaction (IsBegun modify_schema) a b true
     (IsMade made.WindowSet)
     → MigratesInTransaction (IsBegun (schema_before made.Version)) b d true (IsMade made.Version)

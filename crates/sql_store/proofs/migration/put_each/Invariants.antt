@@ -4,7 +4,7 @@ use Rattle.sql_store.specs.Migration.{ArePutBut}
 use Rattle.sql_store.specs.Store.{WritesInTransaction}
 use Rattle.sql_store.proofs.migration.put_each.Given as goal
 
--- the versions so far, and those that are left, make together what all of them make
+-- The versions copied so far, with those left, are all versions.
 abbrev pub invariant-loop-id : goal.invariant-loop-id
 invariant-loop-id g l = record {
   same_reference : l.tx.conn.ghost_name ≡ l.fn.tx.conn.ghost_name;

@@ -4,7 +4,7 @@ use Rattle.sql_store.specs.Migration.{AreOldRowsDeleted}
 use Rattle.sql_store.specs.Store.{WritesInTransaction}
 use Rattle.sql_store.proofs.migration.take_each.Given as goal
 
--- no other table was touched so far
+-- No other table has changed so far.
 abbrev pub invariant-loop-id : goal.invariant-loop-id
 invariant-loop-id g l = record {
   same_reference : l.tx.conn.ghost_name ≡ l.fn.tx.conn.ghost_name;

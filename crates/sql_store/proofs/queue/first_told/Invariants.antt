@@ -5,7 +5,7 @@ use Rattle.sql_store.specs.Queues.{AreTold}
 use Rattle.sql_store.specs.Store.{HasQueried, content_at}
 use Rattle.sql_store.proofs.queue.first_told.Given as goal
 
--- of what was passed all that has a broadcast is in the list
+-- All downloads passed that have a broadcast are in the list.
 abbrev pub invariant-loop-wait : goal.invariant-loop-wait
 invariant-loop-wait g l = record {
   idle : l.conn.in_transaction ≡ false;

@@ -17,7 +17,7 @@ use Rattle.sql_store.proofs.CallLemmas.{two_made, two_stop}
 use Rattle.sql_store.proofs.LookupLemmas.{one_bound}
 use Rattle.sql_store.proofs.rows.put_version.Goals as goal
 
--- what both rows make of the content
+-- The change of the content that both rows make.
 whole_put : (old mid new : Database) → AreShaped old.trees
     → (id : _) (v : VersionRow) (next : Option Routing) → next_of v.status ≡ next
     → version_entry (version_row id v) ≡ Some (id, bare v) →

@@ -3,7 +3,7 @@ use Rattle.sql_store.specs.Through.{TellsNone}
 use Rattle.sql_store.proofs.ThroughLemmas.{ReadsSoFar}
 use Rattle.sql_store.proofs.through.read_rows.Given as goal
 
--- the rows so far were given and read, and nothing was changed
+-- The rows so far were returned and read, and nothing was changed.
 abbrev pub invariant-rows : goal.invariant-rows
 invariant-rows g l = record {
   same_reference : l.rows.conn.ghost_name ≡ l.fn.rows.conn.ghost_name;

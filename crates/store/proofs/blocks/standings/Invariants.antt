@@ -3,8 +3,7 @@ use Rattle.std.specs.FinMap.{empty}
 use Rattle.store.specs.BlockRows.{only_held, and_open, marked, standings_of}
 use Rattle.store.proofs.blocks.standings.Given as goal
 
--- the numbers of the keys that are left, together with those that were gathered, are those of all
--- keys
+-- Marking the numbers of the keys that are left gives the marks of all keys.
 abbrev pub invariant-loop-key : goal.invariant-loop-key
 invariant-loop-key l =
     marked only_held (λ row. row.holds) l.block.number l.tables.versions l.key-iterator

@@ -5,7 +5,7 @@ use Rattle.store.proofs.Sole.{sole-content, sole-indexed, sole-new, sole-taken, 
 use Rattle.store.proofs.Undone.{all-kept, versions-undone}
 use Rattle.store.proofs.commit.put_sole_version.Goals as goal
 
--- what the commit leaves, once the keys that nothing needs are taken
+-- The tables after the stale keys are deleted.
 taken : (c : goal.After-take_version_keys) → AreIndexed c.take_version_keys.new.tables
     × AddNoStale c.args.tables.now c.take_version_keys.new.tables
 taken c =

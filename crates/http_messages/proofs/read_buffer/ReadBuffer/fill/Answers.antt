@@ -26,7 +26,7 @@ returns-in_err-n-clause-left g c =
     c.in_err-n.ensures.err c.make_room.ensures.held)
     c.in_err-n.ensures.kept
 
--- what was read stands behind what was held
+-- The bytes read follow the bytes that were buffered.
 read_behind : (g : _) (c : goal.After-self-2-1 g) → take (c.make_room.new.self.filled + c.in_ok-n.n
     - c.make_room.new.self.start) (drop c.make_room.new.self.start
     (with_items c.make_room.new.self.bytes c.read_at.new.buf).items)

@@ -5,7 +5,7 @@ use Rattle.serde_json.specs.Find.{get_member}
 use Rattle.json_api.specs.Flat.{members_upon}
 use Rattle.json_api.proofs.flat.Flat.get.Given as goal
 
--- those that were passed have other keys
+-- The members passed have other keys.
 abbrev pub invariant-members : goal.invariant-members
 invariant-members l =
     (l.left ≤ length l.self.members.items)

@@ -3,7 +3,7 @@ use Rattle.numbers.proofs.DigitLemmas.{digits_of-injective}
 use Rattle.numbers.proofs.code_id.CodeId.read.Goals as goal
 use Rattle.numbers.proofs.code_id.CodeId.read.Goals.{else-number-ge2-via-then-number-ge2+else-number-ge2-2, else-number-ge2-via-else-number-ge2}
 
--- another number of this text would be the number that was read
+-- Another code with this text would be the number that was read.
 pub returns-else-number-ge2-clause-none : goal.returns-else-number-ge2-clause-none
 returns-else-number-ge2-clause-none c = λ n rule e.
     let read = c.in_ok-number.ensures.some in

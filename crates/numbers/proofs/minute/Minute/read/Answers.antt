@@ -3,7 +3,7 @@ use Rattle.std.proofs.lemmas.Fmt.{parse-decimal}
 use Rattle.std.proofs.lemmas.Grind.{common_steps}
 use Rattle.numbers.proofs.minute.Minute.read.Goals as goal
 
--- the text of a minute is parsed as that minute, and printed again it is the text
+-- The text of a minute parses as that minute, which formats as the text again.
 pub returns-in_default-clause-none : goal.returns-in_default-clause-none
 returns-in_default-clause-none c = λ n small e.
     let parsed : c.parse.result ≡ Ok n =

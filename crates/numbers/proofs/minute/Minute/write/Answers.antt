@@ -3,7 +3,7 @@ use Rattle.std.proofs.lemmas.Fmt.{length-decimal-le}
 use Rattle.std.proofs.lemmas.Grind.{common_steps}
 use Rattle.numbers.proofs.minute.Minute.write.Goals as goal
 
--- a number below 2^40 has at most thirteen digits
+-- A number below 2^40 has at most thirteen digits.
 pub returns-clause-succeeds : goal.returns-clause-succeeds
 returns-clause-succeeds c =
     let small = c.args.self.now.valid in

@@ -2,7 +2,7 @@ use Rattle.std.proofs.Common.{◌∙◌, sym}
 use Rattle.numbers.proofs.SpidLemmas.{spid_made}
 use Rattle.numbers.proofs.spid.Spid.read.Goals as goal
 
--- the four characters passed the test
+-- The four characters passed the test.
 pub invariant_of-result : goal.invariant_of-result
 invariant_of-result c = record {
   valid = spid_made _ _ _ _ _ c.number_of.ensures

@@ -7,7 +7,7 @@ weaker : {X P Q : Type 0} (o : Option X) → (P → Q) → IfNone o P → IfNone
 weaker None f p = f p
 weaker (Some x) f p = tt
 
--- another number of this text would be the number that was read
+-- Another number with this text would be the number that was read.
 pub returns-clause-none : goal.returns-clause-none
 returns-clause-none c = weaker c.new.result (λ other n rule e.
     let read = c.in_ok-read_digits.ensures.some in

@@ -1,4 +1,4 @@
--- What is refused as the facts say is refused as the state says.
+-- A refusal by the facts is the state's.
 use Rattle.std.proofs.Common.{arith, rules}
 use Rattle.std.proofs.lemmas.Bool.Decides.{nat_tests}
 use Rattle.pool.proofs.BlockRefused.{assignment_refused_in}

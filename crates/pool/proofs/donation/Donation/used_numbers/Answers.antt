@@ -1,4 +1,4 @@
--- Each line that is put adds its number; after the last, they are those of the definitions.
+-- Each inserted line adds its number; after the last, they are those of the definitions.
 use Rattle.std.proofs.Common.{refl}
 use Rattle.pool.proofs.Rising.{named-more, all-named}
 use Rattle.pool.proofs.donation.Donation.used_numbers.Goals as goal

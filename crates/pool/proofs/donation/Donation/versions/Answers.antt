@@ -1,4 +1,4 @@
--- One more version, with the next id.
+-- One more version gets the next id.
 use Rattle.std.proofs.Common.{arith}
 use Rattle.pool.proofs.Numbered.{next-made}
 use Rattle.pool.proofs.donation.Donation.versions.Goals as goal

@@ -3,7 +3,7 @@ use Rattle.pool.specs.Donations.{AreProtective, tn_subject}
 use Rattle.pool.proofs.donation.Donation.versions.Given as goal
 use Rattle.version.specs.Abstraction.{set_of}
 
--- a version for each number passed
+-- There is a version for each number passed.
 abbrev pub invariant-loop-tn : goal.invariant-loop-tn
 invariant-loop-tn l = record {
   next : l.id ≡ l.first_id + l.tn-index;

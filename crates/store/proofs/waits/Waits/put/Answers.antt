@@ -134,7 +134,7 @@ invariant_of-self-in-Err c =
     (key_about (subject_of c.args.subject) (download_of (wait_key_of c.args.key))) None again
     c.remove.ensures.updates.0) c.self.invariant)
 
--- ---- nothing is put
+-- ---- nothing is added
 
 pub invariant_of-self-in_err-row : goal.invariant_of-self-in_err-row
 invariant_of-self-in_err-row c =

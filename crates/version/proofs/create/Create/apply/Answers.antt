@@ -1,4 +1,4 @@
--- What is refused as the facts say is refused as the state says.
+-- A refusal by the facts is the state's.
 use Rattle.std.proofs.Common.{rules}
 use Rattle.version.specs.Abstraction.{set_of}
 use Rattle.version.proofs.CreateRefused.{create_refused_in}

@@ -1,4 +1,4 @@
--- What is refused as the version's fields say is refused as the state says.
+-- A refusal by the version's fields is the state's.
 use Rattle.std.proofs.Common.{rules}
 use Rattle.version.specs.Abstraction.{set_of, windows_of}
 use Rattle.version.specs.Commands.{command_model}
