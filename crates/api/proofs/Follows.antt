@@ -22,8 +22,8 @@ Leads st after = (inputs : List Input) × (after ≡ state_after st inputs)
 stays : (st after : State) → after ≡ st → Leads st after
 stays st after e = ([], e)
 
-admitted : (st : State) (away : Option ℕ) (input : Input) (text : List ℕ) (after : State)
-    → RespondsToAdmitted st away input text after → Leads st after
+admitted : (st : State) (caller_refused : Option ℕ) (input : Input) (text : List ℕ) (after : State)
+    → RespondsToAdmitted st caller_refused input text after → Leads st after
 admitted st (Some number) input text after x = stays st after x.1
 admitted st None input text after x = (input ∷ [], x.1)
 
@@ -77,15 +77,16 @@ tick_withheld_leads from to st (Some minute) text after x = withheld from to st 
 step_leads : (offered : Bool) (tick : Option ℕ) (from to : ℕ) (st : State) (request : Request)
     (body text : List ℕ) (after : State) → Step offered tick from to st request body text after
     → Leads st after
-step_leads offered tick from to st request body text after x = by_met x.met
+step_leads offered tick from to st request body text after x = by_outcome x.outcome
   where
-    by_met : IsTickUnavailable from to st tick text after
+    by_outcome : IsTickUnavailable from to st tick text after
         ⊎ Dispatches from to (ticked st tick) (offered_route offered request.route) request.method
         request.caller body text after → Leads st after
-    by_met (inl short) = tick_withheld_leads from to st tick text after short
-    by_met (inr met) =
+    by_outcome (inl short) = tick_withheld_leads from to st tick text after short
+    by_outcome (inr dispatched) =
         tick_leads st tick after (meets_leads from to (ticked st tick)
-        (offered_route offered request.route) request.method request.caller body text after met)
+        (offered_route offered request.route) request.method request.caller body text after
+        dispatched)
 
 leads_on : (inputs more : List Input) (st : State)
     → state_after st (inputs ++ more) ≡ state_after (state_after st inputs) more

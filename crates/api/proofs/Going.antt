@@ -17,7 +17,7 @@ use Rattle.http_messages.specs.declared.read_buffer.ReadBuffer.{ReadBuffer}
 use Rattle.http_messages.specs.declared.message.NextMessage.{NextMessage}
 use Rattle.http_messages.specs.declared.message.Request.{Request}
 use Rattle.api.specs.Run.{Exchange, Run, responses, ticks_of}
-use Rattle.api.specs.Serving.{AfterExchanges, AfterClose, AfterRefusal, AfterPartialResponse, EndsAt, FailsAt, RefinesReachable, Responds, IoTrace, end_of, refusal}
+use Rattle.api.specs.Serving.{AfterExchanges, AfterClose, AfterRefusal, AfterPartialResponse, EndsAt, FailsAt, RefinesReachable, Responds, IoTrace, end_of, message_refusal_text}
 use Rattle.api.specs.Step.{Step}
 use Rattle.api.specs.Ticks.{later_ticks, ConsumesTick, ConsumesTicks}
 use Rattle.api.specs.declared.serving.End.{End}
@@ -25,9 +25,9 @@ use Rattle.api.specs.declared.serving.End.TheVariants.{Input, Closed, Refused}
 use Rattle.api.specs.declared.serving.Fault.TheVariants as fault
 use Rattle.api.proofs.Follows.{follows_on}
 
--- Holds if `k` messages were executed and answered, and `left` is the input left.
+-- Holds if `k` messages had their step and were answered, and `left` is the input left.
 pub record Going (offered : Bool) (from to : ℕ) (st : State) (new : Content) (input : List ℕ)
-    (left had has : Option (List ℕ)) (before behind : Option (List (Option ℕ)))
+    (left had has : Option (List ℕ)) (ticks_before ticks_after : Option (List (Option ℕ)))
     (k : ℕ) : Type 0 where
   pub exchanges : List Exchange
   pub end : State
@@ -35,17 +35,19 @@ pub record Going (offered : Bool) (from to : ℕ) (st : State) (new : Content) (
   pub run : Run offered from to st input exchanges end rest
   pub refines : Refines new end
   pub count : length exchanges ≡ k
-  pub handed : ConsumesTicks before (ticks_of exchanges) behind
+  pub supplied : ConsumesTicks ticks_before (ticks_of exchanges) ticks_after
   pub written : Appends had has (responses exchanges)
   pub left_is : left ≡ Some rest
 
 -- Holds if there is such progress from each state that the old content refines.
 abbrev pub Progress : (offered : Bool) → (from to : ℕ) → Content → Content
-    → (all left had has : Option (List ℕ)) → (before behind : Option (List (Option ℕ))) → ℕ → Type 0
-Progress offered from to old new all left had has before behind k = (st : State) → Refines old st
+    → (all left had has : Option (List ℕ)) → (ticks_before ticks_after : Option (List (Option ℕ)))
+    → ℕ → Type 0
+Progress offered from to old new all left had has ticks_before ticks_after k =
+    (st : State) → Refines old st
     → RefinesReachable st new
-    × IfSome all (λ input. Going offered from to st new input left had has before
-    behind k)
+    × IfSome all (λ input. Going offered from to st new input left had has ticks_before
+    ticks_after k)
 
 pub known : (all : Option (List ℕ)) (P Q : List ℕ → Type 0) → ((input : List ℕ) → P input → Q input)
     → IfSome all P → IfSome all Q
@@ -57,83 +59,88 @@ pub at_rest : (left : Option (List ℕ)) (rest : List ℕ) (P : List ℕ → Typ
 at_rest left rest P e p = subst (λ l. IfSome l P) e p
 
 -- The buffer holds at most its size.
-pub held_ahead : (held : ReadBuffer) (unread : Option (List ℕ)) (rest : List ℕ)
-    → vec_len held.bytes ≡ 8192 → remaining_input held unread ≡ Some rest → IsReadAhead rest unread
-held_ahead held unread rest size e =
-    let short : length (buffered_bytes held) ≤ length held.bytes.items =
+pub buffered_ahead : (buffer : ReadBuffer) (unread : Option (List ℕ)) (rest : List ℕ)
+    → vec_len buffer.bytes ≡ 8192 → remaining_input buffer unread ≡ Some rest
+    → IsReadAhead rest unread
+buffered_ahead buffer unread rest size e =
+    let short : length (buffered_bytes buffer) ≤ length buffer.bytes.items =
     grind (arith, common_steps) in
     record {
-      read = buffered_bytes held;
-      short = omega (arith, short, held.bytes.ok.0, size);
+      read = buffered_bytes buffer;
+      short = omega (arith, short, buffer.bytes.ok.0, size);
       all = e;
     }
 
 -- ---- the supplied minutes
 
-hands_in_more : (before mid behind : Option (List (Option ℕ))) (ticks : List (Option ℕ))
-    (tick : Option ℕ) → ConsumesTicks before ticks mid → ConsumesTick mid tick behind
-    → ConsumesTicks before (ticks ++ tick ∷ []) behind
-hands_in_more None mid behind ticks tick x y = tt
-hands_in_more (Some told) mid behind [] tick x y =
-    subst (λ (m : Option (List (Option ℕ))). ConsumesTick m tick behind) x y
-hands_in_more (Some told) mid behind (t ∷ ticks) tick x y = (
+hands_in_more : (ticks_before mid ticks_after : Option (List (Option ℕ))) (ticks : List (Option ℕ))
+    (tick : Option ℕ) → ConsumesTicks ticks_before ticks mid → ConsumesTick mid tick ticks_after
+    → ConsumesTicks ticks_before (ticks ++ tick ∷ []) ticks_after
+hands_in_more None mid ticks_after ticks tick x y = tt
+hands_in_more (Some minutes) mid ticks_after [] tick x y =
+    subst (λ (m : Option (List (Option ℕ))). ConsumesTick m tick ticks_after) x y
+hands_in_more (Some minutes) mid ticks_after (t ∷ ticks) tick x y = (
   x.0,
-  hands_in_more (Some (later_ticks told)) mid behind ticks tick x.1 y,
+  hands_in_more (Some (later_ticks minutes)) mid ticks_after ticks tick x.1 y,
 )
 
-handed_then : (before mid behind : Option (List (Option ℕ))) (xs : List Exchange) (x : Exchange)
-    → ConsumesTicks before (ticks_of xs) mid → ConsumesTick mid x.tick behind
-    → ConsumesTicks before (ticks_of (xs ++ x ∷ [])) behind
-handed_then before mid behind xs x handed hands =
-    subst (λ (ts : List (Option ℕ)). ConsumesTicks before ts behind)
-    (sym (map-append (λ (y : Exchange). y.tick) xs (x ∷ []))) (hands_in_more before mid behind
-    (ticks_of xs) x.tick handed hands)
+supplied_then : (ticks_before mid ticks_after : Option (List (Option ℕ))) (xs : List Exchange)
+    (x : Exchange)
+    → ConsumesTicks ticks_before (ticks_of xs) mid → ConsumesTick mid x.tick ticks_after
+    → ConsumesTicks ticks_before (ticks_of (xs ++ x ∷ [])) ticks_after
+supplied_then ticks_before mid ticks_after xs x supplied hands =
+    subst (λ (ts : List (Option ℕ)). ConsumesTicks ticks_before ts ticks_after)
+    (sym (map-append (λ (y : Exchange). y.tick) xs (x ∷ []))) (hands_in_more ticks_before mid
+    ticks_after
+    (ticks_of xs) x.tick supplied hands)
 
-handed_none : (before : Option (List (Option ℕ))) → ConsumesTicks before [] before
-handed_none None = tt
-handed_none (Some told) = refl
+supplied_none : (ticks_before : Option (List (Option ℕ)))
+    → ConsumesTicks ticks_before [] ticks_before
+supplied_none None = tt
+supplied_none (Some minutes) = refl
 
 -- ---- one more exchange
 
 responses-then : (xs : List Exchange) (x : Exchange)
-    → responses (xs ++ x ∷ []) ≡ responses xs ++ x.answer
-responses-then xs x = flat_map-append (λ (y : Exchange). y.answer) xs (x ∷ [])
-    ∙ ap (λ (t : List ℕ). responses xs ++ t) (append-nil x.answer)
+    → responses (xs ++ x ∷ []) ≡ responses xs ++ x.response
+responses-then xs x = flat_map-append (λ (y : Exchange). y.response) xs (x ∷ [])
+    ∙ ap (λ (t : List ℕ). responses xs ++ t) (append-nil x.response)
 
 Run-then : (offered : Bool) (from between to : ℕ) (st mid end : State) (input rest left : List ℕ)
     (xs : List Exchange) (x : Exchange) → Run offered from between st input xs mid rest
     → ParsesAs rest (WholeMessage x.request x.body left) → x.request.closes ≡ false
-    → Step offered x.tick between to mid x.request x.body x.answer end
+    → Step offered x.tick between to mid x.request x.body x.response end
     → Run offered from to st input (xs ++ x ∷ []) end left
-Run-then offered from between to st mid end input rest left [] x run cuts stays step = (
+Run-then offered from between to st mid end input rest left [] x run parses stays step = (
   to,
   end,
   left,
-  subst (λ (i : List ℕ). ParsesAs i (WholeMessage x.request x.body left)) run.2 cuts,
+  subst (λ (i : List ℕ). ParsesAs i (WholeMessage x.request x.body left)) run.2 parses,
   stays,
-  subst (λ (n : ℕ). Step offered x.tick n to st x.request x.body x.answer end) run.0
-      (subst (λ (s : State). Step offered x.tick between to s x.request x.body x.answer end) run.1
+  subst (λ (n : ℕ). Step offered x.tick n to st x.request x.body x.response end) run.0
+      (subst (λ (s : State). Step offered x.tick between to s x.request x.body x.response end) run.1
       step),
   (refl, refl, refl),
 )
-Run-then offered from between to st mid end input rest left (y ∷ ys) x run cuts stays step = (
+Run-then offered from between to st mid end input rest left (y ∷ ys) x run parses stays step = (
   run.0,
   run.1,
   run.2,
   run.3,
   run.4,
   run.5,
-  Run-then offered run.0 between to run.1 mid end run.2 rest left ys x run.6 cuts stays step,
+  Run-then offered run.0 between to run.1 mid end run.2 rest left ys x run.6 parses stays step,
 )
 
 -- ---- the start
 
 start_of : (offered : Bool) (n : ℕ) (c : Content) (all had : Option (List ℕ))
-    (before : Option (List (Option ℕ))) (st : State) → Refines c st
-    → IfSome all (λ input. Going offered n n st c input (prepend_known [] all) had had before before
+    (ticks_before : Option (List (Option ℕ))) (st : State) → Refines c st
+    → IfSome all (λ input. Going offered n n st c input (prepend_known [] all) had had ticks_before
+    ticks_before
     0)
-start_of offered n c None had before st s = tt
-start_of offered n c (Some input) had before st s =
+start_of offered n c None had ticks_before st s = tt
+start_of offered n c (Some input) had ticks_before st s =
     record {
       exchanges = [];
       end = st;
@@ -141,17 +148,18 @@ start_of offered n c (Some input) had before st s =
       run = (refl, refl, refl);
       refines = s;
       count = refl;
-      handed = handed_none before;
+      supplied = supplied_none ticks_before;
       written = Appends-nil had;
       left_is = refl;
     }
 
-pub started : (offered : Bool) (n : ℕ) (c : Content) (held : List ℕ) (all had : Option (List ℕ))
-    (before : Option (List (Option ℕ))) → held ≡ []
-    → Progress offered n n c c all (prepend_known held all) had had before before 0
-started offered n c held all had before e =
-    subst (λ (h : List ℕ). Progress offered n n c c all (prepend_known h all) had had before before
-    0) (sym e) (λ st s. (([], s), start_of offered n c all had before st s))
+pub started : (offered : Bool) (n : ℕ) (c : Content) (buffer : List ℕ) (all had : Option (List ℕ))
+    (ticks_before : Option (List (Option ℕ))) → buffer ≡ []
+    → Progress offered n n c c all (prepend_known buffer all) had had ticks_before ticks_before 0
+started offered n c buffer all had ticks_before e =
+    subst (λ (h : List ℕ). Progress offered n n c c all (prepend_known h all) had had ticks_before
+    ticks_before
+    0) (sym e) (λ st s. (([], s), start_of offered n c all had ticks_before st s))
 
 -- ---- the end of serving
 
@@ -177,30 +185,33 @@ some_inj : (a b : End) → Some a ≡ Some b → a ≡ b
 some_inj a b e = cc
 
 -- `Responds` holds for another reading of the same body.
-pub responds_on : (offered : Bool) (before behind : Option (List (Option ℕ))) (from to : ℕ)
+pub responds_on : (offered : Bool) (ticks_before ticks_after : Option (List (Option ℕ)))
+    (from to : ℕ)
     (next : NextMessage) (body body' text : List ℕ) (old new : Content) → body ≡ body'
-    → Responds offered before behind from to next body text old new
-    → Responds offered before behind from to next body' text old new
-responds_on offered before behind from to next body body' text old new same responds =
-    subst (λ b. Responds offered before behind from to next b text old new) same responds
+    → Responds offered ticks_before ticks_after from to next body text old new
+    → Responds offered ticks_before ticks_after from to next body' text old new
+responds_on offered ticks_before ticks_after from to next body body' text old new same responds =
+    subst (λ b. Responds offered ticks_before ticks_after from to next b text old new) same responds
 
 module _ (offered : Bool) (from between : ℕ) (old mid : Content)
-    (all left had has : Option (List ℕ)) (before untold : Option (List (Option ℕ))) (k : ℕ)
-    (progress : Progress offered from between old mid all left had has before untold k) where
+    (all left had has : Option (List ℕ)) (ticks_before remaining_ticks : Option (List (Option ℕ)))
+    (k : ℕ)
+    (progress : Progress offered from between old mid all left had has ticks_before remaining_ticks
+    k) where
   -- The trace if no more messages were answered.
-  abbrev told : List ℕ → Option (List ℕ) → IoTrace
-  told input unread = record {
+  abbrev trace : List ℕ → Option (List ℕ) → IoTrace
+  trace input unread = record {
     input = input;
     unread = unread;
-    ticks_before = before;
-    ticks_after = untold;
+    ticks_before = ticks_before;
+    ticks_after = remaining_ticks;
     written_before = had;
     written_after = has;
   }
 
   abbrev whole_of : (st : State) (input : List ℕ) (unread : Option (List ℕ))
-      → Going offered from between st mid input left had has before untold k
-      → AfterExchanges offered from between st mid (told input unread) k
+      → Going offered from between st mid input left had has ticks_before remaining_ticks k
+      → AfterExchanges offered from between st mid (trace input unread) k
   whole_of st input unread g = record {
     exchanges = g.exchanges;
     end = g.end;
@@ -208,16 +219,16 @@ module _ (offered : Bool) (from between : ℕ) (old mid : Content)
     run = g.run;
     refines = g.refines;
     count = g.count;
-    handed = g.handed;
+    supplied = g.supplied;
     written = g.written;
   }
 
   -- The input ended.
   pub ended : (unread : Option (List ℕ)) → IfSome left (λ rest. ParsesAs rest EndOfInput)
       → IfSome left (λ rest. IsAtEnd unread) → (st : State) → Refines old st
-      → IfSome all (λ input. EndsAt Input offered from between st mid (told input unread) k)
+      → IfSome all (λ input. EndsAt Input offered from between st mid (trace input unread) k)
   ended unread done end st s =
-      known all _ (λ input. EndsAt Input offered from between st mid (told input unread) k)
+      known all _ (λ input. EndsAt Input offered from between st mid (trace input unread) k)
       (λ input g. (
         whole_of st input unread g,
         at_rest left g.rest (λ rest. ParsesAs rest EndOfInput) g.left_is done,
@@ -226,9 +237,10 @@ module _ (offered : Bool) (from between : ℕ) (old mid : Content)
 
   pub failed_read : (unread : Option (List ℕ)) → IfSome left (λ rest. HasNoWholeMessage rest unread)
       → (st : State) → Refines old st
-      → IfSome all (λ input. FailsAt (fault.Read k) offered from between st mid (told input unread))
+      → IfSome all (λ input. FailsAt (fault.Read k) offered from between st mid
+      (trace input unread))
   failed_read unread none st s =
-      known all _ (λ input. FailsAt (fault.Read k) offered from between st mid (told input unread))
+      known all _ (λ input. FailsAt (fault.Read k) offered from between st mid (trace input unread))
       (λ input g. (
         whole_of st input unread g,
         at_rest left g.rest (λ rest. HasNoWholeMessage rest unread) g.left_is none,
@@ -237,10 +249,10 @@ module _ (offered : Bool) (from between : ℕ) (old mid : Content)
   pub no_memory : (unread : Option (List ℕ)) → IfSome left (λ rest. IsReadAhead rest unread)
       → (st : State) → Refines old st
       → IfSome all (λ input. FailsAt (fault.Memory k) offered from between st mid
-      (told input unread))
+      (trace input unread))
   no_memory unread ahead st s =
       known all _ (λ input. FailsAt (fault.Memory k) offered from between st mid
-      (told input unread)) (λ input g. (
+      (trace input unread)) (λ input g. (
         whole_of st input unread g,
         inl (at_rest left g.rest (λ rest. IsReadAhead rest unread) g.left_is ahead),
       )) (progress st s).1
@@ -248,24 +260,24 @@ module _ (offered : Bool) (from between : ℕ) (old mid : Content)
   -- There are more messages than can be counted.
   pub full : (unread : Option (List ℕ)) → k ≡ 18446744073709551615 → (st : State) → Refines old st
       → IfSome all (λ input. FailsAt (fault.Memory k) offered from between st mid
-      (told input unread))
+      (trace input unread))
   full unread most st s =
       known all _ (λ input. FailsAt (fault.Memory k) offered from between st mid
-      (told input unread)) (λ input g. (whole_of st input unread g, inr most)) (progress st s).1
+      (trace input unread)) (λ input g. (whole_of st input unread g, inr most)) (progress st s).1
 
   -- A message or a refusal came, and `text` answers it. `left'` is the input left, and the buffer
   -- holds its beginning.
-  module _ (to : ℕ) (new : Content) (held : ReadBuffer) (unread : Option (List ℕ))
-      (size : vec_len held.bytes ≡ 8192) (behind : Option (List (Option ℕ)))
+  module _ (to : ℕ) (new : Content) (buffer : ReadBuffer) (unread : Option (List ℕ))
+      (size : vec_len buffer.bytes ≡ 8192) (ticks_after : Option (List (Option ℕ)))
       (body text : List ℕ) where
     abbrev left' : Option (List ℕ)
-    left' = remaining_input held unread
+    left' = remaining_input buffer unread
 
     abbrev Came : NextMessage → Type 0
     Came next = IfSome left (λ rest. IsNextMessage rest next body left')
 
     abbrev Answered : NextMessage → Type 0
-    Answered next = Responds offered untold behind between to next body text mid new
+    Answered next = Responds offered remaining_ticks ticks_after between to next body text mid new
 
     pub state_then : (next : NextMessage) → Answered next → (st : State) → Refines old st
         → RefinesReachable st new
@@ -277,12 +289,12 @@ module _ (offered : Bool) (from between : ℕ) (old mid : Content)
 
     module _ (has' : Option (List ℕ)) where
       -- The trace after this response.
-      abbrev told' : List ℕ → IoTrace
-      told' input = record {
+      abbrev trace' : List ℕ → IoTrace
+      trace' input = record {
         input = input;
         unread = unread;
-        ticks_before = before;
-        ticks_after = behind;
+        ticks_before = ticks_before;
+        ticks_after = ticks_after;
         written_before = had;
         written_after = has';
       }
@@ -290,12 +302,13 @@ module _ (offered : Bool) (from between : ℕ) (old mid : Content)
       -- The message with its response.
       abbrev exchange : (request : Request) → Answered (NextMessage.Message request) → Exchange
       exchange request responds =
-          record { tick = responds.0; request = request; body = body; answer = text }
+          record { tick = responds.0; request = request; body = body; response = text }
 
       going_then : (request : Request) → request.closes ≡ false → Came (NextMessage.Message request)
           → Answered (NextMessage.Message request) → Appends has has' text
           → (st : State) (input : List ℕ) → Going offered from between st mid input left had has
-          before untold k → Going offered from to st new input left' had has' before behind (k + 1)
+          ticks_before remaining_ticks k
+          → Going offered from to st new input left' had has' ticks_before ticks_after (k + 1)
       going_then request stays comes responds sent st input g =
           let c = at_rest left g.rest (λ i. IsNextMessage i (NextMessage.Message request) body
           left') g.left_is
@@ -310,7 +323,8 @@ module _ (offered : Bool) (from between : ℕ) (old mid : Content)
                 c.2 stays r.1;
             refines = r.2;
             count = length-append g.exchanges (x ∷ []) ∙ ap (λ (n : ℕ). n + 1) g.count;
-            handed = handed_then before untold behind g.exchanges x g.handed responds.1;
+            supplied = supplied_then ticks_before remaining_ticks ticks_after g.exchanges x
+                g.supplied responds.1;
             written = subst (Appends had has') (sym (responses-then g.exchanges x))
                 (Appends-trans had has has' (responses g.exchanges) text g.written sent);
             left_is = c.1;
@@ -318,16 +332,17 @@ module _ (offered : Bool) (from between : ℕ) (old mid : Content)
 
       on_message : (request : Request) → request.closes ≡ false → Came (NextMessage.Message request)
           → Answered (NextMessage.Message request) → Appends has has' text
-          → Progress offered from to old new all left' had has' before behind (k + 1)
+          → Progress offered from to old new all left' had has' ticks_before ticks_after (k + 1)
       on_message request stays comes responds sent = λ st s. (
         state_then (NextMessage.Message request) responds st s,
-        known all _ (λ input. Going offered from to st new input left' had has' before behind
+        known all _ (λ input. Going offered from to st new input left' had has' ticks_before
+            ticks_after
             (k + 1)) (going_then request stays comes responds sent st) (progress st s).1,
       )
 
       pub went_on : (next : NextMessage) → end_of next ≡ None → Came next → Answered next
-          → Appends has has' text → Progress offered from to old new all left' had has' before
-          behind (k + 1)
+          → Appends has has' text → Progress offered from to old new all left' had has' ticks_before
+          ticks_after (k + 1)
       went_on next goes comes responds sent =
           let o = open_next next goes in
           on_message o.0 o.2 (subst Came o.1 comes) (subst Answered o.1 responds) sent
@@ -335,7 +350,7 @@ module _ (offered : Bool) (from between : ℕ) (old mid : Content)
       close_of : (request : Request) → request.closes ≡ true → Came (NextMessage.Message request)
           → Answered (NextMessage.Message request) → Appends has has' text
           → (st : State) (input : List ℕ) → Going offered from between st mid input left had has
-          before untold k → AfterClose offered from to st new (told' input) (k + 1)
+          ticks_before remaining_ticks k → AfterClose offered from to st new (trace' input) (k + 1)
       close_of request closes comes responds sent st input g =
           let c = at_rest left g.rest (λ i. IsNextMessage i (NextMessage.Message request) body
           left') g.left_is
@@ -349,15 +364,16 @@ module _ (offered : Bool) (from between : ℕ) (old mid : Content)
             rest = g.rest;
             run = g.run;
             last = x;
-            left = c.0;
-            cuts = c.2;
+            rest_after = c.0;
+            parses = c.2;
             closes = closes;
             end = r.0;
             step = r.1;
             refines = r.2;
             count = ap (λ (n : ℕ). n + 1) g.count;
-            handed = handed_then before untold behind g.exchanges x g.handed responds.1;
-            read = held_ahead held unread c.0 size c.1;
+            supplied = supplied_then ticks_before remaining_ticks ticks_after g.exchanges x
+                g.supplied responds.1;
+            read = buffered_ahead buffer unread c.0 size c.1;
             written = Appends-trans had has has' (responses g.exchanges) text g.written sent;
           }
 
@@ -365,7 +381,8 @@ module _ (offered : Bool) (from between : ℕ) (old mid : Content)
           → IfSome left (λ rest. IsReadTo fault rest unread) → Answered (NextMessage.Refused fault)
           → Appends has has' text
           → (st : State) (input : List ℕ) → Going offered from between st mid input left had has
-          before untold k → AfterRefusal fault offered from to st new (told' input) (k + 1)
+          ticks_before remaining_ticks k → AfterRefusal fault offered from to st new (trace' input)
+          (k + 1)
       refusal_of fault comes reads responds sent st input g = record {
         exchanges = g.exchanges;
         end = g.end;
@@ -377,9 +394,11 @@ module _ (offered : Bool) (from between : ℕ) (old mid : Content)
             comes;
         refines = subst (λ (c : Content). Refines c g.end) (sym responds.1) g.refines;
         count = ap (λ (n : ℕ). n + 1) g.count;
-        handed = subst (ConsumesTicks before (ticks_of g.exchanges)) (sym responds.3) g.handed;
+        supplied = subst (ConsumesTicks ticks_before (ticks_of g.exchanges)) (sym responds.3)
+            g.supplied;
         read = at_rest left g.rest (λ i. IsReadTo fault i unread) g.left_is reads;
-        written = Appends-trans had has has' (responses g.exchanges) (refusal fault) g.written
+        written = Appends-trans had has has' (responses g.exchanges) (message_refusal_text fault)
+            g.written
             (subst (Appends has has') responds.0 sent);
       }
 
@@ -387,24 +406,25 @@ module _ (offered : Bool) (from between : ℕ) (old mid : Content)
           → IfSome left (λ rest. IsRead (Ok (Some next)) rest unread) → Answered next
           → Appends has has' text
           → (st : State) → Refines old st
-          → IfSome all (λ input. EndsAt end offered from to st new (told' input) (k + 1))
+          → IfSome all (λ input. EndsAt end offered from to st new (trace' input) (k + 1))
       finished (NextMessage.Message request) end ends comes reads responds sent st s =
           let is = closed_of request.closes end ends in
-          subst (λ (e : End). IfSome all (λ input. EndsAt e offered from to st new (told' input)
+          subst (λ (e : End). IfSome all (λ input. EndsAt e offered from to st new (trace' input)
           (k + 1))) is.1
-          (known all _ (λ input. AfterClose offered from to st new (told' input) (k + 1))
+          (known all _ (λ input. AfterClose offered from to st new (trace' input) (k + 1))
           (close_of request is.0 comes responds sent st) (progress st s).1)
       finished (NextMessage.Refused fault) end ends comes reads responds sent st s =
-          subst (λ (e : End). IfSome all (λ input. EndsAt e offered from to st new (told' input)
+          subst (λ (e : End). IfSome all (λ input. EndsAt e offered from to st new (trace' input)
           (k + 1))) (some_inj (Refused fault) end ends)
-          (known all _ (λ input. AfterRefusal fault offered from to st new (told' input) (k + 1))
+          (known all _ (λ input. AfterRefusal fault offered from to st new (trace' input) (k + 1))
           (refusal_of fault comes reads responds sent st) (progress st s).1)
 
       part_of : (next : NextMessage) → Came next
           → IfSome left (λ rest. IsRead (Ok (Some next)) rest unread) → Answered next
           → AppendsFront has has' text
           → (st : State) (input : List ℕ) → Going offered from between st mid input left had has
-          before untold k → AfterPartialResponse offered from to st new (told' input) k
+          ticks_before remaining_ticks k
+          → AfterPartialResponse offered from to st new (trace' input) k
       part_of (NextMessage.Message request) comes reads responds sent st input g =
           let c = at_rest left g.rest (λ i. IsNextMessage i (NextMessage.Message request) body
           left') g.left_is
@@ -417,11 +437,19 @@ module _ (offered : Bool) (from between : ℕ) (old mid : Content)
             mid = g.end;
             rest = g.rest;
             run = g.run;
-            untold = untold;
-            handed = g.handed;
-            answer = text;
+            remaining_ticks = remaining_ticks;
+            supplied = g.supplied;
+            response = text;
             end = r.0;
-            next = inl (x, c.0, c.2, held_ahead held unread c.0 size c.1, responds.1, r.1, refl);
+            next = inl (
+              x,
+              c.0,
+              c.2,
+              buffered_ahead buffer unread c.0 size c.1,
+              responds.1,
+              r.1,
+              refl,
+            );
             refines = r.2;
             count = g.count;
             part = sent.0;
@@ -435,9 +463,9 @@ module _ (offered : Bool) (from between : ℕ) (old mid : Content)
         mid = g.end;
         rest = g.rest;
         run = g.run;
-        untold = untold;
-        handed = g.handed;
-        answer = text;
+        remaining_ticks = remaining_ticks;
+        supplied = g.supplied;
+        response = text;
         end = g.end;
         next = inr (
           fault,
@@ -460,24 +488,24 @@ module _ (offered : Bool) (from between : ℕ) (old mid : Content)
           → IfSome left (λ rest. IsRead (Ok (Some next)) rest unread) → Answered next
           → AppendsFront has has' text
           → (st : State) → Refines old st
-          → IfSome all (λ input. FailsAt (fault.Write k) offered from to st new (told' input))
+          → IfSome all (λ input. FailsAt (fault.Write k) offered from to st new (trace' input))
       partly next comes reads responds sent st s =
-          known all _ (λ input. AfterPartialResponse offered from to st new (told' input) k)
+          known all _ (λ input. AfterPartialResponse offered from to st new (trace' input) k)
           (part_of next comes reads responds sent st) (progress st s).1
 
 -- The buffers could not be allocated, and nothing was read.
 pub not_begun : (offered : Bool) (n : ℕ) (c : Content) (all had : Option (List ℕ))
-    (before : Option (List (Option ℕ))) (st : State) → Refines c st
+    (ticks_before : Option (List (Option ℕ))) (st : State) → Refines c st
     → IfSome all (λ input. FailsAt (fault.Memory 0) offered n n st c (record {
       input = input;
       unread = all;
-      ticks_before = before;
-      ticks_after = before;
+      ticks_before = ticks_before;
+      ticks_after = ticks_before;
       written_before = had;
       written_after = had;
     }))
-not_begun offered n c None had before st s = tt
-not_begun offered n c (Some input) had before st s = (
+not_begun offered n c None had ticks_before st s = tt
+not_begun offered n c (Some input) had ticks_before st s = (
   record {
     exchanges = [];
     end = st;
@@ -485,7 +513,7 @@ not_begun offered n c (Some input) had before st s = (
     run = (refl, refl, refl);
     refines = s;
     count = refl;
-    handed = handed_none before;
+    supplied = supplied_none ticks_before;
     written = Appends-nil had;
   },
   inl (record { read = []; short = omega arith; all = refl }),

@@ -23,10 +23,10 @@ use Rattle.json_api.proofs.ClearLemmas.{same_form}
 use Rattle.api.proofs.UriLemmas.{faultless, not_asked, same_fault, same_uri, same_number as same_asked_number}
 use Rattle.numbers.proofs.Small.{some_is}
 
-refuses_once : (st : State) (fault : MessageFault) (text said : List ℕ) (after later : State)
-    → RespondsRefusal st fault text after → RespondsRefusal st fault said later
-    → IsOnce text said after later
-refuses_once st fault text said after later x y = inr (inr (x.0 ∙ sym y.0, x.1 ∙ sym y.1))
+refuses_once : (st : State) (fault : MessageFault) (text other : List ℕ) (after later : State)
+    → RespondsRefusal st fault text after → RespondsRefusal st fault other later
+    → IsOnce text other after later
+refuses_once st fault text other after later x y = inr (inr (x.0 ∙ sym y.0, x.1 ∙ sym y.1))
 
 withheld : (from to : ℕ) (st : State) (text : List ℕ) (after : State)
     → IsUnavailable from to st text after → IsUnavailableText text
@@ -39,66 +39,67 @@ not_both reply k e f = let h : Refused k ≡ Known = sym e ∙ f in cc
 same_number : (reply : Reply) (j k : ℕ) → reply ≡ Refused j → reply ≡ Refused k → j ≡ k
 same_number reply j k e f = cc
 
-uri_once : (st : State) (caller : ℕ) (uri : TelUri) (text said : List ℕ)
-    → RespondsToUri st caller uri text → RespondsToUri st caller uri said → text ≡ said
-uri_once st caller uri text said (inl x) (inl y) = x.1 ∙ sym y.1
-uri_once st caller uri text said (inl x) (inr y) = absurd (not_asked uri y.0 x.0 y.1)
-uri_once st caller uri text said (inr x) (inl y) = absurd (not_asked uri x.0 y.0 x.1)
-uri_once st caller uri text said (inr x) (inr y) =
+uri_once : (st : State) (caller : ℕ) (uri : TelUri) (text other : List ℕ)
+    → RespondsToUri st caller uri text → RespondsToUri st caller uri other → text ≡ other
+uri_once st caller uri text other (inl x) (inl y) = x.1 ∙ sym y.1
+uri_once st caller uri text other (inl x) (inr y) = absurd (not_asked uri y.0 x.0 y.1)
+uri_once st caller uri text other (inr x) (inl y) = absurd (not_asked uri x.0 y.0 x.1)
+uri_once st caller uri text other (inr x) (inr y) =
     x.2 ∙ ap (λ (tn : ℕ). routed_text uri (out st (QuestionFrom caller (Query tn))))
     (same_asked_number uri x.0 y.0 x.1 y.1) ∙ sym y.2
 
-query_once : (st : State) (caller : ℕ) (uri text said : List ℕ) → RespondsToQuery st caller uri text
-    → RespondsToQuery st caller uri said → text ≡ said
-query_once st caller uri text said (inl x) (inl y) =
+query_once : (st : State) (caller : ℕ) (uri text other : List ℕ)
+    → RespondsToQuery st caller uri text
+    → RespondsToQuery st caller uri other → text ≡ other
+query_once st caller uri text other (inl x) (inl y) =
     x.2 ∙ ap refusal_text (same_number (out st (QuestionFrom caller Knows)) x.0 y.0 x.1 y.1)
     ∙ sym y.2
-query_once st caller uri text said (inl x) (inr (inl y)) =
+query_once st caller uri text other (inl x) (inr (inl y)) =
     absurd (not_both (out st (QuestionFrom caller Knows)) x.0 x.1 y.0)
-query_once st caller uri text said (inl x) (inr (inr y)) =
+query_once st caller uri text other (inl x) (inr (inr y)) =
     absurd (not_both (out st (QuestionFrom caller Knows)) x.0 x.1 y.0)
-query_once st caller uri text said (inr (inl x)) (inl y) =
+query_once st caller uri text other (inr (inl x)) (inl y) =
     absurd (not_both (out st (QuestionFrom caller Knows)) y.0 y.1 x.0)
-query_once st caller uri text said (inr (inr x)) (inl y) =
+query_once st caller uri text other (inr (inr x)) (inl y) =
     absurd (not_both (out st (QuestionFrom caller Knows)) y.0 y.1 x.0)
-query_once st caller uri text said (inr (inl x)) (inr (inl y)) =
+query_once st caller uri text other (inr (inl x)) (inr (inl y)) =
     x.1.2 ∙ ap (λ (fault : TelFault). failure_text (Uri fault)) (same_fault uri x.1.0 y.1.0 x.1.1
     y.1.1) ∙ sym y.1.2
-query_once st caller uri text said (inr (inl x)) (inr (inr y)) =
+query_once st caller uri text other (inr (inl x)) (inr (inr y)) =
     absurd (faultless uri y.1.0 x.1.0 y.1.1 x.1.1)
-query_once st caller uri text said (inr (inr x)) (inr (inl y)) =
+query_once st caller uri text other (inr (inr x)) (inr (inl y)) =
     absurd (faultless uri x.1.0 y.1.0 x.1.1 y.1.1)
-query_once st caller uri text said (inr (inr x)) (inr (inr y)) =
+query_once st caller uri text other (inr (inr x)) (inr (inr y)) =
     let e : x.1.0 ≡ y.1.0 = same_uri uri x.1.0 y.1.0 x.1.1 y.1.1 in
     let moved : RespondsToUri st caller y.1.0 text =
     subst (λ (u : TelUri). RespondsToUri st caller u text) e x.1.2 in
-    uri_once st caller y.1.0 text said moved y.1.2
+    uri_once st caller y.1.0 text other moved y.1.2
 
 -- A call has one response and one state after it.
-admitted_once : (st : State) (away : Option ℕ) (input : Input) (text said : List ℕ)
-    (after later : State) → RespondsToAdmitted st away input text after
-    → RespondsToAdmitted st away input said later → (text ≡ said) × (after ≡ later)
-admitted_once st (Some number) input text said after later x y = (x.0 ∙ sym y.0, x.1 ∙ sym y.1)
-admitted_once st None input text said after later x y = (x.0 ∙ sym y.0, x.1 ∙ sym y.1)
+admitted_once : (st : State) (caller_refused : Option ℕ) (input : Input) (text other : List ℕ)
+    (after later : State) → RespondsToAdmitted st caller_refused input text after
+    → RespondsToAdmitted st caller_refused input other later → (text ≡ other) × (after ≡ later)
+admitted_once st (Some number) input text other after later x y = (x.0 ∙ sym y.0, x.1 ∙ sym y.1)
+admitted_once st None input text other after later x y = (x.0 ∙ sym y.0, x.1 ∙ sym y.1)
 
 answers_once : (from to from' to' : ℕ) (st : State) (caller : ℕ) (asked : ApiCall)
-    (text said : List ℕ) (after later : State) → RespondsTo from to st caller asked text after
-    → RespondsTo from' to' st caller asked said later → IsOnce text said after later
-answers_once from to from' to' st caller (RegisterCall called) text said after later (inl x) y =
+    (text other : List ℕ) (after later : State) → RespondsTo from to st caller asked text after
+    → RespondsTo from' to' st caller asked other later → IsOnce text other after later
+answers_once from to from' to' st caller (RegisterCall called) text other after later (inl x) y =
     inl (withheld from to st text after x)
-answers_once from to from' to' st caller (RegisterCall called) text said after later (inr x)
+answers_once from to from' to' st caller (RegisterCall called) text other after later (inr x)
     (inl y) =
-    inr (inl (withheld from' to' st said later y))
-answers_once from to from' to' st caller (RegisterCall called) text said after later (inr x)
+    inr (inl (withheld from' to' st other later y))
+answers_once from to from' to' st caller (RegisterCall called) text other after later (inr x)
     (inr y) =
-    inr (inr (admitted_once st (caller_refusal st caller called) (input_of caller called) text said
+    inr (inr (admitted_once st (caller_refusal st caller called) (input_of caller called) text other
     after later x y))
-answers_once from to from' to' st caller (UriQuery uri) text said after later (inl x) y =
+answers_once from to from' to' st caller (UriQuery uri) text other after later (inl x) y =
     inl (withheld from to st text after x)
-answers_once from to from' to' st caller (UriQuery uri) text said after later (inr x) (inl y) =
-    inr (inl (withheld from' to' st said later y))
-answers_once from to from' to' st caller (UriQuery uri) text said after later (inr x) (inr y) =
-    inr (inr (query_once st caller uri text said x.0 y.0, x.1 ∙ sym y.1))
+answers_once from to from' to' st caller (UriQuery uri) text other after later (inr x) (inl y) =
+    inr (inl (withheld from' to' st other later y))
+answers_once from to from' to' st caller (UriQuery uri) text other after later (inr x) (inr y) =
+    inr (inr (query_once st caller uri text other x.0 y.0, x.1 ∙ sym y.1))
 
 same_asked : (route : Route) (read : Option Data) (a b : ApiCall)
     → IsSomeAnd read (λ (d : Data). HasForm route d a)
@@ -132,50 +133,51 @@ asks_once QueryPath body a b x y = same_asked QueryPath (json_of body) a b x y
 asks_once WindowsPath body a b x y = same_asked WindowsPath (json_of body) a b x y
 
 calls_once : (from to from' to' : ℕ) (st : State) (IsAsked : ApiCall → Type 0) (caller : ℕ)
-    (text said : List ℕ) (after later : State) → ((a b : ApiCall) → IsAsked a → IsAsked b → a ≡ b) →
+    (text other : List ℕ) (after later : State) → ((a b : ApiCall) → IsAsked a → IsAsked b → a ≡ b)
+    →
     DispatchesCall from to st IsAsked caller text after
-    → DispatchesCall from' to' st IsAsked caller said later
-    → IsOnce text said after later
-calls_once from to from' to' st IsAsked caller text said after later one (inl x) y =
+    → DispatchesCall from' to' st IsAsked caller other later
+    → IsOnce text other after later
+calls_once from to from' to' st IsAsked caller text other after later one (inl x) y =
     inl (withheld from to st text after x)
-calls_once from to from' to' st IsAsked caller text said after later one (inr (inl x)) (inl y) =
-    inr (inl (withheld from' to' st said later y))
-calls_once from to from' to' st IsAsked caller text said after later one (inr (inr x)) (inl y) =
-    inr (inl (withheld from' to' st said later y))
-calls_once from to from' to' st IsAsked caller text said after later one (inr (inl x))
+calls_once from to from' to' st IsAsked caller text other after later one (inr (inl x)) (inl y) =
+    inr (inl (withheld from' to' st other later y))
+calls_once from to from' to' st IsAsked caller text other after later one (inr (inr x)) (inl y) =
+    inr (inl (withheld from' to' st other later y))
+calls_once from to from' to' st IsAsked caller text other after later one (inr (inl x))
     (inr (inl y)) = inr (inr (x.1.0 ∙ sym y.1.0, x.1.1 ∙ sym y.1.1))
-calls_once from to from' to' st IsAsked caller text said after later one (inr (inl x))
+calls_once from to from' to' st IsAsked caller text other after later one (inr (inl x))
     (inr (inr y)) = absurd (x.0 y.0 y.1)
-calls_once from to from' to' st IsAsked caller text said after later one (inr (inr x))
+calls_once from to from' to' st IsAsked caller text other after later one (inr (inr x))
     (inr (inl y)) = absurd (y.0 x.0 x.1)
-calls_once from to from' to' st IsAsked caller text said after later one (inr (inr x))
+calls_once from to from' to' st IsAsked caller text other after later one (inr (inr x))
     (inr (inr y)) =
     let e : x.0 ≡ y.0 = one x.0 y.0 x.1 y.1 in
     let moved : RespondsTo from to st caller y.0 text after =
     subst (λ (a : ApiCall). RespondsTo from to st caller a text after) e x.2 in
-    answers_once from to from' to' st caller y.0 text said after later moved y.2
+    answers_once from to from' to' st caller y.0 text other after later moved y.2
 
 path_once : (from to from' to' : ℕ) (st : State) (route : Route) (has_method : Bool)
-    (caller : Option Spid) (body text said : List ℕ) (after later : State) →
+    (caller : Option Spid) (body text other : List ℕ) (after later : State) →
     DispatchesPath from to st route has_method caller body text after
-    → DispatchesPath from' to' st route has_method caller body said later
-    → IsOnce text said after later
-path_once from to from' to' st route false caller body text said after later x y =
-    refuses_once st _ text said after later x y
-path_once from to from' to' st route true None body text said after later x y =
-    refuses_once st _ text said after later x y
-path_once from to from' to' st route true (Some caller) body text said after later x y =
-    calls_once from to from' to' st (PathAsks route body) caller.number text said after later
+    → DispatchesPath from' to' st route has_method caller body other later
+    → IsOnce text other after later
+path_once from to from' to' st route false caller body text other after later x y =
+    refuses_once st _ text other after later x y
+path_once from to from' to' st route true None body text other after later x y =
+    refuses_once st _ text other after later x y
+path_once from to from' to' st route true (Some caller) body text other after later x y =
+    calls_once from to from' to' st (PathAsks route body) caller.number text other after later
     (asks_once route body) x y
 
 met_once : (from to from' to' : ℕ) (st : State) (route : Option Route) (method : Method)
-    (caller : Option Spid) (body text said : List ℕ) (after later : State) →
+    (caller : Option Spid) (body text other : List ℕ) (after later : State) →
     Dispatches from to st route method caller body text after
-    → Dispatches from' to' st route method caller body said later → IsOnce text said after later
-met_once from to from' to' st None method caller body text said after later x y =
-    refuses_once st _ text said after later x y
-met_once from to from' to' st (Some route) method caller body text said after later x y =
-    path_once from to from' to' st route (allows_method route method) caller body text said after
+    → Dispatches from' to' st route method caller body other later → IsOnce text other after later
+met_once from to from' to' st None method caller body text other after later x y =
+    refuses_once st _ text other after later x y
+met_once from to from' to' st (Some route) method caller body text other after later x y =
+    path_once from to from' to' st route (allows_method route method) caller body text other after
     later x y
 
 tick_withheld : (from to : ℕ) (st : State) (tick : Option ℕ) (text : List ℕ) (after : State)
@@ -185,24 +187,26 @@ tick_withheld from to st (Some minute) text after x = withheld from to st text a
 
 -- A message has one response, whether it ends when the clock moves or later.
 step_once : (tick : Option ℕ) (from to from' to' : ℕ) (st : State) (route : Option Route)
-    (method : Method) (caller : Option Spid) (body text said : List ℕ) (after later : State) →
+    (method : Method) (caller : Option Spid) (body text other : List ℕ) (after later : State) →
     IsTickUnavailable from to st tick text after ⊎ Dispatches from to (ticked st tick) route method
     caller
     body text after →
-    IsTickUnavailable from' to' st tick said later ⊎ Dispatches from' to' (ticked st tick) route
+    IsTickUnavailable from' to' st tick other later ⊎ Dispatches from' to' (ticked st tick) route
     method
-    caller body said later → IsOnce text said after later
-step_once tick from to from' to' st route method caller body text said after later (inl x) y =
+    caller body other later → IsOnce text other after later
+step_once tick from to from' to' st route method caller body text other after later (inl x) y =
     inl (tick_withheld from to st tick text after x)
-step_once tick from to from' to' st route method caller body text said after later (inr x) (inl y) =
-    inr (inl (tick_withheld from' to' st tick said later y))
-step_once tick from to from' to' st route method caller body text said after later (inr x) (inr y) =
-    met_once from to from' to' (ticked st tick) route method caller body text said after later x y
+step_once tick from to from' to' st route method caller body text other after later (inr x)
+    (inl y) =
+    inr (inl (tick_withheld from' to' st tick other later y))
+step_once tick from to from' to' st route method caller body text other after later (inr x)
+    (inr y) =
+    met_once from to from' to' (ticked st tick) route method caller body text other after later x y
 
 pub steps_once : (offered : Bool) (tick : Option ℕ) (from to from' to' : ℕ) (st : State)
-    (request : Request) (body text said : List ℕ) (after later : State) →
+    (request : Request) (body text other : List ℕ) (after later : State) →
     Step offered tick from to st request body text after
-    → Step offered tick from' to' st request body said later → IsOnce text said after later
-steps_once offered tick from to from' to' st request body text said after later x y =
+    → Step offered tick from' to' st request body other later → IsOnce text other after later
+steps_once offered tick from to from' to' st request body text other after later x y =
     step_once tick from to from' to' st (offered_route offered request.route) request.method
-    request.caller body text said after later x.met y.met
+    request.caller body text other after later x.outcome y.outcome

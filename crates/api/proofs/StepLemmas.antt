@@ -14,6 +14,7 @@ use Rattle.model.specs.Machine.{Reply, Refused as MachineRefused, Moved, Registe
 use Rattle.model.proofs.DonatedIds.{donated_few}
 use Rattle.settle.specs.StoreContract.{PreservesStore, ReportsStorage}
 use Rattle.settle.specs.Reads.{HasDeviceFailed}
+use Rattle.settle.specs.declared.store_model.StoreModel.{Ghosts}
 use Rattle.register.specs.Refinement.{Refines, SimulatesStep}
 use Rattle.requests.specs.Calls.{ModelCall, RequestCall, QuestionCall, MomentCall, input_of, refused_with, replied}
 use Rattle.api.specs.declared.reply.ReplyBounds.{ReplyBounds}
@@ -28,7 +29,7 @@ use Rattle.telnp.specs.Faults.{fault_of}
 use Rattle.json_api.specs.Failures.{failure_text}
 use Rattle.json_api.specs.Forms.{ApiCall, RegisterCall, UriQuery, HasForm, json_of}
 use Rattle.json_api.specs.RefusalTexts.{refusal_text}
-use Rattle.api.specs.Step.{Step, Dispatches, DispatchesPath, DispatchesCall, RespondsTo, RespondsToAdmitted, RespondsToCall, IsCallerAdmitted, IsCallerRefused, IsTickUnavailable, ticked, BodyAsks, PathAsks, IsShort, Outgrows, IsUnavailable, IsUri, AsksFor, IsReturnedAsIs, RespondsToQuery, IsPerformed, Performs, success, response_text, reply_text, routed_text}
+use Rattle.api.specs.Step.{Step, Dispatches, DispatchesPath, DispatchesCall, RespondsTo, RespondsToAdmitted, RespondsToCall, IsCallerAdmitted, IsCallerRefused, IsTickUnavailable, ticked, BodyAsks, PathAsks, IsUnavailableRefusal, Outgrows, IsUnavailable, IsUri, AsksFor, IsReturnedAsIs, RespondsToQuery, IsPerformed, Performs, success, response_text, reply_text, routed_text}
 use Rattle.json_api.specs.Texts.{looked_up, uri_text}
 use Rattle.numbers.specs.declared.spid.Spid.{Spid}
 use Rattle.serde_json.specs.Data.{Data}
@@ -58,12 +59,12 @@ never_refused st k e = cc
 abbrev pub BlamesRightly : (from to : ℕ) → (old : Content) → Refusal → Type 0
 BlamesRightly from to old r = (st : State) → Refines old st → r ≡ Storage → HasDeviceFailed from to
 
-pub blamed : {S RespondsTo Says : Type 0} {IsUsable HasHonestDevice : S → Type 0} {failed : S
-    → ℕ} {before after : S} {old : Content}
-    → PreservesStore IsUsable HasHonestDevice failed before after RespondsTo
-    (ReportsStorage (IsUsable after) old Says)
-    → IsUsable after
-    → (st : State) → Refines old st → Says → HasDeviceFailed (failed before) (failed after)
+pub blamed : {S RespondsTo Says : Type 0} {store : Ghosts S} {before after : S} {old : Content}
+    → PreservesStore store before after RespondsTo
+    (ReportsStorage (store.IsUsable after) old Says)
+    → store.IsUsable after
+    → (st : State) → Refines old st → Says
+    → HasDeviceFailed (store.failed before) (store.failed after)
 blamed owed usable st refines says =
     owed.storage (record {
       usable = usable;
@@ -117,7 +118,7 @@ kind NoMemory = inr (inl refl)
 
 -- Holds if the device or an allocation failed and the state stays, or if the machine refuses too.
 abbrev Judged : (from to : ℕ) → Refusal → State → Input → Content → Type 0
-Judged from to r st input new = (IsShort from to r × Refines new st)
+Judged from to r st input new = (IsUnavailableRefusal from to r × Refines new st)
     ⊎ ((out st input ≡ MachineRefused (number_of r)) × Refines new (next st input))
 
 abbrev OfMachine : (old new : Content) → Input → ℕ → Bool → Type 0
@@ -142,7 +143,7 @@ judged r from to old new input h blames st s = by_cases (kind r)
     by_cases (inr (inr less)) = let x = subst (OfMachine old new input (number_of r)) less h st s in
         inr (sym x.0, x.1)
 
-pub short_text : (r : Refusal) (from to : ℕ) → IsShort from to r
+pub short_text : (r : Refusal) (from to : ℕ) → IsUnavailableRefusal from to r
     → ((failure_text (Refused r) ≡ refusal_text 29) × HasDeviceFailed from to)
     ⊎ (failure_text (Refused r) ≡ refusal_text 30)
 short_text r from to (inl x) = inl (
@@ -165,22 +166,22 @@ told_by : (r : Refusal) (from to : ℕ) (st : State) (input : Input) (new : Cont
 told_by r from to st input new (inl x) = inl (short_text r from to x.0, x.1)
 told_by r from to st input new (inr x) = inr (number_of r, x.0, text_by_number r, x.1)
 
-outcome : (r : Refusal) (from to : ℕ) (old new : Content) (input : Input)
+refusal_outcome : (r : Refusal) (from to : ℕ) (old new : Content) (input : Input)
     → SimulatesStep old new input (refused_with (number_of r)) → BlamesRightly from to old r
     → (st : State) → Refines old st → Outcome from to r st input new
-outcome r from to old new input h blames st s =
+refusal_outcome r from to old new input h blames st s =
     told_by r from to st input new (judged r from to old new input h blames st s)
 
 -- ---- the rows in force
 
 rows_fail : (r : Refusal) (from to : ℕ) (st : State) (new : Content)
-    → Judged from to r st (QuestionFrom 0 AllInForce) new → IsShort from to r
+    → Judged from to r st (QuestionFrom 0 AllInForce) new → IsUnavailableRefusal from to r
 rows_fail r from to st new (inl x) = x.0
 rows_fail r from to st new (inr x) = absurd (never_refused st (number_of r) (sym x.0))
 
 pub rows_short : (r : Refusal) (from to : ℕ) (old new : Content)
     → SimulatesStep old new (QuestionFrom 0 AllInForce) (refused_with (number_of r))
-    → BlamesRightly from to old r → (st : State) → Refines old st → IsShort from to r
+    → BlamesRightly from to old r → (st : State) → Refines old st → IsUnavailableRefusal from to r
 rows_short r from to old new h blames st s =
     rows_fail r from to st new (judged r from to old new (QuestionFrom 0 AllInForce) h blames st s)
 
@@ -356,37 +357,37 @@ few_donated st caller called b ids e is =
 
 -- ---- the bounds of a reply
 
-not_outgrown : (st : State) (caller : ℕ) (c : ModelCall) (reply : Reply) (counted : ReplyBounds)
-    → reply ≡ out st (input_of caller c) → AreReplyBounds st c counted → ¬ (Outgrows counted reply)
-not_outgrown st caller c (Registered spid rows) counted e is x =
+not_outgrown : (st : State) (caller : ℕ) (c : ModelCall) (reply : Reply) (bounds : ReplyBounds)
+    → reply ≡ out st (input_of caller c) → AreReplyBounds st c bounds → ¬ (Outgrows bounds reply)
+not_outgrown st caller c (Registered spid rows) bounds e is x =
     let found = registered_of st caller c spid rows e in
     let long : length rows ≡ length (all_in_force st) = ap length found.1 in
-    let many : length (all_in_force st) ≡ counted.rows = is.rows spid found.0 in
-    let lt : counted.rows < length rows = x in
+    let many : length (all_in_force st) ≡ bounds.rows = is.rows spid found.0 in
+    let lt : bounds.rows < length rows = x in
     omega (arith, long, many, lt)
-not_outgrown st caller c (Fetched downloads) counted e is x =
+not_outgrown st caller c (Fetched downloads) bounds e is x =
     let found = fetched_of st caller c downloads e in
     let most : length downloads ≤ found.0 = found.2 in
-    let many : found.0 ≡ counted.downloads = is.downloads found.0 found.1 in
-    let lt : counted.downloads < length downloads = x in
+    let many : found.0 ≡ bounds.downloads = is.downloads found.0 found.1 in
+    let lt : bounds.downloads < length downloads = x in
     omega (arith, most, many, lt)
-not_outgrown st caller c (Donated block ids) counted e is x =
+not_outgrown st caller c (Donated block ids) bounds e is x =
     let found = donated_of st caller c block ids e in
     let few : length ids ≤ 100 = few_donated st caller c block ids e found in
-    let room : 100 ≤ counted.ids = is.ids found.0 found.1 found.2 found.3 found.4 in
-    let lt : counted.ids < length ids = x in
-    omega (arith, few, room, lt)
-not_outgrown st caller c (MachineRefused number) counted e is x = x
-not_outgrown st caller c (Moved now) counted e is x = x
-not_outgrown st caller c (LrnAdded lrn spid) counted e is x = x
-not_outgrown st caller c (CodeOpened code spid) counted e is x = x
-not_outgrown st caller c (Shown view) counted e is x = x
-not_outgrown st caller c Known counted e is x = x
-not_outgrown st caller c (Answered answered) counted e is x = x
-not_outgrown st caller c (Rows rows) counted e is x = x
-not_outgrown st caller c (Awaited subjects) counted e is x = x
-not_outgrown st caller c (Found in_force opened) counted e is x = x
-not_outgrown st caller c (WindowsSet now number) counted e is x = x
+    let most : 100 ≤ bounds.ids = is.ids found.0 found.1 found.2 found.3 found.4 in
+    let lt : bounds.ids < length ids = x in
+    omega (arith, few, most, lt)
+not_outgrown st caller c (MachineRefused number) bounds e is x = x
+not_outgrown st caller c (Moved now) bounds e is x = x
+not_outgrown st caller c (LrnAdded lrn spid) bounds e is x = x
+not_outgrown st caller c (CodeOpened code spid) bounds e is x = x
+not_outgrown st caller c (Shown view) bounds e is x = x
+not_outgrown st caller c Known bounds e is x = x
+not_outgrown st caller c (Answered answered) bounds e is x = x
+not_outgrown st caller c (Rows rows) bounds e is x = x
+not_outgrown st caller c (Awaited subjects) bounds e is x = x
+not_outgrown st caller c (Found in_force opened) bounds e is x = x
+not_outgrown st caller c (WindowsSet now number) bounds e is x = x
 
 -- ---- calls
 
@@ -415,7 +416,7 @@ refused_as from to new st caller asked result body r e x =
 
 module _ (from to : ℕ) (new : Content) (st : State) (caller : ℕ) (called : ModelCall) where
   -- There is no memory for the reply.
-  pub short_carried : (r : Refusal) → Refines new st → IsShort from to r
+  pub short_carried : (r : Refusal) → Refines new st → IsUnavailableRefusal from to r
       → IsPerformed from to new st caller (RegisterCall called) (failure_text (Refused r))
   short_carried r s short = (st, inl (short_text r from to short, refl), s)
 
@@ -441,22 +442,22 @@ module _ (from to : ℕ) (new : Content) (st : State) (caller : ℕ) (called : M
         → BlamesRightly from to mid r → Refines mid st →
         IsPerformed from to new st caller (RegisterCall called) (failure_text (Refused r))
     refused_carried r mid h blames s =
-        refused_by r (outcome r from to mid new (input_of caller called) h blames st s)
+        refused_by r (refusal_outcome r from to mid new (input_of caller called) h blames st s)
 
     -- The register replies to the call.
-    pub reply_carried : {A : Type 0} (mid : Content) (reply : Reply) (counted : ReplyBounds)
+    pub reply_carried : {A : Type 0} (mid : Content) (reply : Reply) (bounds : ReplyBounds)
         (result : Result A Failure) (body : List ℕ) → Refines mid st
-        → AreReplyBounds st called counted →
+        → AreReplyBounds st called bounds →
         SimulatesStep mid new (input_of caller called) (Some reply)
-        → OnOk result (success body ≡ reply_text reply) → OnErr result (Outgrows counted reply) →
+        → OnOk result (success body ≡ reply_text reply) → OnErr result (Outgrows bounds reply) →
         IsPerformed from to new st caller (RegisterCall called) (response_text result body)
-    reply_carried mid reply counted (Ok done) body s is h text more = (
+    reply_carried mid reply bounds (Ok done) body s is h text more = (
       next st (input_of caller called),
       inr (taken (success body) (text ∙ ap reply_text (h st s).0)),
       (h st s).1,
     )
-    reply_carried mid reply counted (Err failure) body s is h text more =
-        absurd (not_outgrown st caller called reply counted (h st s).0 is more)
+    reply_carried mid reply bounds (Err failure) body s is h text more =
+        absurd (not_outgrown st caller called reply bounds (h st s).0 is more)
 
 -- ---- the callers that may ask for the ids of a number
 
@@ -534,7 +535,7 @@ pub unknown_carried : (r : Refusal) (from to : ℕ) (old new : Content) (caller 
     → Performs from to old new caller (UriQuery uri) (failure_text (Refused r))
 unknown_carried r from to old new caller uri h blames =
     λ st s. query_known r from to st caller uri new
-    (outcome r from to old new (QuestionFrom caller Knows) h
+    (refusal_outcome r from to old new (QuestionFrom caller Knows) h
     blames st s)
 
 pub faulty_carried : (fault : TelFault) (from to : ℕ) (old new : Content) (caller : ℕ)
@@ -573,7 +574,8 @@ pub refused_query_carried : (r : Refusal) (from between to : ℕ) (old mid new :
 refused_query_carried r from between to old mid new caller uri read tn before behind parts asks h k
     blames = λ st s.
     query_asked r from to st caller uri read tn new parts asks (sym (h st s).0)
-    (outcome r from to mid new (QuestionFrom caller (Query tn)) k (blames_since from between to mid
+    (refusal_outcome r from to mid new (QuestionFrom caller (Query tn)) k
+    (blames_since from between to mid
     mid r
     before behind (λ x y. y) blames) st (stays mid st caller Knows (h st s).1))
 
@@ -696,7 +698,7 @@ pub calls_met : (offered : Bool) (from to : ℕ) (new : Content) (st : State) (r
     × Refines new after → (after : State) × Step offered None from to st request body text after
     × Refines new after
 calls_met offered from to new st request route caller body text rises e f g x =
-    (x.0, record { rises = rises; met = inr (rw (e, f, g) x.1) }, x.2)
+    (x.0, record { rises = rises; outcome = inr (rw (e, f, g) x.1) }, x.2)
 
 pub step_told : (offered : Bool) (from to : ℕ) (new : Content) (st : State) (request : Request)
     (body text said : List ℕ) → said ≡ text →
@@ -801,8 +803,9 @@ tick_then offered tick from between to old mid new request body text before move
       x.0,
       record {
         rises = le_trans before x.1.rises;
-        met = met_since from between to st tick (offered_route offered request.route) request.method
-            request.caller body text x.0 before x.1.rises x.1.met;
+        outcome = met_since from between to st tick (offered_route offered request.route)
+            request.method
+            request.caller body text x.0 before x.1.rises x.1.outcome;
       },
       x.2,
     )
@@ -818,7 +821,7 @@ tick_withheld offered tick from to old new request body text said rises e short 
       st,
       record {
         rises = rises;
-        met = inl (subst (λ (t : List ℕ). IsTickUnavailable from to st tick t st) (sym e) x.0);
+        outcome = inl (subst (λ (t : List ℕ). IsTickUnavailable from to st tick t st) (sym e) x.0);
       },
       x.1,
     )

@@ -402,25 +402,26 @@ stranger_differs true k e = absurd (none_is k e)
 stranger_differs false k e =
     subst (λ (m : ℕ). Differs (refusal_text m)) (some_is 2 k e) not_admin
 
-away_differs : (st : State) (caller : ℕ) (called : ModelCall) (k : ℕ)
+caller_refusal_differs : (st : State) (caller : ℕ) (called : ModelCall) (k : ℕ)
     → caller_refusal st caller called ≡ Some k → Differs (refusal_text k)
-away_differs st caller (MomentCall minute) k e = stranger_differs (caller == npac) k e
-away_differs st caller (QuestionCall (Ids tn)) k e =
+caller_refusal_differs st caller (MomentCall minute) k e = stranger_differs (caller == npac) k e
+caller_refusal_differs st caller (QuestionCall (Ids tn)) k e =
     first_differs (tests st (QuestionFrom caller Knows)) (questions_differ st caller Knows) k e
-away_differs st caller (QuestionCall Knows) k e = absurd (none_is k e)
-away_differs st caller (QuestionCall (Fetch n)) k e = absurd (none_is k e)
-away_differs st caller (QuestionCall (ShowVersion id)) k e = absurd (none_is k e)
-away_differs st caller (QuestionCall (Query tn)) k e = absurd (none_is k e)
-away_differs st caller (QuestionCall AllInForce) k e = absurd (none_is k e)
-away_differs st caller (QuestionCall Waiting) k e = absurd (none_is k e)
-away_differs st caller (RequestCall request) k e = absurd (none_is k e)
+caller_refusal_differs st caller (QuestionCall Knows) k e = absurd (none_is k e)
+caller_refusal_differs st caller (QuestionCall (Fetch n)) k e = absurd (none_is k e)
+caller_refusal_differs st caller (QuestionCall (ShowVersion id)) k e = absurd (none_is k e)
+caller_refusal_differs st caller (QuestionCall (Query tn)) k e = absurd (none_is k e)
+caller_refusal_differs st caller (QuestionCall AllInForce) k e = absurd (none_is k e)
+caller_refusal_differs st caller (QuestionCall Waiting) k e = absurd (none_is k e)
+caller_refusal_differs st caller (RequestCall request) k e = absurd (none_is k e)
 
-admitted_differs : (st : State) (away : Option ℕ) (input : Input) (after : State)
-    → ((k : ℕ) → away ≡ Some k → Differs (refusal_text k)) → ((k : ℕ) → out st input ≡ Refused k
+admitted_differs : (st : State) (caller_refused : Option ℕ) (input : Input) (after : State)
+    → ((k : ℕ) → caller_refused ≡ Some k → Differs (refusal_text k))
+    → ((k : ℕ) → out st input ≡ Refused k
     → Differs (refusal_text k)) →
-    ¬ (RespondsToAdmitted st away input (refusal_text 29) after)
-admitted_differs st (Some number) input after turned machine x = turned number refl (sym x.0)
-admitted_differs st None input after turned machine x = takes_differs st input after machine x
+    ¬ (RespondsToAdmitted st caller_refused input (refusal_text 29) after)
+admitted_differs st (Some number) input after refused machine x = refused number refl (sym x.0)
+admitted_differs st None input after refused machine x = takes_differs st input after machine x
 
 uri_differs : (st : State) (caller : ℕ) (uri : TelUri)
     → ¬ (RespondsToUri st caller uri (refusal_text 29))
@@ -452,7 +453,7 @@ answers_tell from to st caller (RegisterCall called) after (inl x) =
     withheld_tells from to st after x
 answers_tell from to st caller (RegisterCall called) after (inr x) =
     absurd (admitted_differs st (caller_refusal st caller called) (input_of caller called) after
-    (away_differs st caller called) (call_differs st caller called) x)
+    (caller_refusal_differs st caller called) (call_differs st caller called) x)
 answers_tell from to st caller (UriQuery uri) after (inl x) = withheld_tells from to st after x
 answers_tell from to st caller (UriQuery uri) after (inr x) =
     absurd (query_differs st caller uri x.0)
@@ -499,4 +500,4 @@ pub storage_tells : (offered : Bool) (tick : Option ℕ) (from to : ℕ) (st : S
     × ((after ≡ st) ⊎ (after ≡ ticked st tick))
 storage_tells offered tick from to st request body after x =
     step_tells tick from to st (offered_route offered request.route) request.method request.caller
-    body after x.met
+    body after x.outcome

@@ -21,7 +21,7 @@ run_rises offered from to st end input rest (x ∷ xs) run =
 
 -- Holds if the exchange has another response.
 abbrev IsClear : Exchange → Type 0
-IsClear x = x.answer ≢ refusal_text 29
+IsClear x = x.response ≢ refusal_text 29
 
 pub stays_clear : (offered : Bool) (from to : ℕ) (st end : State) (input rest : List ℕ)
     (xs : List Exchange) → Run offered from to st input xs end rest → ¬ (HasDeviceFailed from to)

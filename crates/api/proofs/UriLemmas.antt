@@ -38,12 +38,12 @@ same_uri text a b h k =
 
 pub same_number : (uri : Uri) (m n : ℕ) → AsksFor uri m → AsksFor uri n → m ≡ n
 same_number uri m n h k =
-    digits_of-injective 10 m n h.valid.0 k.valid.0 (behind_one (tn_text m) (tn_text n) (sym h.said
-    ∙ k.said))
+    digits_of-injective 10 m n h.valid.0 k.valid.0 (behind_one (tn_text m) (tn_text n) (sym h.digits
+    ∙ k.digits))
   where
     behind_one : (xs ys : List ℕ) → 49 ∷ xs ≡ 49 ∷ ys → xs ≡ ys
     behind_one xs ys e = cc
 
 pub not_asked : (uri : Uri) (tn : ℕ) → IsReturnedAsIs uri → ¬ (AsksFor uri tn)
 not_asked uri tn (inl looked_up) asks = let e : true ≡ false = sym looked_up ∙ asks.new in cc
-not_asked uri tn (inr other) asks = other tn asks.valid asks.said
+not_asked uri tn (inr other) asks = other tn asks.valid asks.digits

@@ -24,33 +24,34 @@ use Rattle.api.specs.Step.{IsReplyAvailable, IsUnavailableText}
 use Rattle.api.proofs.Going.{Going, Progress, at_rest, known}
 
 module _ (offered : Bool) (from : ℕ) (old : Content) (all had : Option (List ℕ))
-    (before : Option (List (Option ℕ))) where
+    (ticks_before : Option (List (Option ℕ))) where
   -- Holds if the response to that message was written in full.
   abbrev pub Past : (has : Option (List ℕ)) → Type 0
   Past has = (st : State) → Refines old st
-      → IfSome all (λ input. (until : RunUntilUnavailable offered from st input before)
+      → IfSome all (λ input. (until : RunUntilUnavailable offered from st input ticks_before)
       × (more : List ℕ)
-      × Appends had has ((responses until.exchanges ++ until.answer) ++ more))
+      × Appends had has ((responses until.exchanges ++ until.response) ++ more))
 
   abbrev pub Stops : (has : Option (List ℕ)) → Type 0
   Stops has = (st : State) → Refines old st
-      → IfSome all (λ input. WritesUntil offered from st input before had has)
+      → IfSome all (λ input. WritesUntil offered from st input ticks_before had has)
 
   pub stops : (has : Option (List ℕ)) → Past has → Stops has
-  stops has past st s = known all _ (λ input. WritesUntil offered from st input before had has)
+  stops has past st s =
+      known all _ (λ input. WritesUntil offered from st input ticks_before had has)
       (λ input p. (p.0, inr (p.1, p.2))) (past st s)
 
   pub further : (has has' : Option (List ℕ)) (text : List ℕ) → Appends has has' text → Past has
       → Past has'
   further has has' text sent past st s =
-      known all _ (λ input. (until : RunUntilUnavailable offered from st input before)
+      known all _ (λ input. (until : RunUntilUnavailable offered from st input ticks_before)
       × (more : List ℕ)
-      × Appends had has' ((responses until.exchanges ++ until.answer) ++ more))
+      × Appends had has' ((responses until.exchanges ++ until.response) ++ more))
       (λ input p. (
         p.0,
         p.1 ++ text,
-        subst (Appends had has') (append_assoc (responses p.0.exchanges ++ p.0.answer) p.1 text)
-            (Appends-trans had has has' ((responses p.0.exchanges ++ p.0.answer) ++ p.1) text p.2
+        subst (Appends had has') (append_assoc (responses p.0.exchanges ++ p.0.response) p.1 text)
+            (Appends-trans had has has' ((responses p.0.exchanges ++ p.0.response) ++ p.1) text p.2
             sent),
       )) (past st s)
 
@@ -61,14 +62,15 @@ module _ (offered : Bool) (from : ℕ) (old : Content) (all had : Option (List �
 
   -- The messages so far, and then one that was answered so.
   module _ (between : ℕ) (mid : Content) (left has : Option (List ℕ))
-      (untold : Option (List (Option ℕ))) (k : ℕ) (progress : Progress offered from between old mid
-      all left had has before untold k)
+      (remaining_ticks : Option (List (Option ℕ))) (k : ℕ) (progress : Progress offered from between
+      old mid
+      all left had has ticks_before remaining_ticks k)
       (left' : Option (List ℕ)) (body text : List ℕ) where
     until_of : (next : NextMessage) → IfSome left (λ rest. IsNextMessage rest next body left')
         → IsUnavailableResponse next text
         → (st : State) (input : List ℕ) → Going offered from between st mid input left had has
-        before untold k → RunUntilUnavailable offered from st input before
-    until_of (NextMessage.Message request) comes withheld st input g =
+        ticks_before remaining_ticks k → RunUntilUnavailable offered from st input ticks_before
+    until_of (NextMessage.Message request) comes is_unavailable st input g =
         let c = at_rest left g.rest (λ i. IsNextMessage i (NextMessage.Message request) body left')
         g.left_is
         comes in
@@ -78,62 +80,64 @@ module _ (offered : Bool) (from : ℕ) (old : Content) (all had : Option (List �
           mid = g.end;
           rest = g.rest;
           run = g.run;
-          untold = untold;
-          handed = g.handed;
+          remaining_ticks = remaining_ticks;
+          supplied = g.supplied;
           request = request;
           body = body;
-          left = c.0;
-          cuts = c.2;
-          answer = text;
-          withheld = withheld;
+          rest_after = c.0;
+          parses = c.2;
+          response = text;
+          is_unavailable = is_unavailable;
         }
-    until_of (NextMessage.Refused fault) comes withheld st input g = absurd withheld
+    until_of (NextMessage.Refused fault) comes is_unavailable st input g = absurd is_unavailable
 
     pub stopped : (has' : Option (List ℕ)) (next : NextMessage)
         → IfSome left (λ rest. IsNextMessage rest next body left') → Appends has has' text
         → IsUnavailableResponse next text → Past has'
     unfolding until_of
-    stopped has' next comes sent withheld st s =
-        known all _ (λ input. (until : RunUntilUnavailable offered from st input before)
+    stopped has' next comes sent is_unavailable st s =
+        known all _ (λ input. (until : RunUntilUnavailable offered from st input ticks_before)
         × (more : List ℕ)
-        × Appends had has' ((responses until.exchanges ++ until.answer) ++ more))
-        (more_of has' next comes sent withheld st) (progress st s).1
+        × Appends had has' ((responses until.exchanges ++ until.response) ++ more))
+        (more_of has' next comes sent is_unavailable st) (progress st s).1
       where
         more_of : (has' : Option (List ℕ)) (next : NextMessage)
             → IfSome left (λ rest. IsNextMessage rest next body left') → Appends has has' text
             → IsUnavailableResponse next text → (st : State) (input : List ℕ)
-            → Going offered from between st mid input left had has before untold k
-            → (until : RunUntilUnavailable offered from st input before) × (more : List ℕ)
-            × Appends had has' ((responses until.exchanges ++ until.answer) ++ more)
-        more_of has' (NextMessage.Message request) comes sent withheld st input g = (
-          until_of (NextMessage.Message request) comes withheld st input g,
+            → Going offered from between st mid input left had has ticks_before remaining_ticks k
+            → (until : RunUntilUnavailable offered from st input ticks_before) × (more : List ℕ)
+            × Appends had has' ((responses until.exchanges ++ until.response) ++ more)
+        more_of has' (NextMessage.Message request) comes sent is_unavailable st input g = (
+          until_of (NextMessage.Message request) comes is_unavailable st input g,
           [],
           subst (Appends had has') (sym (append-nil (responses g.exchanges ++ text)))
               (Appends-trans had has has' (responses g.exchanges) text g.written sent),
         )
-        more_of has' (NextMessage.Refused fault) comes sent withheld st input g = absurd withheld
+        more_of has' (NextMessage.Refused fault) comes sent is_unavailable st input g =
+            absurd is_unavailable
 
     pub stopped_partly : (has' : Option (List ℕ)) (next : NextMessage)
         → IfSome left (λ rest. IsNextMessage rest next body left') → AppendsFront has has' text
         → IsUnavailableResponse next text → Stops has'
     unfolding until_of
-    stopped_partly has' next comes sent withheld st s =
-        known all _ (λ input. WritesUntil offered from st input before had has')
-        (part_of has' next comes sent withheld st) (progress st s).1
+    stopped_partly has' next comes sent is_unavailable st s =
+        known all _ (λ input. WritesUntil offered from st input ticks_before had has')
+        (part_of has' next comes sent is_unavailable st) (progress st s).1
       where
         part_of : (has' : Option (List ℕ)) (next : NextMessage)
             → IfSome left (λ rest. IsNextMessage rest next body left') → AppendsFront has has' text
             → IsUnavailableResponse next text → (st : State) (input : List ℕ)
-            → Going offered from between st mid input left had has before untold k
-            → WritesUntil offered from st input before had has'
-        part_of has' (NextMessage.Message request) comes sent withheld st input g = (
-          until_of (NextMessage.Message request) comes withheld st input g,
+            → Going offered from between st mid input left had has ticks_before remaining_ticks k
+            → WritesUntil offered from st input ticks_before had has'
+        part_of has' (NextMessage.Message request) comes sent is_unavailable st input g = (
+          until_of (NextMessage.Message request) comes is_unavailable st input g,
           inl (
             sent.0,
             Appends-trans had has has' (responses g.exchanges) (take sent.0 text) g.written sent.2,
           ),
         )
-        part_of has' (NextMessage.Refused fault) comes sent withheld st input g = absurd withheld
+        part_of has' (NextMessage.Refused fault) comes sent is_unavailable st input g =
+            absurd is_unavailable
 
 -- A store usable before the message stays usable, or stops with it, and then `Now` holds.
 judged : {Was Is Now Stopped : Type 0} → Was → Stopped ⊎ Is → (Was → Stopped → Now) → Is ⊎ Now

@@ -13,10 +13,10 @@ pub record Exchange : Type 0 where
   pub tick : Option ℕ
   pub request : Request
   pub body : List ℕ
-  pub answer : List ℕ
+  pub response : List ℕ
 
 abbrev pub responses : List Exchange → List ℕ
-responses = flat_map (λ x. x.answer)
+responses = flat_map (λ x. x.response)
 
 -- The minutes supplied, in order.
 abbrev pub ticks_of : List Exchange → List (Option ℕ)
@@ -33,7 +33,7 @@ Run offered from to st input (x ∷ xs) end rest =
     (between : ℕ) × (mid : State) × (next : List ℕ)
     × ParsesAs input (WholeMessage x.request x.body next)
     × (x.request.closes ≡ false)
-    × Step offered x.tick from between st x.request x.body x.answer mid
+    × Step offered x.tick from between st x.request x.body x.response mid
     × Run offered between to mid next xs end rest
 
 -- Holds if no response of a run is `storage` (29), unless the device failed during the run.
@@ -42,4 +42,4 @@ StaysClear =
     (offered : Bool) (from to : ℕ) (st end : State) (input rest : List ℕ)
     (exchanges : List Exchange) →
     Run offered from to st input exchanges end rest → ¬ (HasDeviceFailed from to)
-    → All (λ x. x.answer ≢ refusal_text 29) exchanges
+    → All (λ x. x.response ≢ refusal_text 29) exchanges

@@ -26,8 +26,8 @@ use Rattle.api.specs.declared.serving.Fault.{Fault}
 use Rattle.api.specs.declared.serving.Fault.TheVariants.{Read, Write, Memory}
 
 -- The response to a refused message.
-abbrev pub refusal : MessageFault → List ℕ
-refusal fault = failure_text (Failure.Message fault)
+abbrev pub message_refusal_text : MessageFault → List ℕ
+message_refusal_text fault = failure_text (Failure.Message fault)
 
 -- What is known of the reader, the ticks and the writer, before serving and after it.
 pub record IoTrace : Type 0 where
@@ -41,8 +41,8 @@ pub record IoTrace : Type 0 where
   pub written_before : Option (List ℕ)
   pub written_after : Option (List ℕ)
 
--- Holds if `k` messages were executed and answered in full, each with one supplied minute, and
--- nothing else was written.
+-- Holds if `k` messages had their step and were answered in full, each with one tick, a minute or
+-- none, and nothing else was written.
 pub record AfterExchanges (offered : Bool) (from to : ℕ) (st : State) (new : Content)
     (trace : IoTrace)
     (k : ℕ) : Type 0 where
@@ -52,7 +52,7 @@ pub record AfterExchanges (offered : Bool) (from to : ℕ) (st : State) (new : C
   pub run : Run offered from to st trace.input exchanges end rest
   pub refines : Refines new end
   pub count : length exchanges ≡ k
-  pub handed : ConsumesTicks trace.ticks_before (ticks_of exchanges) trace.ticks_after
+  pub supplied : ConsumesTicks trace.ticks_before (ticks_of exchanges) trace.ticks_after
   pub written : Appends trace.written_before trace.written_after (responses exchanges)
 
 -- Holds if the last of `k` messages closes the connection, and nothing after it was answered.
@@ -64,21 +64,21 @@ pub record AfterClose (offered : Bool) (from to : ℕ) (st : State) (new : Conte
   pub rest : List ℕ
   pub run : Run offered from between st trace.input exchanges mid rest
   pub last : Exchange
-  pub left : List ℕ
-  pub cuts : ParsesAs rest (WholeMessage last.request last.body left)
+  pub rest_after : List ℕ
+  pub parses : ParsesAs rest (WholeMessage last.request last.body rest_after)
   pub closes : last.request.closes ≡ true
   pub end : State
-  pub step : Step offered last.tick between to mid last.request last.body last.answer end
+  pub step : Step offered last.tick between to mid last.request last.body last.response end
   pub refines : Refines new end
   pub count : length exchanges + 1 ≡ k
-  pub handed : ConsumesTicks trace.ticks_before (ticks_of (exchanges ++ last ∷ []))
+  pub supplied : ConsumesTicks trace.ticks_before (ticks_of (exchanges ++ last ∷ []))
       trace.ticks_after
-  pub read : IsReadAhead left trace.unread
+  pub read : IsReadAhead rest_after trace.unread
   pub written : Appends trace.written_before trace.written_after
-      (responses exchanges ++ last.answer)
+      (responses exchanges ++ last.response)
 
--- Holds if the input after the executed messages is refused, its response is written, and it is
--- counted among the `k`. No minute is supplied for it.
+-- Holds if what follows the messages that had their step is refused, its response was written, and
+-- it is counted among the `k`. It takes no tick.
 pub record AfterRefusal (fault : MessageFault) (offered : Bool) (from to : ℕ) (st : State)
     (new : Content) (trace : IoTrace) (k : ℕ) : Type 0 where
   pub exchanges : List Exchange
@@ -88,25 +88,29 @@ pub record AfterRefusal (fault : MessageFault) (offered : Bool) (from to : ℕ) 
   pub refused : ParsesAs rest (RefusedMessage fault)
   pub refines : Refines new end
   pub count : length exchanges + 1 ≡ k
-  pub handed : ConsumesTicks trace.ticks_before (ticks_of exchanges) trace.ticks_after
+  pub supplied : ConsumesTicks trace.ticks_before (ticks_of exchanges) trace.ticks_after
   pub read : IsReadTo fault rest trace.unread
-  pub written : Appends trace.written_before trace.written_after (responses exchanges ++ refusal
+  pub written : Appends trace.written_before trace.written_after
+      (responses exchanges ++ message_refusal_text
       fault)
 
--- Holds if `answer` is the response to what `rest` begins with: a message that was executed after
--- the next minute was supplied, or a refused one.
-abbrev pub IsNextAnswer : (offered : Bool) → (from to : ℕ) → State → List ℕ
-    → (unread : Option (List ℕ)) → (before behind : Option (List (Option ℕ))) → List ℕ → State
+-- Holds if `response` is the response to what `rest` begins with: a message that had its step with
+-- the next tick, or a refused one.
+abbrev pub IsNextResponse : (offered : Bool) → (from to : ℕ) → State → List ℕ
+    → (unread : Option (List ℕ)) → (ticks_before ticks_after : Option (List (Option ℕ))) → List ℕ
+    → State
     → Type 0
-IsNextAnswer offered from to mid rest unread before behind answer end =
-    ((x : Exchange) × (left : List ℕ) × ParsesAs rest (WholeMessage x.request x.body left)
-    × IsReadAhead left unread × ConsumesTick before x.tick behind
-    × Step offered x.tick from to mid x.request x.body x.answer end × (answer ≡ x.answer))
+IsNextResponse offered from to mid rest unread ticks_before ticks_after response end =
+    ((x : Exchange) × (rest_after : List ℕ)
+    × ParsesAs rest (WholeMessage x.request x.body rest_after)
+    × IsReadAhead rest_after unread × ConsumesTick ticks_before x.tick ticks_after
+    × Step offered x.tick from to mid x.request x.body x.response end × (response ≡ x.response))
     ⊎ ((fault : MessageFault) × ParsesAs rest (RefusedMessage fault) × IsReadTo fault rest unread
-    × (behind ≡ before) × (answer ≡ refusal fault) × (end ≡ mid) × (to ≡ from))
+    × (ticks_after ≡ ticks_before) × (response ≡ message_refusal_text fault) × (end ≡ mid)
+    × (to ≡ from))
 
--- Holds if `k` messages were executed and answered in full, and a prefix of the next response was
--- written.
+-- Holds if `k` messages had their step and were answered in full, and a prefix of the next response
+-- was written.
 pub record AfterPartialResponse (offered : Bool) (from to : ℕ) (st : State) (new : Content)
     (trace : IoTrace)
     (k : ℕ) : Type 0 where
@@ -115,17 +119,18 @@ pub record AfterPartialResponse (offered : Bool) (from to : ℕ) (st : State) (n
   pub mid : State
   pub rest : List ℕ
   pub run : Run offered from between st trace.input exchanges mid rest
-  pub untold : Option (List (Option ℕ))
-  pub handed : ConsumesTicks trace.ticks_before (ticks_of exchanges) untold
-  pub answer : List ℕ
+  pub remaining_ticks : Option (List (Option ℕ))
+  pub supplied : ConsumesTicks trace.ticks_before (ticks_of exchanges) remaining_ticks
+  pub response : List ℕ
   pub end : State
-  pub next : IsNextAnswer offered between to mid rest trace.unread untold trace.ticks_after answer
+  pub next : IsNextResponse offered between to mid rest trace.unread remaining_ticks
+      trace.ticks_after response
       end
   pub refines : Refines new end
   pub count : length exchanges ≡ k
   pub part : ℕ
   pub written : Appends trace.written_before trace.written_after (responses exchanges ++ take part
-      answer)
+      response)
 
 -- Holds if serving ended so. At the end of the input, only empty lines are left.
 abbrev pub EndsAt : End → (offered : Bool) → (from to : ℕ) → State → Content → IoTrace → ℕ → Type 0
@@ -136,8 +141,8 @@ EndsAt Closed offered from to st new trace k = AfterClose offered from to st new
 EndsAt (Refused fault) offered from to st new trace k =
     AfterRefusal fault offered from to st new trace k
 
--- Holds if serving failed so. `Read`: what was read of the rest is no whole message. `Memory`: no
--- more than a buffer of the rest was read, or there are more messages than can be counted. `Write`:
+-- Holds if serving failed so. `Read`: what was read of the rest is no whole message. `Memory`: at
+-- most 8,192 bytes of the rest were read, or there are more messages than can be counted. `Write`:
 -- a prefix of a response was written.
 abbrev pub FailsAt : Fault → (offered : Bool) → (from to : ℕ) → State → Content → IoTrace → Type 0
 FailsAt (Read k) offered from to st new trace =
@@ -156,32 +161,32 @@ Serves (Ok served) offered from to st new trace =
     EndsAt served.end offered from to st new trace served.count
 Serves (Err fault) offered from to st new trace = FailsAt fault offered from to st new trace
 
--- A run from the state `st` up to a message answered with `storage` or `no_memory`. Its messages
--- begin the input, and each has one supplied minute.
+-- A run from the state `st`, then a message whose response is `storage` or `no_memory`. These
+-- messages begin the input. Each message of the run has one tick, a minute or none.
 pub record RunUntilUnavailable (offered : Bool) (from : ℕ) (st : State) (input : List ℕ)
-    (before : Option (List (Option ℕ))) : Type 0 where
+    (ticks_before : Option (List (Option ℕ))) : Type 0 where
   pub exchanges : List Exchange
   pub between : ℕ
   pub mid : State
   pub rest : List ℕ
   pub run : Run offered from between st input exchanges mid rest
-  pub untold : Option (List (Option ℕ))
-  pub handed : ConsumesTicks before (ticks_of exchanges) untold
+  pub remaining_ticks : Option (List (Option ℕ))
+  pub supplied : ConsumesTicks ticks_before (ticks_of exchanges) remaining_ticks
   pub request : Request
   pub body : List ℕ
-  pub left : List ℕ
-  pub cuts : ParsesAs rest (WholeMessage request body left)
-  pub answer : List ℕ
-  pub withheld : IsUnavailableText answer
+  pub rest_after : List ℕ
+  pub parses : ParsesAs rest (WholeMessage request body rest_after)
+  pub response : List ℕ
+  pub is_unavailable : IsUnavailableText response
 
 -- Holds if the responses of such a run were written, the last of them in part or in full. Not said:
 -- what was written after the last response.
 abbrev pub WritesUntil : (offered : Bool) → (from : ℕ) → State → (input : List ℕ)
-    → (before : Option (List (Option ℕ))) → (had has : Option (List ℕ)) → Type 0
-WritesUntil offered from st input before had has =
-    (until : RunUntilUnavailable offered from st input before)
-    × (((part : ℕ) × Appends had has (responses until.exchanges ++ take part until.answer))
-    ⊎ ((more : List ℕ) × Appends had has ((responses until.exchanges ++ until.answer) ++ more)))
+    → (ticks_before : Option (List (Option ℕ))) → (had has : Option (List ℕ)) → Type 0
+WritesUntil offered from st input ticks_before had has =
+    (until : RunUntilUnavailable offered from st input ticks_before)
+    × (((part : ℕ) × Appends had has (responses until.exchanges ++ take part until.response))
+    ⊎ ((more : List ℕ) × Appends had has ((responses until.exchanges ++ until.response) ++ more)))
 
 -- Holds if the next message is whole, and the text answers it with `storage` or `no_memory`.
 abbrev pub IsUnavailableResponse : NextMessage → List ℕ → Type 0
@@ -192,17 +197,18 @@ IsUnavailableResponse (NextMessage.Refused fault) text = ⊥
 abbrev pub RefinesReachable : State → Content → Type 0
 RefinesReachable st new = (inputs : List MachineInput) × Refines new (state_after st inputs)
 
--- Holds if a message was executed with the supplied minute and the text is its response; or if the
--- text is the response to a refused message, and nothing was executed or supplied. `before` and
--- `behind` are the minutes that the ticks have still to supply, if known.
-abbrev pub Responds : (offered : Bool) → (before behind : Option (List (Option ℕ))) → (from to : ℕ)
+-- Holds if a message had its step with the next tick and the text is its response; or if the text
+-- is the response to a refused message, which changes nothing and takes no tick. `ticks_before` and
+-- `ticks_after` are the minutes that the ticks have still to supply, if known.
+abbrev pub Responds : (offered : Bool) → (ticks_before ticks_after : Option (List (Option ℕ)))
+    → (from to : ℕ)
     → NextMessage → List ℕ → List ℕ → Content → Content → Type 0
-Responds offered before behind from to (NextMessage.Message request) body text old new =
-    (tick : Option ℕ) × ConsumesTick before tick behind
+Responds offered ticks_before ticks_after from to (NextMessage.Message request) body text old new =
+    (tick : Option ℕ) × ConsumesTick ticks_before tick ticks_after
     × ((st : State) → Refines old st → (after : State) × Step offered tick from to st request body
     text after × Refines new after)
-Responds offered before behind from to (NextMessage.Refused fault) body text old new =
-    (text ≡ refusal fault) × (new ≡ old) × (to ≡ from) × (behind ≡ before)
+Responds offered ticks_before ticks_after from to (NextMessage.Refused fault) body text old new =
+    (text ≡ message_refusal_text fault) × (new ≡ old) × (to ≡ from) × (ticks_after ≡ ticks_before)
 
 -- Why serving ends after the next message, if it does.
 abbrev pub end_of : NextMessage → Option End

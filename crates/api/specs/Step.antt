@@ -19,7 +19,7 @@ use Rattle.telnp.specs.Grammar.{has_name}
 use Rattle.telnp.specs.Numbers.{HasTn}
 use Rattle.telnp.specs.Uri.{IsTelUri}
 use Rattle.json_api.specs.declared.fault.Failure.{Failure}
-use Rattle.json_api.specs.declared.fault.Failure.TheVariants.{Refused as Turned, Uri, Message}
+use Rattle.json_api.specs.declared.fault.Failure.TheVariants.{Refused as FailureRefused, Uri, Message}
 use Rattle.http_messages.specs.declared.fault.MessageFault.{MessageFault}
 use Rattle.http_messages.specs.declared.fault.MessageFault.TheVariants.{BadRequest, NoPath, BadMethod}
 use Rattle.http_messages.specs.declared.message.Request.{Request}
@@ -84,22 +84,23 @@ response_text (Err failure) body = failure_text failure
 -- Holds if a message got a reply, be it a refusal, other than `storage` and `no_memory`.
 abbrev pub IsReplyAvailable : {A : Type 0} → Result A Failure → Type 0
 IsReplyAvailable (Ok done) = ⊤
-IsReplyAvailable (Err (Turned refusal)) = (refusal ≢ Storage) × (refusal ≢ NoMemory)
+IsReplyAvailable (Err (FailureRefused refusal)) = (refusal ≢ Storage) × (refusal ≢ NoMemory)
 IsReplyAvailable (Err (Uri fault)) = ⊤
 IsReplyAvailable (Err (Message fault)) = ⊤
 
 -- Holds if a call is refused because an allocation failed; or because the device failed, and the
 -- count of its failures rose.
-abbrev pub IsShort : (from to : ℕ) → Refusal → Type 0
-IsShort from to refusal = ((refusal ≡ Storage) × HasDeviceFailed from to) ⊎ (refusal ≡ NoMemory)
+abbrev pub IsUnavailableRefusal : (from to : ℕ) → Refusal → Type 0
+IsUnavailableRefusal from to refusal = ((refusal ≡ Storage) × HasDeviceFailed from to) ⊎ (refusal
+    ≡ NoMemory)
 
 -- Holds if a registration shows more rows, a fetch more downloads, or a donation more ids, than
 -- were counted.
 abbrev pub Outgrows : ReplyBounds → Reply → Type 0
-Outgrows counted (Registered spid rows) = counted.rows < length rows
-Outgrows counted (Fetched downloads) = counted.downloads < length downloads
-Outgrows counted (Donated block ids) = counted.ids < length ids
-Outgrows counted _ = ⊥
+Outgrows bounds (Registered spid rows) = bounds.rows < length rows
+Outgrows bounds (Fetched downloads) = bounds.downloads < length downloads
+Outgrows bounds (Donated block ids) = bounds.ids < length ids
+Outgrows bounds _ = ⊥
 
 -- ---- what a message does to a state; `from` and `to` count the device's failures before and after
 
@@ -139,7 +140,7 @@ IsReturnedAsIs uri = (has_name (codes "npdi") uri.parameters ≡ true) ⊎ ((tn 
 pub record AsksFor (uri : TelUri) (tn : ℕ) : Type 0 where
   pub valid : IsTn tn
   pub new : has_name (codes "npdi") uri.parameters ≡ false
-  pub said : HasTn uri.number tn
+  pub digits : HasTn uri.number tn
 
 -- Holds for a valid URI if its text comes back byte for byte, or if the text is the answer on its
 -- number.
@@ -183,10 +184,11 @@ IsCallerAdmitted st caller called = caller_refusal st caller called ≡ None
 -- Holds if the caller may not make the call, or if a failure prevented the decision.
 abbrev pub IsCallerRefused : (from to : ℕ) → State → (caller : ℕ) → ModelCall → Refusal → Type 0
 IsCallerRefused from to st caller called reason =
-    IsShort from to reason ⊎ (caller_refusal st caller called ≡ Some (number_of reason))
+    IsUnavailableRefusal from to reason ⊎ (caller_refusal st caller called
+    ≡ Some (number_of reason))
 
 -- Holds if a call that is refused for its caller changes nothing, and the machine takes any other.
-abbrev pub RespondsToAdmitted : State → (away : Option ℕ) → Input → (text : List ℕ)
+abbrev pub RespondsToAdmitted : State → (caller_refused : Option ℕ) → Input → (text : List ℕ)
     → (after : State)
     → Type 0
 RespondsToAdmitted st (Some number) input text after = (text ≡ refusal_text number) × (after ≡ st)
@@ -281,25 +283,25 @@ IsTickUnavailable from to st (Some minute) text after = IsUnavailable from to st
 pub record Step (offered : Bool) (tick : Option ℕ) (from to : ℕ) (st : State) (request : Request)
     (body text : List ℕ) (after : State) : Type 0 where
   pub rises : from ≤ to
-  pub met :
+  pub outcome :
       IsTickUnavailable from to st tick text after
       ⊎ Dispatches from to (ticked st tick) (offered_route offered request.route) request.method
       request.caller body text after
 
 -- Holds if both responses and both states are the same, unless a response is `storage` or
 -- `no_memory`.
-abbrev pub IsOnce : (text said : List ℕ) → (after later : State) → Type 0
-IsOnce text said after later = IsUnavailableText text ⊎ IsUnavailableText said
-    ⊎ ((text ≡ said) × (after ≡ later))
+abbrev pub IsOnce : (text other : List ℕ) → (after later : State) → Type 0
+IsOnce text other after later = IsUnavailableText text ⊎ IsUnavailableText other
+    ⊎ ((text ≡ other) × (after ≡ later))
 
 -- Holds if a message with its supplied minute has one response and leads to one state, unless the
 -- device or an allocation fails.
 abbrev pub StepIsDeterministic : Type 0
 StepIsDeterministic =
     (offered : Bool) (tick : Option ℕ) (from to from' to' : ℕ) (st : State) (request : Request)
-    (body text said : List ℕ) (after later : State) →
+    (body text other : List ℕ) (after later : State) →
     Step offered tick from to st request body text after
-    → Step offered tick from' to' st request body said later → IsOnce text said after later
+    → Step offered tick from' to' st request body other later → IsOnce text other after later
 
 -- Holds if the response `storage` (29) implies that the device failed during its message, and that
 -- at most the clock moved to the supplied minute.

@@ -13,15 +13,15 @@ later_ticks (tick ∷ ticks) = ticks
 
 -- Holds if, of minutes that are known, the first is supplied and the others remain.
 abbrev pub ConsumesTick : (before : Option (List (Option ℕ))) → (tick : Option ℕ)
-    → (behind : Option (List (Option ℕ))) → Type 0
-ConsumesTick None tick behind = ⊤
-ConsumesTick (Some ticks) tick behind =
-    (tick ≡ first_tick ticks) × (behind ≡ Some (later_ticks ticks))
+    → (after : Option (List (Option ℕ))) → Type 0
+ConsumesTick None tick after = ⊤
+ConsumesTick (Some ticks) tick after =
+    (tick ≡ first_tick ticks) × (after ≡ Some (later_ticks ticks))
 
 -- Holds if the minutes are supplied one after another.
 abbrev pub ConsumesTicks : (before : Option (List (Option ℕ))) → (ticks : List (Option ℕ))
-    → (behind : Option (List (Option ℕ))) → Type 0
-ConsumesTicks None ticks behind = ⊤
-ConsumesTicks (Some told) [] behind = behind ≡ Some told
-ConsumesTicks (Some told) (tick ∷ ticks) behind =
-    (tick ≡ first_tick told) × ConsumesTicks (Some (later_ticks told)) ticks behind
+    → (after : Option (List (Option ℕ))) → Type 0
+ConsumesTicks None ticks after = ⊤
+ConsumesTicks (Some known) [] after = after ≡ Some known
+ConsumesTicks (Some known) (tick ∷ ticks) after =
+    (tick ≡ first_tick known) × ConsumesTicks (Some (later_ticks known)) ticks after

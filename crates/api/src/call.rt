@@ -9,10 +9,10 @@ ghost use Rattle.json_api.specs.Forms.{ApiCall as ApiCallModel, RegisterCall, ap
 ghost use Rattle.json_api.specs.ResponseBuffers.{HasCapacity, IsEmpty, IsWritten};
 ghost use Rattle.api.specs.ReplyBounds.{HasCapacityFor, AreReplyBounds};
 ghost use Rattle.settle.specs.StoreContract.{IsAvailable, PreservesStore};
-ghost use Rattle.api.specs.Step.{Step, Dispatches, DispatchesCallOn, IsCallerAdmitted, IsCallerRefused, BodyAsks, IdAsks, NumberAsks, CountAsks, PathAsks, Performs, IsPerformed, IsShort, response_text, IsReplyAvailable, IsUnavailableText};
+ghost use Rattle.api.specs.Step.{Step, Dispatches, DispatchesCallOn, IsCallerAdmitted, IsCallerRefused, BodyAsks, IdAsks, NumberAsks, CountAsks, PathAsks, Performs, IsPerformed, IsUnavailableRefusal, response_text, IsReplyAvailable, IsUnavailableText};
 
 use crate::query::query;
-use crate::reply::{ReplyBounds, put_refused, put_reply, put_success, take_counted};
+use crate::reply::{ReplyBounds, put_refused, put_reply, put_success, reserve_body};
 use http_messages::{MessageFault, Request, Route, allows_method, offered_route};
 use json_api::{ApiCall, Failure, Fields, Flat, ResponseBuffer, api_call_of, json};
 use model::Refusal;
@@ -24,7 +24,7 @@ use std::alloc::Global;
 
 // Returns the route and the caller of a message. Judges the path first, then the method, then the
 // caller.
-fn judged(request: &Request, clock: bool) -> Result<(Route, Spid), MessageFault>
+fn route_and_caller(request: &Request, clock: bool) -> Result<(Route, Spid), MessageFault>
     ensures ok { IfOk result (λ found. (offered_route clock request.now.route ≡ Some found.0)
         × (takes_method found.0 request.now.method ≡ true)
         × (request.now.caller ≡ Some found.1)) }
@@ -48,13 +48,14 @@ fn judged(request: &Request, clock: bool) -> Result<(Route, Spid), MessageFault>
 fn count_rows<S: Store>(register: &mut Register<S>) -> Result<usize, Refusal>
     ensures kept { S.IsUsable register.new.store → (st : State)
         → Refines (S.content register.old.store) st → Refines (S.content register.new.store) st }
-    ensures preserves { PreservesStore S.IsUsable S.HasHonestDevice S.failed register.old.store
+    ensures preserves { PreservesStore S.StoreModel register.old.store
         register.new.store (IsAvailable result) ⊥ }
     ensures count { IfOk result (λ count. S.IsUsable register.new.store → (st : State)
         → Refines (S.content register.old.store) st → length (all_in_force st) ≡ count) }
-    ensures short { IfErr result (λ refusal. S.IsUsable register.new.store → (st : State)
+    ensures unavailable { IfErr result (λ refusal. S.IsUsable register.new.store → (st : State)
         → Refines (S.content register.old.store) st
-        → IsShort (S.failed register.old.store) (S.failed register.new.store) refusal) }
+        → IsUnavailableRefusal (S.failed register.old.store) (S.failed register.new.store)
+        refusal) }
 {
     match register.in_force() {
         Ok(rows) => Ok(rows.len()),
@@ -68,7 +69,7 @@ fn count_rows<S: Store>(register: &mut Register<S>) -> Result<usize, Refusal>
 fn admit<S: Store>(register: &mut Register<S>, caller: Spid, call: &Call) -> Result<(), Refusal>
     ensures kept { S.IsUsable register.new.store → (st : State)
         → Refines (S.content register.old.store) st → Refines (S.content register.new.store) st }
-    ensures preserves { PreservesStore S.IsUsable S.HasHonestDevice S.failed register.old.store
+    ensures preserves { PreservesStore S.StoreModel register.old.store
         register.new.store (IsAvailable result) ⊥ }
     ensures ok { OnOk result (S.IsUsable register.new.store → (st : State)
         → Refines (S.content register.old.store) st
@@ -90,17 +91,18 @@ const MOST_IDS: usize = 100;
 
 // Returns how many rows, ids or downloads the reply to `call` may have: rows for a registration,
 // ids for a donation, downloads for a fetch.
-fn count<S: Store>(register: &mut Register<S>, call: &Call) -> Result<ReplyBounds, Refusal>
+fn bounds_of<S: Store>(register: &mut Register<S>, call: &Call) -> Result<ReplyBounds, Refusal>
     ensures kept { S.IsUsable register.new.store → (st : State)
         → Refines (S.content register.old.store) st → Refines (S.content register.new.store) st }
-    ensures preserves { PreservesStore S.IsUsable S.HasHonestDevice S.failed register.old.store
+    ensures preserves { PreservesStore S.StoreModel register.old.store
         register.new.store (IsAvailable result) ⊥ }
-    ensures counted { IfOk result (λ counted. S.IsUsable register.new.store → (st : State)
+    ensures bounds { IfOk result (λ bounds. S.IsUsable register.new.store → (st : State)
         → Refines (S.content register.old.store) st
-        → AreReplyBounds st (called_of call.now) counted) }
-    ensures short { IfErr result (λ refusal. S.IsUsable register.new.store → (st : State)
+        → AreReplyBounds st (called_of call.now) bounds) }
+    ensures unavailable { IfErr result (λ refusal. S.IsUsable register.new.store → (st : State)
         → Refines (S.content register.old.store) st
-        → IsShort (S.failed register.old.store) (S.failed register.new.store) refusal) }
+        → IsUnavailableRefusal (S.failed register.old.store) (S.failed register.new.store)
+        refusal) }
 {
     match call {
         Call::Command(Command::RegisterCarrier { .. }) => {
@@ -124,55 +126,56 @@ fn count<S: Store>(register: &mut Register<S>, call: &Call) -> Result<ReplyBound
 
 // Reserves memory for the reply to `call` before the call is made, because nothing may fail after
 // it.
-fn take_room<S: Store>(
+fn reserve_reply<S: Store>(
     register: &mut Register<S>,
     call: &Call,
-    room: &mut ResponseBuffer,
+    response: &mut ResponseBuffer,
 ) -> Result<ReplyBounds, Refusal>
-    requires empty { IsEmpty room.old }
-    requires room { HasCapacity 512 room.old }
-    ensures empty { IsEmpty room.new }
-    ensures room { HasCapacity 512 room.new }
-    ensures taken { IfOk result (λ counted. HasCapacityFor counted room.new) }
+    requires empty { IsEmpty response.old }
+    requires capacity { HasCapacity 512 response.old }
+    ensures empty { IsEmpty response.new }
+    ensures capacity { HasCapacity 512 response.new }
+    ensures reserved { IfOk result (λ bounds. HasCapacityFor bounds response.new) }
     ensures kept { S.IsUsable register.new.store → (st : State)
         → Refines (S.content register.old.store) st → Refines (S.content register.new.store) st }
-    ensures preserves { PreservesStore S.IsUsable S.HasHonestDevice S.failed register.old.store
+    ensures preserves { PreservesStore S.StoreModel register.old.store
         register.new.store (IsAvailable result) ⊥ }
-    ensures counted { IfOk result (λ counted. S.IsUsable register.new.store → (st : State)
+    ensures bounds { IfOk result (λ bounds. S.IsUsable register.new.store → (st : State)
         → Refines (S.content register.old.store) st
-        → AreReplyBounds st (called_of call.now) counted) }
-    ensures short { IfErr result (λ refusal. S.IsUsable register.new.store → (st : State)
+        → AreReplyBounds st (called_of call.now) bounds) }
+    ensures unavailable { IfErr result (λ refusal. S.IsUsable register.new.store → (st : State)
         → Refines (S.content register.old.store) st
-        → IsShort (S.failed register.old.store) (S.failed register.new.store) refusal) }
+        → IsUnavailableRefusal (S.failed register.old.store) (S.failed register.new.store)
+        refusal) }
 {
-    let counted = count(register, call)?;
-    take_counted(room, counted)?;
-    Ok(counted)
+    let bounds = bounds_of(register, call)?;
+    reserve_body(response, bounds)?;
+    Ok(bounds)
 }
 
 // Makes a call that its caller may make, and writes the reply.
-fn make<S: Store>(
+fn answer_admitted<S: Store>(
     register: &mut Register<S>,
     caller: Spid,
     call: &Call,
-    room: &mut ResponseBuffer,
+    response: &mut ResponseBuffer,
 ) -> Result<(), Failure>
-    requires empty { IsEmpty room.old }
-    requires room { HasCapacity 512 room.old }
-    ensures ok { OnOk result (IsWritten room.new) }
-    ensures room { HasCapacity 512 room.new }
-    ensures preserves { PreservesStore S.IsUsable S.HasHonestDevice S.failed register.old.store
+    requires empty { IsEmpty response.old }
+    requires capacity { HasCapacity 512 response.old }
+    ensures ok { OnOk result (IsWritten response.new) }
+    ensures capacity { HasCapacity 512 response.new }
+    ensures preserves { PreservesStore S.StoreModel register.old.store
         register.new.store (IsReplyAvailable result) ⊥ }
     ensures performs { S.IsUsable register.new.store → (st : State)
         → Refines (S.content register.old.store) st
         → IsCallerAdmitted st caller.number (called_of call.now)
         → IsPerformed (S.failed register.old.store) (S.failed register.new.store)
         (S.content register.new.store) st caller.number (RegisterCall (called_of call.now))
-        (response_text result (string_bytes room.new.body)) }
+        (response_text result (string_bytes response.new.body)) }
 {
-    let counted = take_room(register, call, room)?;
+    let bounds = reserve_reply(register, call, response)?;
     let reply = register.answer(caller, call)?;
-    put_reply(room, &reply, counted)
+    put_reply(response, &reply, bounds)
 }
 
 // Makes a call if its caller may make it.
@@ -180,21 +183,22 @@ fn answer<S: Store>(
     register: &mut Register<S>,
     caller: Spid,
     call: &Call,
-    room: &mut ResponseBuffer,
+    response: &mut ResponseBuffer,
 ) -> Result<(), Failure>
-    requires empty { IsEmpty room.old }
-    requires room { HasCapacity 512 room.old }
-    ensures ok { OnOk result (IsWritten room.new) }
-    ensures room { HasCapacity 512 room.new }
-    ensures preserves { PreservesStore S.IsUsable S.HasHonestDevice S.failed register.old.store
+    requires empty { IsEmpty response.old }
+    requires capacity { HasCapacity 512 response.old }
+    ensures ok { OnOk result (IsWritten response.new) }
+    ensures capacity { HasCapacity 512 response.new }
+    ensures preserves { PreservesStore S.StoreModel register.old.store
         register.new.store (IsReplyAvailable result) ⊥ }
     ensures performs { S.IsUsable register.new.store
         → Performs (S.failed register.old.store) (S.failed register.new.store)
         (S.content register.old.store) (S.content register.new.store) caller.number
-        (RegisterCall (called_of call.now)) (response_text result (string_bytes room.new.body)) }
+        (RegisterCall (called_of call.now))
+        (response_text result (string_bytes response.new.body)) }
 {
     admit(register, caller, call)?;
-    make(register, caller, call, room)
+    answer_admitted(register, caller, call, response)
 }
 
 // Executes what the members of a body ask on a route.
@@ -204,23 +208,23 @@ fn answer_fields<S: Store, F: Fields>(
     route: Route,
     caller: Spid,
     fields: &F,
-    room: &mut ResponseBuffer,
+    response: &mut ResponseBuffer,
 ) -> Result<(), Failure>
-    requires empty { IsEmpty room.old }
-    requires room { HasCapacity 512 room.old }
-    ensures ok { OnOk result (IsWritten room.new) }
-    ensures room { HasCapacity 512 room.new }
-    ensures preserves { PreservesStore S.IsUsable S.HasHonestDevice S.failed register.old.store
+    requires empty { IsEmpty response.old }
+    requires capacity { HasCapacity 512 response.old }
+    ensures ok { OnOk result (IsWritten response.new) }
+    ensures capacity { HasCapacity 512 response.new }
+    ensures preserves { PreservesStore S.StoreModel register.old.store
         register.new.store (IsReplyAvailable result) ⊥ }
     ensures calls { S.IsUsable register.new.store → (body : List ℕ)
         → json_of body ≡ Some (F.value fields.now)
         → DispatchesCallOn (S.failed register.old.store) (S.failed register.new.store)
         (S.content register.old.store) (S.content register.new.store) (BodyAsks route body)
-        caller.number (response_text result (string_bytes room.new.body)) }
+        caller.number (response_text result (string_bytes response.new.body)) }
 {
     match api_call_of(alloc, route, fields) {
-        Ok(Some(ApiCall::Call(call))) => answer(register, caller, &call, room),
-        Ok(Some(ApiCall::Uri(uri))) => query(alloc, register, caller, uri, room),
+        Ok(Some(ApiCall::Call(call))) => answer(register, caller, &call, response),
+        Ok(Some(ApiCall::Uri(uri))) => query(alloc, register, caller, uri, response),
         Ok(None) => Err(Failure::Message(MessageFault::BadRequest)),
         Err(_) => Err(Failure::Refused(Refusal::NoMemory)),
     }
@@ -235,21 +239,21 @@ fn answer_tree<S: Store>(
     route: Route,
     caller: Spid,
     body: &[u8],
-    room: &mut ResponseBuffer,
+    response: &mut ResponseBuffer,
 ) -> Result<(), Failure>
-    requires empty { IsEmpty room.old }
-    requires room { HasCapacity 512 room.old }
-    ensures ok { OnOk result (IsWritten room.new) }
-    ensures room { HasCapacity 512 room.new }
-    ensures preserves { PreservesStore S.IsUsable S.HasHonestDevice S.failed register.old.store
+    requires empty { IsEmpty response.old }
+    requires capacity { HasCapacity 512 response.old }
+    ensures ok { OnOk result (IsWritten response.new) }
+    ensures capacity { HasCapacity 512 response.new }
+    ensures preserves { PreservesStore S.StoreModel register.old.store
         register.new.store (IsReplyAvailable result) ⊥ }
     ensures calls { S.IsUsable register.new.store
         → DispatchesCallOn (S.failed register.old.store) (S.failed register.new.store)
         (S.content register.old.store) (S.content register.new.store) (BodyAsks route body.now)
-        caller.number (response_text result (string_bytes room.new.body)) }
+        caller.number (response_text result (string_bytes response.new.body)) }
 {
     match json(alloc, body) {
-        Ok(Some(value)) => answer_fields(alloc, register, route, caller, &value, room),
+        Ok(Some(value)) => answer_fields(alloc, register, route, caller, &value, response),
         Ok(None) => Err(Failure::Message(MessageFault::BadRequest)),
         Err(refused) => Err(Failure::from(refused)),
     }
@@ -262,29 +266,29 @@ fn answer_body<S: Store>(
     route: Route,
     caller: Spid,
     body: &[u8],
-    room: &mut ResponseBuffer,
+    response: &mut ResponseBuffer,
 ) -> Result<(), Failure>
-    requires empty { IsEmpty room.old }
-    requires room { HasCapacity 512 room.old }
-    ensures ok { OnOk result (IsWritten room.new) }
-    ensures room { HasCapacity 512 room.new }
-    ensures preserves { PreservesStore S.IsUsable S.HasHonestDevice S.failed register.old.store
+    requires empty { IsEmpty response.old }
+    requires capacity { HasCapacity 512 response.old }
+    ensures ok { OnOk result (IsWritten response.new) }
+    ensures capacity { HasCapacity 512 response.new }
+    ensures preserves { PreservesStore S.StoreModel register.old.store
         register.new.store (IsReplyAvailable result) ⊥ }
     ensures calls { S.IsUsable register.new.store
         → DispatchesCallOn (S.failed register.old.store) (S.failed register.new.store)
         (S.content register.old.store) (S.content register.new.store) (BodyAsks route body.now)
-        caller.number (response_text result (string_bytes room.new.body)) }
+        caller.number (response_text result (string_bytes response.new.body)) }
 {
     let mut flat = Flat::new();
     if flat.read(body) {
-        answer_fields(alloc, register, route, caller, &flat, room)
+        answer_fields(alloc, register, route, caller, &flat, response)
     } else {
-        answer_tree(alloc, register, route, caller, body, room)
+        answer_tree(alloc, register, route, caller, body, response)
     }
 }
 
 // Returns the call of a version's path. Refuses a path without an id, and a body that is not empty.
-fn version_asked(id: Option<u64>, body: &[u8]) -> Result<Call, MessageFault>
+fn version_call(id: Option<u64>, body: &[u8]) -> Result<Call, MessageFault>
     ensures ok { IfOk result (λ call. IdAsks id body.now (RegisterCall (called_of call))) }
     ensures err { IfErr result (λ fault. (fault ≡ MessageFault.BadRequest)
         × ((asked : ApiCallModel) → ¬ (IdAsks id body.now asked))) }
@@ -297,7 +301,7 @@ fn version_asked(id: Option<u64>, body: &[u8]) -> Result<Call, MessageFault>
 
 // Returns the call of a number's path. Refuses a path without a valid telephone number, and a body
 // that is not empty.
-fn number_asked(number: Option<u64>, body: &[u8]) -> Result<Call, MessageFault>
+fn number_call(number: Option<u64>, body: &[u8]) -> Result<Call, MessageFault>
     ensures ok { IfOk result (λ call. NumberAsks number body.now (RegisterCall (called_of call))) }
     ensures err { IfErr result (λ fault. (fault ≡ MessageFault.BadRequest)
         × ((asked : ApiCallModel) → ¬ (NumberAsks number body.now asked))) }
@@ -316,7 +320,7 @@ const MOST_DOWNLOADS: u64 = 100;
 
 // Returns the call of the path of a carrier's downloads. Refuses a count that is not from 1 to 100,
 // and a body that is not empty.
-fn downloads_asked(count: Option<u64>, body: &[u8]) -> Result<Call, MessageFault>
+fn downloads_call(count: Option<u64>, body: &[u8]) -> Result<Call, MessageFault>
     ensures ok { IfOk result (λ call. CountAsks count body.now (RegisterCall (called_of call))) }
     ensures err { IfErr result (λ fault. (fault ≡ MessageFault.BadRequest)
         × ((asked : ApiCallModel) → ¬ (CountAsks count body.now asked))) }
@@ -338,24 +342,29 @@ fn answer_message<S: Store>(
     route: Route,
     caller: Spid,
     body: &[u8],
-    room: &mut ResponseBuffer,
+    response: &mut ResponseBuffer,
 ) -> Result<(), Failure>
-    requires empty { IsEmpty room.old }
-    requires room { HasCapacity 512 room.old }
-    ensures ok { OnOk result (IsWritten room.new) }
-    ensures room { HasCapacity 512 room.new }
-    ensures preserves { PreservesStore S.IsUsable S.HasHonestDevice S.failed register.old.store
+    requires empty { IsEmpty response.old }
+    requires capacity { HasCapacity 512 response.old }
+    ensures ok { OnOk result (IsWritten response.new) }
+    ensures capacity { HasCapacity 512 response.new }
+    ensures preserves { PreservesStore S.StoreModel register.old.store
         register.new.store (IsReplyAvailable result) ⊥ }
     ensures calls { S.IsUsable register.new.store
         → DispatchesCallOn (S.failed register.old.store) (S.failed register.new.store)
         (S.content register.old.store) (S.content register.new.store) (PathAsks route body.now)
-        caller.number (response_text result (string_bytes room.new.body)) }
+        caller.number (response_text result (string_bytes response.new.body)) }
 {
     match route {
-        Route::Version(id) => answer(register, caller, &version_asked(id, body)?, room),
-        Route::Number(number) => answer(register, caller, &number_asked(number, body)?, room),
-        Route::Downloads(count) => answer(register, caller, &downloads_asked(count, body)?, room),
-        _ => answer_body(alloc, register, route, caller, body, room),
+        Route::Version(id) => answer(register, caller, &version_call(id, body)?, response),
+        Route::Number(number) => answer(register, caller, &number_call(number, body)?, response),
+        Route::Downloads(count) => answer(
+            register,
+            caller,
+            &downloads_call(count, body)?,
+            response,
+        ),
+        _ => answer_body(alloc, register, route, caller, body, response),
     }
 }
 
@@ -365,23 +374,22 @@ fn reply<S: Store>(
     clock: bool,
     request: &Request,
     body: &[u8],
-    room: &mut ResponseBuffer,
+    response: &mut ResponseBuffer,
 ) -> Result<(), Failure>
-    requires empty { IsEmpty room.old }
-    requires room { HasCapacity 512 room.old }
-    ensures ok { OnOk result (IsWritten room.new) }
-    ensures room { HasCapacity 512 room.new }
-    ensures preserves { PreservesStore S.IsUsable S.HasHonestDevice S.failed register.old.store
+    requires empty { IsEmpty response.old }
+    requires capacity { HasCapacity 512 response.old }
+    ensures ok { OnOk result (IsWritten response.new) }
+    ensures capacity { HasCapacity 512 response.new }
+    ensures preserves { PreservesStore S.StoreModel register.old.store
         register.new.store (IsReplyAvailable result) ⊥ }
     ensures step { S.IsUsable register.new.store → (st : State)
-        → Refines (S.content register.old.store) st
-        → (after : State)
-        × Step clock None (S.failed register.old.store) (S.failed register.new.store) st
-        request.now body.now (response_text result (string_bytes room.new.body)) after
+        → Refines (S.content register.old.store) st → (after : State)
+        × Step clock None (S.failed register.old.store) (S.failed register.new.store) st request.now
+        body.now (response_text result (string_bytes response.new.body)) after
         × Refines (S.content register.new.store) after }
 {
-    match judged(request, clock) {
-        Ok((route, caller)) => { answer_message(alloc, register, route, caller, body, room) }
+    match route_and_caller(request, clock) {
+        Ok((route, caller)) => { answer_message(alloc, register, route, caller, body, response) }
         Err(fault) => Err(Failure::Message(fault)),
     }
 }
@@ -395,25 +403,24 @@ pub fn write_response<S: Store>(
     clock: bool,
     request: &Request,
     body: &[u8],
-    room: &mut ResponseBuffer,
+    response: &mut ResponseBuffer,
 )
-    requires room { HasCapacity 512 room.old }
-    ensures room { HasCapacity 512 room.new }
+    requires capacity { HasCapacity 512 response.old }
+    ensures capacity { HasCapacity 512 response.new }
     ensures usable { S.IsUsable register.new.store → S.IsUsable register.old.store }
     ensures rises { S.failed register.old.store ≤ S.failed register.new.store }
     ensures honest { S.HasHonestDevice register.new.store → S.HasHonestDevice register.old.store }
     ensures stays { S.IsUsable register.old.store → S.HasHonestDevice register.new.store
-        → IsUnavailableText (string_bytes room.new.text) ⊎ S.IsUsable register.new.store }
+        → IsUnavailableText (string_bytes response.new.text) ⊎ S.IsUsable register.new.store }
     ensures step { S.IsUsable register.new.store → (st : State)
-        → Refines (S.content register.old.store) st
-        → (after : State)
-        × Step clock None (S.failed register.old.store) (S.failed register.new.store) st
-        request.now body.now (string_bytes room.new.text) after
+        → Refines (S.content register.old.store) st → (after : State)
+        × Step clock None (S.failed register.old.store) (S.failed register.new.store) st request.now
+        body.now (string_bytes response.new.text) after
         × Refines (S.content register.new.store) after }
 {
-    room.clear();
-    match reply(alloc, register, clock, request, body, room) {
-        Ok(()) => put_success(room),
-        Err(failure) => put_refused(room, failure),
+    response.clear();
+    match reply(alloc, register, clock, request, body, response) {
+        Ok(()) => put_success(response),
+        Err(failure) => put_refused(response, failure),
     }
 }

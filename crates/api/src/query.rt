@@ -18,16 +18,16 @@ use std::alloc::Global;
 use telnp::TelUri;
 
 // Reserves memory for a URI and writes it.
-fn put_text(room: &mut ResponseBuffer, uri: &str) -> Result<(), Failure>
-    requires empty { IsEmpty room.old }
-    requires room { HasCapacity 512 room.old }
-    ensures ok { OnOk result (IsWritten room.new) }
-    ensures room { HasCapacity 512 room.new }
-    ensures body { OnOk result (string_bytes room.new.body ≡ uri_text uri.now) }
-    ensures short { IfErr result (λ failure. failure ≡ Failure.Refused Refusal.NoMemory) }
+fn put_text(response: &mut ResponseBuffer, uri: &str) -> Result<(), Failure>
+    requires empty { IsEmpty response.old }
+    requires capacity { HasCapacity 512 response.old }
+    ensures ok { OnOk result (IsWritten response.new) }
+    ensures capacity { HasCapacity 512 response.new }
+    ensures body { OnOk result (string_bytes response.new.body ≡ uri_text uri.now) }
+    ensures unavailable { IfErr result (λ failure. failure ≡ Failure.Refused Refusal.NoMemory) }
 {
-    room.take(uri.len() + URI_CAPACITY)?;
-    put_uri(&mut room.body, uri);
+    response.take(uri.len() + URI_CAPACITY)?;
+    put_uri(&mut response.body, uri);
     Ok(())
 }
 
@@ -38,26 +38,26 @@ fn put_routed(
     text: &str,
     uri: &TelUri<'_>,
     answer: Answer,
-    room: &mut ResponseBuffer,
+    response: &mut ResponseBuffer,
 ) -> Result<(), Failure>
     requires same { (uri_of uri.now).text ≡ text.now }
-    requires empty { IsEmpty room.old }
-    requires room { HasCapacity 512 room.old }
-    ensures ok { OnOk result (IsWritten room.new) }
-    ensures room { HasCapacity 512 room.new }
-    ensures body { OnOk result (string_bytes room.new.body
+    requires empty { IsEmpty response.old }
+    requires capacity { HasCapacity 512 response.old }
+    ensures ok { OnOk result (IsWritten response.new) }
+    ensures capacity { HasCapacity 512 response.new }
+    ensures body { OnOk result (string_bytes response.new.body
         ≡ uri_text (looked_up (uri_of uri.now) (answer_of answer))) }
-    ensures short { IfErr result (λ failure. failure ≡ Failure.Refused Refusal.NoMemory) }
+    ensures unavailable { IfErr result (λ failure. failure ≡ Failure.Refused Refusal.NoMemory) }
 {
     match answer {
-        Answer::Closed => put_text(room, text),
-        Answer::Open(routing) => Ok(put_looked_up(alloc, room, uri, routing)?),
+        Answer::Closed => put_text(response, text),
+        Answer::Open(routing) => Ok(put_looked_up(alloc, response, uri, routing)?),
     }
 }
 
 // Returns the telephone number to ask the register for. A URI that has been looked up already
 // (`npdi`) has none.
-fn number_asked_for(uri: &TelUri<'_>) -> Option<Tn>
+fn queried_number(uri: &TelUri<'_>) -> Option<Tn>
     ensures some { IfSome result (λ tn. AsksFor (uri_of uri.now) tn.number) }
     ensures none { IfNone result (IsReturnedAsIs (uri_of uri.now)) }
 {
@@ -73,18 +73,18 @@ pub fn query<S: Store>(
     register: &mut Register<S>,
     caller: Spid,
     text: &str,
-    room: &mut ResponseBuffer,
+    response: &mut ResponseBuffer,
 ) -> Result<(), Failure>
-    requires empty { IsEmpty room.old }
-    requires room { HasCapacity 512 room.old }
-    ensures ok { OnOk result (IsWritten room.new) }
-    ensures room { HasCapacity 512 room.new }
-    ensures preserves { PreservesStore S.IsUsable S.HasHonestDevice S.failed register.old.store
+    requires empty { IsEmpty response.old }
+    requires capacity { HasCapacity 512 response.old }
+    ensures ok { OnOk result (IsWritten response.new) }
+    ensures capacity { HasCapacity 512 response.new }
+    ensures preserves { PreservesStore S.StoreModel register.old.store
         register.new.store (IsReplyAvailable result) ⊥ }
     ensures performs { S.IsUsable register.new.store
         → Performs (S.failed register.old.store) (S.failed register.new.store)
         (S.content register.old.store) (S.content register.new.store) caller.number
-        (UriQuery text.now) (response_text result (string_bytes room.new.body)) }
+        (UriQuery text.now) (response_text result (string_bytes response.new.body)) }
 {
     if let Err(refusal) = register.knows(caller) {
         return Err(Failure::Refused(refusal));
@@ -93,11 +93,11 @@ pub fn query<S: Store>(
         Ok(uri) => uri,
         Err(fault) => return Err(Failure::Uri(fault)),
     };
-    let Some(tn) = number_asked_for(&uri) else {
-        return put_text(room, text);
+    let Some(tn) = queried_number(&uri) else {
+        return put_text(response, text);
     };
     match register.query(caller, tn) {
-        Ok(answer) => put_routed(alloc, text, &uri, answer, room),
+        Ok(answer) => put_routed(alloc, text, &uri, answer, response),
         Err(refusal) => Err(Failure::Refused(refusal)),
     }
 }

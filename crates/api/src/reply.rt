@@ -37,197 +37,197 @@ impl ReplyBounds {
     };
 }
 
-/// Reserves memory for a body with the rows, downloads and ids of `counted`.
-pub fn take_counted(room: &mut ResponseBuffer, counted: ReplyBounds) -> Result<(), Refusal>
-    requires empty { IsEmpty room.old }
-    ensures ok { OnOk result (HasCapacityFor counted room.new) }
+/// Reserves memory for a body with the rows, downloads and ids of `bounds`.
+pub fn reserve_body(response: &mut ResponseBuffer, bounds: ReplyBounds) -> Result<(), Refusal>
+    requires empty { IsEmpty response.old }
+    ensures ok { OnOk result (HasCapacityFor bounds response.new) }
     ensures err { IfErr result (λ refusal. refusal ≡ Refusal.NoMemory) }
-    ensures empty { IsEmpty room.new }
-    ensures room { (n : ℕ) → HasCapacity n room.old → HasCapacity n room.new }
+    ensures empty { IsEmpty response.new }
+    ensures capacity { (n : ℕ) → HasCapacity n response.old → HasCapacity n response.new }
 {
-    if counted.rows > MOST || counted.downloads > MOST || counted.ids > MOST {
+    if bounds.rows > MOST || bounds.downloads > MOST || bounds.ids > MOST {
         return Err(Refusal::NoMemory);
     }
-    let listed = counted.rows * ROW_CAPACITY + counted.downloads * DOWNLOAD_CAPACITY;
-    room.take(64 + listed + counted.ids * ID_CAPACITY)?;
+    let listed = bounds.rows * ROW_CAPACITY + bounds.downloads * DOWNLOAD_CAPACITY;
+    response.take(64 + listed + bounds.ids * ID_CAPACITY)?;
     Ok(())
 }
 
 // Writes the reply to a registration. Its rows were counted before, so there are never more than
 // the reserved memory holds, and no message gets this `Storage`.
 fn put_starting_rows(
-    room: &mut ResponseBuffer,
+    response: &mut ResponseBuffer,
     spid: Spid,
     rows: &[RoutedRow],
-    counted: ReplyBounds,
+    bounds: ReplyBounds,
 ) -> Result<(), Failure>
-    requires empty { IsEmpty room.old }
-    requires room { HasCapacity 512 room.old }
-    requires counted { HasCapacityFor counted room.old }
-    ensures ok { OnOk result (IsWritten room.new) }
-    ensures room { HasCapacity 512 room.new }
+    requires empty { IsEmpty response.old }
+    requires capacity { HasCapacity 512 response.old }
+    requires bounds { HasCapacityFor bounds response.old }
+    ensures ok { OnOk result (IsWritten response.new) }
+    ensures capacity { HasCapacity 512 response.new }
     ensures body { OnOk result
-        (string_bytes room.new.body ≡ registered_text spid.number (map in_force_of rows.now)) }
-    ensures more { OnErr result (counted.rows < length rows.now) }
+        (string_bytes response.new.body ≡ registered_text spid.number (map in_force_of rows.now)) }
+    ensures more { OnErr result (bounds.rows < length rows.now) }
 {
-    if rows.len() > counted.rows {
+    if rows.len() > bounds.rows {
         return Err(Failure::Refused(Refusal::Storage));
     }
-    put_registered(&mut room.body, spid, rows);
+    put_registered(&mut response.body, spid, rows);
     Ok(())
 }
 
 // Writes the reply to a fetch. The register returns no more downloads than were asked for, so no
 // message gets this `Storage`.
 fn put_fetched(
-    room: &mut ResponseBuffer,
+    response: &mut ResponseBuffer,
     downloads: &[Download],
-    counted: ReplyBounds,
+    bounds: ReplyBounds,
 ) -> Result<(), Failure>
-    requires empty { IsEmpty room.old }
-    requires room { HasCapacity 512 room.old }
-    requires counted { HasCapacityFor counted room.old }
-    ensures ok { OnOk result (IsWritten room.new) }
-    ensures room { HasCapacity 512 room.new }
+    requires empty { IsEmpty response.old }
+    requires capacity { HasCapacity 512 response.old }
+    requires bounds { HasCapacityFor bounds response.old }
+    ensures ok { OnOk result (IsWritten response.new) }
+    ensures capacity { HasCapacity 512 response.new }
     ensures body { OnOk result
-        (string_bytes room.new.body ≡ downloads_text (map download_of downloads.now)) }
-    ensures more { OnErr result (counted.downloads < length downloads.now) }
+        (string_bytes response.new.body ≡ downloads_text (map download_of downloads.now)) }
+    ensures more { OnErr result (bounds.downloads < length downloads.now) }
 {
-    if downloads.len() > counted.downloads {
+    if downloads.len() > bounds.downloads {
         return Err(Failure::Refused(Refusal::Storage));
     }
-    put_downloads(&mut room.body, downloads);
+    put_downloads(&mut response.body, downloads);
     Ok(())
 }
 
 // Writes the reply to a donation. Memory was reserved for 100 ids, the most of a donation, so no
 // message gets this `Storage`.
-fn put_made(
-    room: &mut ResponseBuffer,
+fn put_donation(
+    response: &mut ResponseBuffer,
     block: BlockId,
     ids: &[u64],
-    counted: ReplyBounds,
+    bounds: ReplyBounds,
 ) -> Result<(), Failure>
-    requires empty { IsEmpty room.old }
-    requires room { HasCapacity 512 room.old }
-    requires counted { HasCapacityFor counted room.old }
-    ensures ok { OnOk result (IsWritten room.new) }
-    ensures room { HasCapacity 512 room.new }
+    requires empty { IsEmpty response.old }
+    requires capacity { HasCapacity 512 response.old }
+    requires bounds { HasCapacityFor bounds response.old }
+    ensures ok { OnOk result (IsWritten response.new) }
+    ensures capacity { HasCapacity 512 response.new }
     ensures body { OnOk result
-        (string_bytes room.new.body ≡ donated_text block.number ids.now) }
-    ensures more { OnErr result (counted.ids < length ids.now) }
+        (string_bytes response.new.body ≡ donated_text block.number ids.now) }
+    ensures more { OnErr result (bounds.ids < length ids.now) }
 {
-    if ids.len() > counted.ids {
+    if ids.len() > bounds.ids {
         return Err(Failure::Refused(Refusal::Storage));
     }
-    put_donated(&mut room.body, block, ids);
+    put_donated(&mut response.body, block, ids);
     Ok(())
 }
 
-fn put_shown(room: &mut ResponseBuffer, view: &VersionView)
-    requires empty { IsEmpty room.old }
-    requires room { HasCapacity 512 room.old }
-    ensures written { IsWritten room.new }
-    ensures room { HasCapacity 512 room.new }
-    ensures body { string_bytes room.new.body ≡ view_text (view_of view.now) }
+fn put_shown(response: &mut ResponseBuffer, view: &VersionView)
+    requires empty { IsEmpty response.old }
+    requires capacity { HasCapacity 512 response.old }
+    ensures written { IsWritten response.new }
+    ensures capacity { HasCapacity 512 response.new }
+    ensures body { string_bytes response.new.body ≡ view_text (view_of view.now) }
 {
-    put_version(&mut room.body, view);
+    put_version(&mut response.body, view);
 }
 
-fn put_found(room: &mut ResponseBuffer, ids: Ids)
-    requires empty { IsEmpty room.old }
-    requires room { HasCapacity 512 room.old }
-    ensures written { IsWritten room.new }
-    ensures room { HasCapacity 512 room.new }
-    ensures body { string_bytes room.new.body ≡ ids_text ids.in_force ids.opened }
+fn put_found(response: &mut ResponseBuffer, ids: Ids)
+    requires empty { IsEmpty response.old }
+    requires capacity { HasCapacity 512 response.old }
+    ensures written { IsWritten response.new }
+    ensures capacity { HasCapacity 512 response.new }
+    ensures body { string_bytes response.new.body ≡ ids_text ids.in_force ids.opened }
 {
-    put_ids(&mut room.body, ids);
+    put_ids(&mut response.body, ids);
 }
 
-fn put_moved(room: &mut ResponseBuffer, now: Minute)
-    requires empty { IsEmpty room.old }
-    requires room { HasCapacity 512 room.old }
-    ensures written { IsWritten room.new }
-    ensures room { HasCapacity 512 room.new }
-    ensures body { string_bytes room.new.body ≡ now_text now.number }
+fn put_moved(response: &mut ResponseBuffer, now: Minute)
+    requires empty { IsEmpty response.old }
+    requires capacity { HasCapacity 512 response.old }
+    ensures written { IsWritten response.new }
+    ensures capacity { HasCapacity 512 response.new }
+    ensures body { string_bytes response.new.body ≡ now_text now.number }
 {
-    put_now(&mut room.body, now);
+    put_now(&mut response.body, now);
 }
 
-fn put_set(room: &mut ResponseBuffer, now: Minute, number: u16)
-    requires empty { IsEmpty room.old }
-    requires room { HasCapacity 512 room.old }
-    ensures written { IsWritten room.new }
-    ensures room { HasCapacity 512 room.new }
-    ensures body { string_bytes room.new.body ≡ windows_set_text now.number number }
+fn put_set(response: &mut ResponseBuffer, now: Minute, number: u16)
+    requires empty { IsEmpty response.old }
+    requires capacity { HasCapacity 512 response.old }
+    ensures written { IsWritten response.new }
+    ensures capacity { HasCapacity 512 response.new }
+    ensures body { string_bytes response.new.body ≡ windows_set_text now.number number }
 {
-    put_windows_set(&mut room.body, now, number);
+    put_windows_set(&mut response.body, now, number);
 }
 
-/// Writes a reply. Fails only if it has more rows, downloads or ids than `counted`.
+/// Writes a reply. Fails only if it has more rows, downloads or ids than `bounds`.
 pub fn put_reply(
-    room: &mut ResponseBuffer,
+    response: &mut ResponseBuffer,
     reply: &Reply,
-    counted: ReplyBounds,
+    bounds: ReplyBounds,
 ) -> Result<(), Failure>
-    requires empty { IsEmpty room.old }
-    requires room { HasCapacity 512 room.old }
-    requires counted { HasCapacityFor counted room.old }
-    ensures ok { OnOk result (IsWritten room.new) }
-    ensures room { HasCapacity 512 room.new }
+    requires empty { IsEmpty response.old }
+    requires capacity { HasCapacity 512 response.old }
+    requires bounds { HasCapacityFor bounds response.old }
+    ensures ok { OnOk result (IsWritten response.new) }
+    ensures capacity { HasCapacity 512 response.new }
     ensures text { OnOk result
-        (success (string_bytes room.new.body) ≡ reply_text (reply_of reply.now)) }
-    ensures more { OnErr result (Outgrows counted (reply_of reply.now)) }
+        (success (string_bytes response.new.body) ≡ reply_text (reply_of reply.now)) }
+    ensures more { OnErr result (Outgrows bounds (reply_of reply.now)) }
 {
     match reply {
-        Reply::Registered { spid, rows } => put_starting_rows(room, *spid, rows, counted),
-        Reply::Fetched(downloads) => put_fetched(room, downloads, counted),
-        Reply::Donated { block, ids } => put_made(room, *block, ids, counted),
+        Reply::Registered { spid, rows } => put_starting_rows(response, *spid, rows, bounds),
+        Reply::Fetched(downloads) => put_fetched(response, downloads, bounds),
+        Reply::Donated { block, ids } => put_donation(response, *block, ids, bounds),
         Reply::RoutingNumberRegistered { lrn, spid } => {
-            put_routing_number(&mut room.body, *lrn, *spid);
+            put_routing_number(&mut response.body, *lrn, *spid);
             Ok(())
         }
         Reply::CodeOpened { code, spid } => {
-            put_opened_code(&mut room.body, *code, *spid);
+            put_opened_code(&mut response.body, *code, *spid);
             Ok(())
         }
         Reply::Shown(view) => {
-            put_shown(room, view);
+            put_shown(response, view);
             Ok(())
         }
         Reply::Found(ids) => {
-            put_found(room, *ids);
+            put_found(response, *ids);
             Ok(())
         }
         Reply::Moved(now) => {
-            put_moved(room, *now);
+            put_moved(response, *now);
             Ok(())
         }
         Reply::WindowsSet { now, number } => {
-            put_set(room, *now, *number);
+            put_set(response, *now, *number);
             Ok(())
         }
     }
 }
 
 /// Writes the response to a message that was not executed.
-pub fn put_refused(room: &mut ResponseBuffer, failure: Failure)
-    requires room { HasCapacity 512 room.old }
-    ensures room { HasCapacity 512 room.new }
-    ensures text { string_bytes room.new.text ≡ failure_text failure }
+pub fn put_refused(response: &mut ResponseBuffer, failure: Failure)
+    requires capacity { HasCapacity 512 response.old }
+    ensures capacity { HasCapacity 512 response.new }
+    ensures text { string_bytes response.new.text ≡ failure_text failure }
 {
-    room.clear();
-    put_failure(&mut room.body, failure);
-    room.finish(failure.status());
+    response.clear();
+    put_failure(&mut response.body, failure);
+    response.finish(failure.status());
 }
 
 /// Writes the response to a message that was executed.
 #[tactic(auto, unfolding(crate::specs::Step::success))]
-pub fn put_success(room: &mut ResponseBuffer)
-    requires written { IsWritten room.old }
-    requires room { HasCapacity 512 room.old }
-    ensures room { HasCapacity 512 room.new }
-    ensures text { string_bytes room.new.text ≡ success (string_bytes room.old.body) }
+pub fn put_success(response: &mut ResponseBuffer)
+    requires written { IsWritten response.old }
+    requires capacity { HasCapacity 512 response.old }
+    ensures capacity { HasCapacity 512 response.new }
+    ensures text { string_bytes response.new.text ≡ success (string_bytes response.old.body) }
 {
-    room.finish(200);
+    response.finish(200);
 }

@@ -1,4 +1,4 @@
-//! The serving loop: reads messages, executes them, and writes the answers.
+//! The serving loop: reads messages, executes them, and writes the responses.
 ghost use Rattle.std.specs.Prelude.{◌≡◌, ◌≤◌, ℕ, List, [], length, Option, Some, None, option_map, string_bytes, vec_len, IfOk, IfErr, IfSome, ◌⊎◌};
 ghost use Rattle.numbers.specs.declared.minute.Minute.{Minute as MinuteImpl};
 ghost use Rattle.model.specs.State.{State};
@@ -14,7 +14,7 @@ ghost use Rattle.api.specs.Ticks.{ConsumesTick};
 
 use crate::call::write_response;
 use crate::reply::put_refused;
-use crate::tick::take_tick;
+use crate::tick::move_clock;
 use http_messages::{
     MessageFault, NextFault, NextMessage, ReadBuffer, Request, Route, next_buffered, next_message,
     router, send_all,
@@ -90,9 +90,9 @@ pub enum Fault {
     Memory(u64),
 }
 
-// Moves the clock to the minute that `ticks` supplies, executes the message, and writes its answer
-// to `room`. If the clock cannot be moved, answers with that failure and does not execute the
-// message.
+// Moves the clock to the minute that `ticks` supplies, executes the message, and writes the
+// response to `response`. If the clock cannot be moved, that failure is the response and the
+// message is not executed.
 fn tick_and_answer<S: Store, T: Ticks>(
     alloc: Global,
     register: &mut Register<S>,
@@ -100,30 +100,29 @@ fn tick_and_answer<S: Store, T: Ticks>(
     ticks: &mut T,
     request: &Request,
     body: &[u8],
-    room: &mut ResponseBuffer,
+    response: &mut ResponseBuffer,
 )
-    requires { HasCapacity 512 room.old }
-    ensures room { HasCapacity 512 room.new }
+    requires { HasCapacity 512 response.old }
+    ensures capacity { HasCapacity 512 response.new }
     ensures usable { S.IsUsable register.new.store → S.IsUsable register.old.store }
     ensures rises { S.failed register.old.store ≤ S.failed register.new.store }
     ensures honest { S.HasHonestDevice register.new.store → S.HasHonestDevice register.old.store }
     ensures stays { S.IsUsable register.old.store → S.HasHonestDevice register.new.store
-        → IsUnavailableText (string_bytes room.new.text) ⊎ S.IsUsable register.new.store }
+        → IsUnavailableText (string_bytes response.new.text) ⊎ S.IsUsable register.new.store }
     ensures responds { S.IsUsable register.new.store
         → Responds clock (T.remaining ticks.old) (T.remaining ticks.new)
-        (S.failed register.old.store)
-        (S.failed register.new.store) (NextMessage.Message request.now) body.now
-        (string_bytes room.new.text) (S.content register.old.store)
-        (S.content register.new.store) }
+        (S.failed register.old.store) (S.failed register.new.store)
+        (NextMessage.Message request.now) body.now (string_bytes response.new.text)
+        (S.content register.old.store) (S.content register.new.store) }
 {
     let tick = ticks.next();
-    match take_tick(register, tick) {
-        Ok(()) => write_response(alloc, register, clock, request, body, room),
-        Err(refusal) => put_refused(room, Failure::Refused(refusal)),
+    match move_clock(register, tick) {
+        Ok(()) => write_response(alloc, register, clock, request, body, response),
+        Err(refusal) => put_refused(response, Failure::Refused(refusal)),
     }
 }
 
-// Writes the answer to `next` to `room`. Returns why serving ends if that answer is the last.
+// Writes the response to `next` to `response`. Returns why serving ends if it is the last.
 fn respond<S: Store, T: Ticks>(
     alloc: Global,
     register: &mut Register<S>,
@@ -131,25 +130,26 @@ fn respond<S: Store, T: Ticks>(
     ticks: &mut T,
     next: NextMessage,
     body: &[u8],
-    room: &mut ResponseBuffer,
+    response: &mut ResponseBuffer,
 ) -> Option<End>
-    requires { HasCapacity 512 room.old }
-    ensures room { HasCapacity 512 room.new }
+    requires { HasCapacity 512 response.old }
+    ensures capacity { HasCapacity 512 response.new }
     ensures end { result ≡ end_of next }
     ensures usable { S.IsUsable register.new.store → S.IsUsable register.old.store }
     ensures rises { S.failed register.old.store ≤ S.failed register.new.store }
     ensures honest { S.HasHonestDevice register.new.store → S.HasHonestDevice register.old.store }
     ensures stays { S.IsUsable register.old.store → S.HasHonestDevice register.new.store
-        → IsUnavailableResponse next (string_bytes room.new.text) ⊎ S.IsUsable register.new.store }
+        → IsUnavailableResponse next (string_bytes response.new.text)
+        ⊎ S.IsUsable register.new.store }
     ensures responds { S.IsUsable register.new.store
         → Responds clock (T.remaining ticks.old) (T.remaining ticks.new)
         (S.failed register.old.store)
-        (S.failed register.new.store) next body.now (string_bytes room.new.text)
+        (S.failed register.new.store) next body.now (string_bytes response.new.text)
         (S.content register.old.store) (S.content register.new.store) }
 {
     match next {
         NextMessage::Message(request) => {
-            tick_and_answer(alloc, register, clock, ticks, &request, body, room);
+            tick_and_answer(alloc, register, clock, ticks, &request, body, response);
             if request.closes {
                 Some(End::Closed)
             } else {
@@ -157,7 +157,7 @@ fn respond<S: Store, T: Ticks>(
             }
         }
         NextMessage::Refused(fault) => {
-            put_refused(room, Failure::Message(fault));
+            put_refused(response, Failure::Message(fault));
             Some(End::Refused(fault))
         }
     }
@@ -166,45 +166,45 @@ fn respond<S: Store, T: Ticks>(
 // Returns the message at hand, or reads the next one.
 fn next_of<R: Read>(
     at_hand: Option<Request>,
-    held: &mut ReadBuffer,
+    buffer: &mut ReadBuffer,
     headers: &mut [HeaderSpan],
     router: &Router<Route>,
     reader: &mut R,
     body: &mut Vec<u8>,
 ) -> Result<Option<NextMessage>, NextFault>
-    requires room { length headers.old ≡ 64 }
-    requires size { vec_len held.old.bytes ≡ 8192 }
+    requires capacity { length headers.old ≡ 64 }
+    requires size { vec_len buffer.old.bytes ≡ 8192 }
     requires router { router.now ≡ table }
-    ensures size { vec_len held.new.bytes ≡ 8192 }
-    ensures room { length headers.new ≡ 64 }
+    ensures size { vec_len buffer.new.bytes ≡ 8192 }
+    ensures capacity { length headers.new ≡ 64 }
     ensures cut { (left : Option (List ℕ))
-        → IsTaken left at_hand body.old.items (remaining_input held.old (R.remaining reader.old))
+        → IsTaken left at_hand body.old.items (remaining_input buffer.old (R.remaining reader.old))
         → IfOk result (λ next. IfSome left (λ input. IsNextOrEnd input next body.new.items
-        (remaining_input held.new (R.remaining reader.new)))) }
+        (remaining_input buffer.new (R.remaining reader.new)))) }
     ensures read { (left : Option (List ℕ))
-        → IsTaken left at_hand body.old.items (remaining_input held.old (R.remaining reader.old))
+        → IsTaken left at_hand body.old.items (remaining_input buffer.old (R.remaining reader.old))
         → IfSome left (λ input. IsRead result input (R.remaining reader.new)) }
 {
     match at_hand {
         Some(request) => Ok(Some(NextMessage::Message(request))),
-        None => next_message(held, headers, router, reader, body),
+        None => next_message(buffer, headers, router, reader, body),
     }
 }
 
-/// The buffers of a connection: input not yet consumed, the current answer, and the router.
+/// The buffers of a connection: input not yet consumed, the current response, and the router.
 #[derive(Drop)]
 struct Buffers {
-    held: ReadBuffer,
-    room: ResponseBuffer,
+    buffer: ReadBuffer,
+    response: ResponseBuffer,
     router: Router<Route>,
 }
 
 impl Buffers {
     // Allocates empty buffers. Returns `None` if an allocation fails.
     fn new(alloc: Global) -> Option<Buffers>
-        ensures size { IfSome result (λ made. vec_len made.held.bytes ≡ 8192) }
-        ensures empty { IfSome result (λ made. buffered_bytes made.held ≡ []) }
-        ensures room { IfSome result (λ made. HasCapacity 512 made.room) }
+        ensures size { IfSome result (λ made. vec_len made.buffer.bytes ≡ 8192) }
+        ensures empty { IfSome result (λ made. buffered_bytes made.buffer ≡ []) }
+        ensures capacity { IfSome result (λ made. HasCapacity 512 made.response) }
         ensures router { IfSome result (λ made. made.router ≡ table) }
     {
         match (
@@ -212,7 +212,11 @@ impl Buffers {
             ResponseBuffer::new(alloc),
             router(alloc),
         ) {
-            (Ok(held), Ok(room), Ok(router)) => Some(Buffers { held, room, router }),
+            (Ok(buffer), Ok(response), Ok(router)) => Some(Buffers {
+                buffer,
+                response,
+                router,
+            }),
             _ => None,
         }
     }
@@ -228,9 +232,9 @@ fn serve_with<S: Store, T: Ticks, R: Read, W: Write>(
     writer: &mut W,
     buffers: &mut Buffers,
 ) -> Result<Served, Fault>
-    requires size { vec_len buffers.old.held.bytes ≡ 8192 }
-    requires empty { buffered_bytes buffers.old.held ≡ [] }
-    requires room { HasCapacity 512 buffers.old.room }
+    requires size { vec_len buffers.old.buffer.bytes ≡ 8192 }
+    requires empty { buffered_bytes buffers.old.buffer ≡ [] }
+    requires capacity { HasCapacity 512 buffers.old.response }
     requires router { buffers.old.router ≡ table }
     ensures serves { S.IsUsable register.new.store → (st : State)
         → Refines (S.content register.old.store) st
@@ -258,13 +262,17 @@ fn serve_with<S: Store, T: Ticks, R: Read, W: Write>(
     ensures rises { S.failed register.old.store ≤ S.failed register.new.store }
     ensures honest { S.HasHonestDevice register.new.store → S.HasHonestDevice register.old.store }
 {
-    let Buffers { held, room, router } = buffers;
+    let Buffers {
+        buffer,
+        response,
+        router,
+    } = buffers;
     let clock = options.clock_route;
     let mut body = Vec::new(alloc);
     let mut headers = [EMPTY_HEADER_SPAN; FIELD_LIMIT];
     let mut at_hand = None;
     for count in 0..u64::MAX {
-        let next = match next_of(at_hand, held, &mut headers, router, reader, &mut body) {
+        let next = match next_of(at_hand, buffer, &mut headers, router, reader, &mut body) {
             Ok(Some(next)) => next,
             Ok(None) => {
                 let end = End::Input;
@@ -273,11 +281,11 @@ fn serve_with<S: Store, T: Ticks, R: Read, W: Write>(
             Err(NextFault::Read) => return Err(Fault::Read(count)),
             Err(NextFault::Memory) => return Err(Fault::Memory(count)),
         };
-        let end = respond(alloc, register, clock, ticks, next, &body, room);
-        at_hand = next_buffered(held, &mut headers, router, &mut body);
-        // Flush before a read: it may block on a client that is waiting for these answers.
+        let end = respond(alloc, register, clock, ticks, next, &body, response);
+        at_hand = next_buffered(buffer, &mut headers, router, &mut body);
+        // Flush before a read: it may block on a client that is waiting for these responses.
         let flushes = end.is_some() || at_hand.is_none();
-        match send_all(writer, room.text.as_bytes(), flushes) {
+        match send_all(writer, response.text.as_bytes(), flushes) {
             Ok(()) => {}
             Err(_) => return Err(Fault::Write(count)),
         }
@@ -289,24 +297,24 @@ fn serve_with<S: Store, T: Ticks, R: Read, W: Write>(
     Err(Fault::Memory(u64::MAX))
 }
 
-/// Serves the messages of `reader` in order, and writes their answers to `writer`.
+/// Serves the messages of `reader` in order, and writes their responses to `writer`.
 ///
 /// Before a message is executed, the clock moves to the next minute of `ticks`; a minute below the
-/// present one is ignored. If the move fails with `Storage` or `NoMemory`, the message is answered
-/// with that and not executed. A message refused with `BadHead`, `TooLarge` or `CutBody` takes no
+/// present one is ignored. If the move fails with `Storage` or `NoMemory`, that is the response and
+/// the message is not executed. A message refused with `BadHead`, `TooLarge` or `CutBody` takes no
 /// minute, and nothing after it is read.
 ///
-/// Each answer goes to the writer before the next message is executed. The writer is flushed before
-/// the reader is asked for more and when serving ends, but not while the next message has already
-/// been read in full. So a buffered writer collects the answers to messages that arrive together,
-/// and a client that waits for an answer gets it.
+/// Each response goes to the writer before the next message is executed. The writer is flushed
+/// before the reader is asked for more and when serving ends, but not while the next message has
+/// already been read in full. So a buffered writer collects the responses to messages that arrive
+/// together, and a client that waits for a response gets it.
 ///
 /// # Errors
 ///
 /// - `Read` if the reader fails, `Memory` if a buffer cannot be allocated or after 2^64 - 1
 ///   messages. The message being read has not been executed.
-/// - `Write` if the writer fails. The message whose answer was cut short has been executed, unless
-///   it was refused as above.
+/// - `Write` if the writer fails. Unless it was refused as above, the message whose response was
+///   cut short had its step: it was executed, or the move of the clock failed.
 pub fn serve<S: Store, T: Ticks, R: Read, W: Write>(
     alloc: Global,
     register: &mut Register<S>,
@@ -315,8 +323,8 @@ pub fn serve<S: Store, T: Ticks, R: Read, W: Write>(
     reader: &mut R,
     writer: &mut W,
 ) -> Result<Served, Fault>
-    // If the reader's bytes are known: every message, its answer, and what has been read, supplied
-    // and written when serving ends.
+    // If the store is usable when serving ends and the reader's bytes are known: every message, its
+    // response, and what has been read, supplied and written when serving ends.
     ensures serves { S.IsUsable register.new.store → (st : State)
         → Refines (S.content register.old.store) st
         → IfSome (R.remaining reader.old)
@@ -330,20 +338,21 @@ pub fn serve<S: Store, T: Ticks, R: Read, W: Write>(
           written_before = W.contents writer.old;
           written_after = W.contents writer.new;
         })) }
-    // If the store shuts on the way: the answers up to the first `Storage` or `NoMemory` are those
-    // of a run.
+    // If the store shuts over an honest device: the responses up to some `Storage` or `NoMemory`
+    // are those of a run.
     ensures until { S.IsUsable register.old.store → S.HasHonestDevice register.new.store
         → S.IsUsable register.new.store
         ⊎ ((st : State) → Refines (S.content register.old.store) st
         → IfSome (R.remaining reader.old)
         (λ input. WritesUntil options.now.clock_route (S.failed register.old.store) st input
         (T.remaining ticks.old) (W.contents writer.old) (W.contents writer.new))) }
-    // Even if the reader's bytes are not known: the content refines a state that some inputs lead
-    // to.
+    // If the store is usable when serving ends, even if the bytes are not known: the content
+    // refines a state that some inputs lead to.
     ensures state { S.IsUsable register.new.store → (st : State)
         → Refines (S.content register.old.store) st
         → RefinesReachable st (S.content register.new.store) }
-    // Serving does not make a shut store usable again, and forgets no failure.
+    // Serving does not make a shut store usable or a dishonest device honest, nor does it forget a
+    // failure.
     ensures usable { S.IsUsable register.new.store → S.IsUsable register.old.store }
     ensures rises { S.failed register.old.store ≤ S.failed register.new.store }
     ensures honest { S.HasHonestDevice register.new.store → S.HasHonestDevice register.old.store }

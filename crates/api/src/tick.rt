@@ -15,14 +15,14 @@ use settle::Store;
 
 /// Moves the clock to the minute `tick`, if one is supplied. Ignores a minute below the present
 /// one.
-pub fn take_tick<S: Store>(register: &mut Register<S>, tick: Option<Minute>) -> Result<(), Refusal>
-    ensures preserves { PreservesStore S.IsUsable S.HasHonestDevice S.failed register.old.store
+pub fn move_clock<S: Store>(register: &mut Register<S>, tick: Option<Minute>) -> Result<(), Refusal>
+    ensures preserves { PreservesStore S.StoreModel register.old.store
         register.new.store (IsAvailable result) ⊥ }
     ensures moved { OnOk result (S.IsUsable register.new.store → (st : State)
         → Refines (S.content register.old.store) st
         → Refines (S.content register.new.store)
         (ticked st (option_map (λ (m : MinuteImpl). m.number) tick))) }
-    ensures short { IfErr result (λ refusal. S.IsUsable register.new.store → (st : State)
+    ensures unavailable { IfErr result (λ refusal. S.IsUsable register.new.store → (st : State)
         → Refines (S.content register.old.store) st
         → IsTickUnavailable (S.failed register.old.store) (S.failed register.new.store) st
         (option_map (λ (m : MinuteImpl). m.number) tick)

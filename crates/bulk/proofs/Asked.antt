@@ -7,6 +7,7 @@ use Rattle.model.specs.Refusals.{QuestionFrom, Ids, refusal}
 use Rattle.register.specs.Refinement.{Refines}
 use Rattle.bulk.specs.Report.{in_force_id, open_id}
 use Rattle.settle.specs.StoreContract.{PreservesStore, ReportsStorage}
+use Rattle.settle.specs.declared.store_model.StoreModel.{Ghosts}
 use Rattle.std.proofs.Math.Nat.{le_refl, le_trans}
 use Rattle.settle.proofs.Risen.{risen-since}
 
@@ -24,15 +25,16 @@ ids_are st tn a b e =
 
 -- Two calls in order preserve the store, if the content between them refines a later state.
 pub owes_on :
-    {S First Settles Answers Says : Type 0} {IsUsable HasHonestDevice : S → Type 0} {failed : S
-    → ℕ} {before mid after : S} {old between : Content} →
-    PreservesStore IsUsable HasHonestDevice failed before mid Settles First
-    → PreservesStore IsUsable HasHonestDevice failed mid after Answers
-    (ReportsStorage (IsUsable after) between Says)
-    → (IsUsable mid → (st : State) → Refines old st → (later : State) × Refines between later) →
-    PreservesStore IsUsable HasHonestDevice failed before after ⊥ (ReportsStorage (IsUsable after)
+    {S First Settles Answers Says : Type 0} {store : Ghosts S} {before mid after : S}
+    {old between : Content} →
+    PreservesStore store before mid Settles First
+    → PreservesStore store mid after Answers
+    (ReportsStorage (store.IsUsable after) between Says)
+    → (store.IsUsable mid → (st : State) → Refines old st → (later : State) × Refines between later)
+    →
+    PreservesStore store before after ⊥ (ReportsStorage (store.IsUsable after)
     old Says)
-owes_on {failed = failed} {before = before} {mid = mid} {after = after} first second on = record {
+owes_on {store = store} {before = before} {mid = mid} {after = after} first second on = record {
   usable = λ u. first.usable (second.usable u);
   honest = λ h. first.honest (second.honest h);
   stays = λ never. absurd never;
@@ -43,7 +45,8 @@ owes_on {failed = failed} {before = before} {mid = mid} {after = after} first se
         written =
             s.written;
       }) in
-      risen-since (failed before) (failed mid) (failed after) first.rises second.rises
+      risen-since (store.failed before) (store.failed mid) (store.failed after) first.rises
+      second.rises
       (second.storage (record {
         usable = s.usable;
         st = at.0;
@@ -55,23 +58,23 @@ owes_on {failed = failed} {before = before} {mid = mid} {after = after} first se
 
 -- Two calls in order preserve the store, if the content between them refines the same state.
 pub owes_then :
-    {S First Settles Answers Says : Type 0} {IsUsable HasHonestDevice : S → Type 0} {failed : S
-    → ℕ} {before mid after : S} {old between : Content} →
-    PreservesStore IsUsable HasHonestDevice failed before mid Settles First
-    → PreservesStore IsUsable HasHonestDevice failed mid after Answers
-    (ReportsStorage (IsUsable after) between Says)
-    → (IsUsable mid → (st : State) → Refines old st → Refines between st) →
-    PreservesStore IsUsable HasHonestDevice failed before after ⊥ (ReportsStorage (IsUsable after)
+    {S First Settles Answers Says : Type 0} {store : Ghosts S} {before mid after : S}
+    {old between : Content} →
+    PreservesStore store before mid Settles First
+    → PreservesStore store mid after Answers
+    (ReportsStorage (store.IsUsable after) between Says)
+    → (store.IsUsable mid → (st : State) → Refines old st → Refines between st) →
+    PreservesStore store before after ⊥ (ReportsStorage (store.IsUsable after)
     old Says)
 owes_then first second kept = owes_on first second (λ u st s. (st, kept u st s))
 
 -- No call preserves the store.
-pub owes_none : {S : Type 0} (IsUsable HasHonestDevice : S → Type 0) (failed : S → ℕ) (s : S)
-    → PreservesStore IsUsable HasHonestDevice failed s s ⊥ ⊥
-owes_none IsUsable HasHonestDevice failed s = record {
+pub owes_none : {S : Type 0} (store : Ghosts S) (s : S)
+    → PreservesStore store s s ⊥ ⊥
+owes_none store s = record {
   usable = λ u. u;
   honest = λ h. h;
   stays = λ never. absurd never;
-  rises = le_refl (failed s);
+  rises = le_refl (store.failed s);
   storage = λ x. absurd x;
 }

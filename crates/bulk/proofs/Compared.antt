@@ -13,12 +13,12 @@ use Rattle.delivery.specs.Mirrors.{in_force_of}
 use Rattle.delivery.specs.declared.mirror.RoutedRow.{RoutedRow}
 use Rattle.model.specs.Copies.{copy_of_rows}
 use Rattle.model.specs.State.{State, InForce, all_in_force, is_carrier}
-use Rattle.bulk.specs.Audits.{AreEntries, Audits, EachOnce, Finds, IsNotRead, copy_header, subjects_in}
+use Rattle.bulk.specs.Audits.{AreEntries, Audits, AreDistinct, Finds, IsNotRead, copy_header, subjects_in}
 use Rattle.bulk.specs.Comparing.{AreCompared, ComparesFile, IsNotCompared}
 use Rattle.bulk.specs.Files.{EndsWithin, file_text}
 use Rattle.bulk.specs.Findings.{audit_header, awaited, finding_line, finding_of}
 use Rattle.bulk.specs.Rows.{Row, AreRowsOf}
-use Rattle.bulk.specs.Sides.{found_in, found_of, routed_after, sides_at, waits_after}
+use Rattle.bulk.specs.Sides.{found_in, found_of, routed_after, sides_at, waiting_after}
 use Rattle.bulk.specs.declared.fault.BulkFault.{BulkFault}
 use Rattle.bulk.specs.declared.fault.FaultKind.{FaultKind}
 use Rattle.bulk.specs.declared.fault.FaultKind.TheVariants.{BadHeader, BadFile, UnknownCarrier, Storage, NoMemory, Read, Write}
@@ -33,7 +33,7 @@ Map = BTreeMap Subject Sides
 
 -- The finding by three sides is that of the definitions.
 sides_found : (rows entries : List RoutedRow) (subjects : List Subject) (s : Subject) →
-    finding_of (waits_after subjects s false) (option_map routing_of (routed_after rows s None))
+    finding_of (waiting_after subjects s false) (option_map routing_of (routed_after rows s None))
     (option_map routing_of (routed_after entries s None))
     ≡ finding_of (list_any (λ t. subject_eq t (subject_of s)) (map subject_of subjects))
     (copy_of_rows (map in_force_of rows) (subject_of s)) (copy_of_rows (map in_force_of entries)
@@ -52,7 +52,7 @@ abbrev all_sides : (rows entries : List RoutedRow) (subjects : List Subject) (s 
 all_sides rows entries subjects s = record {
   in_force = routed_after rows s None;
   copied = routed_after entries s None;
-  waits = waits_after subjects s false;
+  is_waiting = waiting_after subjects s false;
 }
 
 -- The three sides were added in order, and the findings computed from them.
@@ -62,13 +62,13 @@ pub are_compared :
     ((s : Subject) → sides_at first s ≡ record {
       in_force = None;
       copied = routed_after entries s None;
-      waits = false;
+      is_waiting = false;
     }) →
     ((s : Subject) → sides_at second s ≡ record (sides_at first s) {
       in_force = routed_after rows s (sides_at first s).in_force;
     }) →
     ((s : Subject) → sides_at third s ≡ record (sides_at second s) {
-      waits = waits_after subjects s (sides_at second s).waits;
+      is_waiting = waiting_after subjects s (sides_at second s).is_waiting;
     }) →
     findings ≡ found_in third.entries → IsOrdered (on key_of nat_cmp) third
     → AreCompared rows subjects entries findings
@@ -76,7 +76,8 @@ are_compared rows entries subjects findings first second third copied in_force w
     let all : (s : Subject) → sides_at third s ≡ all_sides rows entries subjects s =
     λ s.
     waits s
-    ∙ ap (λ (x : Sides). record x { waits = waits_after subjects s x.waits }) (in_force s
+    ∙ ap (λ (x : Sides). record x { is_waiting = waiting_after subjects s x.is_waiting }) (in_force
+    s
     ∙ ap (λ (x : Sides). record x { in_force = routed_after rows s x.in_force }) (copied s)) in
     subst (λ (fs : List SubjectFinding). AreCompared rows subjects entries fs) (sym found)
     (record {
@@ -92,14 +93,14 @@ pub file_compared :
     (in_force : List RoutedRow) (waiting : List Subject) (bytes : List ℕ) (rows others : List Row)
     (entries : List RoutedRow) (findings : List SubjectFinding) → AreRowsOf bytes rows
     → rows ≡ copy_header ∷ others →
-    AreEntries others entries → EachOnce (subjects_in entries)
+    AreEntries others entries → AreDistinct (subjects_in entries)
     → AreCompared in_force waiting entries findings → ComparesFile in_force waiting bytes findings
-file_compared in_force waiting bytes rows others entries findings are e read once compared =
+file_compared in_force waiting bytes rows others entries findings are e read distinct compared =
     record {
       rows = others;
       entries = entries;
       file = (let P : List Row → Type 0 = λ rs. AreRowsOf bytes rs in subst P e are);
-      copy = record { read = read; once = once };
+      copy = record { read = read; distinct = distinct };
       compared = compared;
     }
 
@@ -107,13 +108,13 @@ file_compared in_force waiting bytes rows others entries findings are e read onc
 pub not_compared :
     (kind : FaultKind) (bytes : List ℕ) (rows others : List Row) (entries : List RoutedRow)
     → AreRowsOf bytes rows → rows ≡ copy_header ∷ others → AreEntries others entries →
-    (kind ≡ BadFile → ¬ (EachOnce (subjects_in entries))) → (kind ≡ BadFile) ⊎ (kind ≡ NoMemory)
+    (kind ≡ BadFile → ¬ (AreDistinct (subjects_in entries))) → (kind ≡ BadFile) ⊎ (kind ≡ NoMemory)
     → IsNotCompared kind bytes
-not_compared kind bytes rows others entries are e read twice (inl is) =
+not_compared kind bytes rows others entries are e read duplicate (inl is) =
     let P : List Row → Type 0 = λ rs. AreRowsOf bytes rs in
     subst (λ k. IsNotCompared k bytes) (sym is)
-    (others, subst P e are, inr (entries, read, twice is))
-not_compared kind bytes rows others entries are e read twice (inr is) =
+    (others, subst P e are, inr (entries, read, duplicate is))
+not_compared kind bytes rows others entries are e read duplicate (inr is) =
     subst (λ k. IsNotCompared k bytes) (sym is) tt
 
 -- The file was not read.
@@ -141,7 +142,7 @@ pub file_compares :
     (in_force : List RoutedRow) (waiting : List Subject) (entries seen : List RoutedRow)
     → seen ≡ entries →
     ((bytes : List ℕ) → o ≡ Some bytes → IsReadAs bytes entries)
-    → IfOk r (λ v. EachOnce (subjects_in seen) × AreCompared in_force waiting seen (items v)) →
+    → IfOk r (λ v. AreDistinct (subjects_in seen) × AreCompared in_force waiting seen (items v)) →
     IfOk r (λ v. IfSome o (λ bytes. ComparesFile in_force waiting bytes (items v)))
 file_compares (Err kind) items o in_force waiting entries seen same read compared = tt
 file_compares (Ok v) items o in_force waiting entries seen same read compared =
@@ -155,17 +156,17 @@ file_compares (Ok v) items o in_force waiting entries seen same read compared =
 pub file_not_compared :
     {V : Type 0} (r : Result V FaultKind) (o : Option (List ℕ)) (entries seen : List RoutedRow)
     → seen ≡ entries → ((bytes : List ℕ) → o ≡ Some bytes → IsReadAs bytes entries) →
-    (r ≡ Err BadFile → ¬ (EachOnce (subjects_in seen)))
+    (r ≡ Err BadFile → ¬ (AreDistinct (subjects_in seen)))
     → IfErr r (λ kind. (kind ≡ BadFile) ⊎ (kind ≡ NoMemory))
     → IfErr r (λ kind. IfSome o (IsNotCompared kind))
-file_not_compared (Ok v) o entries seen same read twice kinds = tt
-file_not_compared (Err kind) o entries seen same read twice kinds =
+file_not_compared (Ok v) o entries seen same read duplicate kinds = tt
+file_not_compared (Err kind) o entries seen same read duplicate kinds =
     known o (IsNotCompared kind)
     (λ bytes e.
     let at = read bytes e in
     not_compared kind bytes at.rows at.others seen at.are at.header
     (subst (λ (es : List RoutedRow). AreEntries at.others es) (sym same) at.read)
-    (λ is. twice (ap Err is)) kinds)
+    (λ is. duplicate (ap Err is)) kinds)
 
 -- ---- an audit
 
@@ -211,11 +212,11 @@ pub all_audited :
     → IfSome o (λ bytes. ComparesFile in_force waiting bytes findings) →
     (k ≡ length sent) × Appends had has (file_text audit_header (map finding_line sent))
     → IfSome o (λ bytes. Audits st carrier bytes had has (Ok k))
-all_audited st carrier o had has in_force waiting findings sent k same held file all =
+all_audited st carrier o had has in_force waiting findings sent k same side file all =
     with_bytes o (λ bytes one. (
       sent,
       subst (λ (fs : List SubjectFinding). Finds st carrier bytes fs) (sym same)
-          (finds st carrier bytes in_force waiting findings held.0 held.1 held.2 one),
+          (finds st carrier bytes in_force waiting findings side.0 side.1 side.2 one),
       all.0,
       all.1,
     )) file
@@ -229,12 +230,12 @@ pub part_audited :
     → IfSome o (λ bytes. ComparesFile in_force waiting bytes findings) →
     EndsWithin had has audit_header (map finding_line sent) k
     → IfSome o (λ bytes. Audits st carrier bytes had has (Err fault))
-part_audited st carrier o had has in_force waiting findings sent k fault kind rows same held file
+part_audited st carrier o had has in_force waiting findings sent k fault kind rows same side file
     part =
     with_bytes o (λ bytes one.
     let found =
     subst (λ (fs : List SubjectFinding). Finds st carrier bytes fs) (sym same)
-    (finds st carrier bytes in_force waiting findings held.0 held.1 held.2 one) in
+    (finds st carrier bytes in_force waiting findings side.0 side.1 side.2 one) in
     inr (
       kind,
       (

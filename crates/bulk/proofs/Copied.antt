@@ -3,7 +3,6 @@ use Rattle.std.proofs.Common.{◌≡◌, ℕ, List, [], ◌∷◌, ◌++◌, len
 use Rattle.std.specs.Prelude.{◌≢◌, ◌⊎◌, Result, Ok, Err, IfOk, IfErr}
 use Rattle.csv.specs.Records.{field_at}
 use Rattle.csv.specs.declared.reader.Reader.{Reader}
-use Rattle.numbers.specs.declared.ported.Subject.TheVariants as subject
 use Rattle.delivery.specs.declared.mirror.RoutedRow.{RoutedRow}
 use Rattle.bulk.specs.Audits.{AreEntries, HasNoEntry, IsEntry, IsNoEntry, IsNotRead, copy_header}
 use Rattle.bulk.specs.Faults.{IsUnread}

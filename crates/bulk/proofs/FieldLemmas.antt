@@ -6,8 +6,8 @@ use Rattle.std.proofs.lemmas.Str.{IsUtf8-from_ascii}
 use Rattle.csv.specs.Records.{field_at}
 use Rattle.numbers.specs.Digits.{IsMinute, IsTn}
 use Rattle.numbers.specs.Spids.{IsSpid}
-use Rattle.numbers.specs.Texts.{digits_of, spid_text, tn_text, minute_text}
-use Rattle.numbers.proofs.DigitLemmas.{utf8_digits, length-digits_of, digits_of-injective}
+use Rattle.numbers.specs.Texts.{spid_text, tn_text, minute_text}
+use Rattle.numbers.proofs.DigitLemmas.{length-digits_of, digits_of-injective}
 use Rattle.bulk.specs.Numbers.{AreNumbers}
 use Rattle.numbers.proofs.SpidLemmas.{utf8_spid}
 

@@ -14,7 +14,7 @@ use Rattle.model.proofs.Ascending.{AreAbove, Rise, sorted-rise}
 use Rattle.model.proofs.Entered.{subject_eq-refl}
 use Rattle.model.proofs.Ids.{same_subject}
 use Rattle.model.specs.Laws.{AllAbove, AreSubjectsSorted}
-use Rattle.bulk.specs.Findings.{told_of}
+use Rattle.bulk.specs.Findings.{finding_in}
 use Rattle.bulk.specs.Sides.{found_in, found_of, no_sides, with_found}
 use Rattle.bulk.specs.declared.finding.Finding.{Finding}
 use Rattle.bulk.specs.declared.finding.SubjectFinding.{SubjectFinding}
@@ -64,18 +64,18 @@ found_rise (e ∷ es) rise = by_cases (found_of e.1) (found_rise es rise.1)
 
 -- A subject below all of them has no finding.
 none_below : (s : Subject) (es : List Entry) → AreAbove key_of (key_of s) (keys_of es)
-    → told_of (found_in es) (subject_of s) ≡ None
+    → finding_in (found_in es) (subject_of s) ≡ None
 none_below s [] above = refl
 none_below s (e ∷ es) above =
     by_cases (found_of e.1) (none_below s es above.1) (subject_eq (subject_of e.0) (subject_of s))
     refl
   where
-    by_cases : (o : Option Finding) → told_of (found_in es) (subject_of s) ≡ None → (b : Bool)
+    by_cases : (o : Option Finding) → finding_in (found_in es) (subject_of s) ≡ None → (b : Bool)
         → subject_eq (subject_of e.0) (subject_of s) ≡ b
-        → told_of (with_found e.0 o (found_in es)) (subject_of s) ≡ None
+        → finding_in (with_found e.0 o (found_in es)) (subject_of s) ≡ None
     by_cases None rest b is = rest
     by_cases (Some finding) rest false is =
-        ap (λ (t : Bool). if t then Some finding else told_of (found_in es) (subject_of s)) is
+        ap (λ (t : Bool). if t then Some finding else finding_in (found_in es) (subject_of s)) is
         ∙ rest
     by_cases (Some finding) rest true is =
         let same : key_of s ≡ key_of e.0 =
@@ -109,16 +109,16 @@ abbrev at : Subject → List Entry → Option Sides
 at s es = lookup (is_at (on key_of nat_cmp s)) es
 
 found_at : (s : Subject) (es : List Entry) → Rise key_of (keys_of es)
-    → told_of (found_in es) (subject_of s) ≡ found_of (unwrap_or (at s es) no_sides)
+    → finding_in (found_in es) (subject_of s) ≡ found_of (unwrap_or (at s es) no_sides)
 found_at s [] rise = refl
 found_at s (e ∷ es) rise =
     by_cases (subject_eq (subject_of e.0) (subject_of s)) refl (found_at s es rise.1)
   where
     -- The entry is this subject's.
     here : subject_eq (subject_of e.0) (subject_of s) ≡ true → (o : Option Finding)
-        → told_of (with_found e.0 o (found_in es)) (subject_of s) ≡ o
+        → finding_in (with_found e.0 o (found_in es)) (subject_of s) ≡ o
     here is (Some finding) =
-        ap (λ (t : Bool). if t then Some finding else told_of (found_in es) (subject_of s)) is
+        ap (λ (t : Bool). if t then Some finding else finding_in (found_in es) (subject_of s)) is
     here is None =
         let same : subject_of s ≡ subject_of e.0 =
         same_subject (subject_of e.0) (subject_of s) is in
@@ -127,15 +127,15 @@ found_at s (e ∷ es) rise =
 
     -- The entry is another subject's.
     there : subject_eq (subject_of e.0) (subject_of s) ≡ false → (o : Option Finding)
-        → told_of (with_found e.0 o (found_in es)) (subject_of s) ≡ told_of (found_in es)
+        → finding_in (with_found e.0 o (found_in es)) (subject_of s) ≡ finding_in (found_in es)
         (subject_of s)
     there is (Some finding) =
-        ap (λ (t : Bool). if t then Some finding else told_of (found_in es) (subject_of s)) is
+        ap (λ (t : Bool). if t then Some finding else finding_in (found_in es) (subject_of s)) is
     there is None = refl
 
     by_cases : (b : Bool) → subject_eq (subject_of e.0) (subject_of s) ≡ b
-        → told_of (found_in es) (subject_of s) ≡ found_of (unwrap_or (at s es) no_sides) →
-        told_of (with_found e.0 (found_of e.1) (found_in es)) (subject_of s)
+        → finding_in (found_in es) (subject_of s) ≡ found_of (unwrap_or (at s es) no_sides) →
+        finding_in (with_found e.0 (found_of e.1) (found_in es)) (subject_of s)
         ≡ found_of (unwrap_or (at s (e ∷ es)) no_sides)
     by_cases true is rest =
         here is (found_of e.1)
@@ -152,5 +152,6 @@ pub findings_rise : (es : List Entry) → IsStrictlySortedBy (on key_of nat_cmp)
 findings_rise es ordered = found_rise es (sorted-rise key_of (keys_of es) ordered)
 
 pub findings_tell : (es : List Entry) → IsStrictlySortedBy (on key_of nat_cmp) (keys_of es)
-    → (s : Subject) → told_of (found_in es) (subject_of s) ≡ found_of (unwrap_or (at s es) no_sides)
+    → (s : Subject) → finding_in (found_in es) (subject_of s)
+    ≡ found_of (unwrap_or (at s es) no_sides)
 findings_tell es ordered s = found_at s es (sorted-rise key_of (keys_of es) ordered)

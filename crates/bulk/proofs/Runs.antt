@@ -10,8 +10,8 @@ use Rattle.model.specs.State.{State}
 use Rattle.model.specs.Refusals.{Input}
 use Rattle.register.specs.Refinement.{Refines}
 use Rattle.http_messages.specs.Sending.{AppendsFront}
-use Rattle.bulk.specs.Report.{Task, Bad, CommandTask, input_for, line_of, lines_of, state_behind, state_after}
-use Rattle.bulk.specs.Faults.{IsShort, IsUnread}
+use Rattle.bulk.specs.Report.{Task, Bad, CommandTask, input_for, line_of, lines_of, next_state, state_after}
+use Rattle.bulk.specs.Faults.{IsUnavailableKind, IsUnread}
 use Rattle.bulk.specs.Running.{RefinesReachable, DoesAll, DoesFirst, BreaksAt, FailsIn, RunsTo, SendsOne}
 use Rattle.bulk.specs.declared.fault.BulkFault.{BulkFault}
 use Rattle.bulk.specs.declared.fault.FaultKind.{FaultKind}
@@ -20,13 +20,13 @@ use Rattle.bulk.specs.declared.fault.FaultKind.TheVariants.{BadHeader, BadFile, 
 state_after-append : (st : State) (xs ys : List Task)
     → state_after st (xs ++ ys) ≡ state_after (state_after st xs) ys
 state_after-append st [] ys = refl
-state_after-append st (x ∷ xs) ys = state_after-append (state_behind st x) xs ys
+state_after-append st (x ∷ xs) ys = state_after-append (next_state st x) xs ys
 
 lines_of-append : (st : State) (xs ys : List Task)
     → lines_of st (xs ++ ys) ≡ lines_of st xs ++ lines_of (state_after st xs) ys
 lines_of-append st [] ys = refl
 lines_of-append st (x ∷ xs) ys =
-    ap (λ (ls : List (List ℕ)). line_of st x ∷ ls) (lines_of-append (state_behind st x) xs ys)
+    ap (λ (ls : List (List ℕ)). line_of st x ∷ ls) (lines_of-append (next_state st x) xs ys)
 
 texts-append : (st : State) (xs ys : List Task)
     → concat (lines_of st xs) ++ concat (lines_of (state_after st xs) ys)
@@ -79,7 +79,7 @@ break_then st xs ys mid new had at has from j k before now =
       others = now.others;
       all = ap (λ (ts : List Task). xs ++ ts) now.all
           ∙ sym (append_assoc xs now.first (now.task ∷ now.others));
-      refines = subst (λ (s : State). Refines new (state_behind s now.task)) (sym after)
+      refines = subst (λ (s : State). Refines new (next_state s now.task)) (sym after)
           now.refines;
       part = now.part;
       sent = subst (λ (s : State). Appends had has (concat (lines_of st (xs ++ now.first)) ++ take
@@ -169,7 +169,7 @@ none_done st tasks new had from s = record {
 
 -- One task was executed.
 pub one_done : (st : State) (task : Task) (new : Content) (had has : Option (List ℕ)) (from : ℕ)
-    → Refines new (state_behind st task) → Appends had has (line_of st task)
+    → Refines new (next_state st task) → Appends had has (line_of st task)
     → DoesAll st (task ∷ []) new had has from (from + 1)
 one_done st task new had has from s sent = record {
   refines = s;
@@ -178,7 +178,7 @@ one_done st task new had has from s sent = record {
 }
 
 pub one_broken : (st : State) (task : Task) (new : Content) (had has : Option (List ℕ)) (from : ℕ)
-    → Refines new (state_behind st task) → AppendsFront had has (line_of st task)
+    → Refines new (next_state st task) → AppendsFront had has (line_of st task)
     → BreaksAt st (task ∷ []) new had has from from
 one_broken st task new had has from s sent = record {
   first = [];
@@ -204,7 +204,7 @@ broken_at st task new had has count kind k is same h =
 pub one_sent :
     (st : State) (task : Task) (new : Content) (had has : Option (List ℕ)) (count : ℕ)
     (text : List ℕ) (r : Result ℕ BulkFault) →
-    text ≡ line_of st task → Refines new (state_behind st task) → SendsOne had has text count r
+    text ≡ line_of st task → Refines new (next_state st task) → SendsOne had has text count r
     → RunsTo st (task ∷ []) new had has count r
 one_sent st task new had has count text (Ok k) e s sent =
     let h = one_done st task new had has count s (subst (Appends had has) e sent.0) in
@@ -215,7 +215,7 @@ one_sent st task new had has count text (Err fault) e s sent =
 
 -- Nothing was executed, because the device or an allocation failed.
 pub short_stop : (kind : FaultKind) (st : State) (tasks : List Task) (new : Content)
-    (had : Option (List ℕ)) (from : ℕ) → IsShort kind → Refines new st
+    (had : Option (List ℕ)) (from : ℕ) → IsUnavailableKind kind → Refines new st
     → FailsIn kind st tasks new had had from from
 short_stop kind st tasks new had from (inl e) s =
     let P : FaultKind → Type 0 = λ w. FailsIn w st tasks new had had from from in
@@ -246,7 +246,7 @@ stops_here kind st tasks new had has from k (inr e) h =
 
 -- The state after a task is one after some inputs of the machine.
 input_behind : (st : State) (task : Task) → (inputs : List Input)
-    × (state_behind st task ≡ machine_after st inputs)
+    × (next_state st task ≡ machine_after st inputs)
 input_behind st (Bad row) = ([], refl)
 input_behind st (CommandTask row caller tn w) = (input_for st caller tn w ∷ [], refl)
 
@@ -260,7 +260,7 @@ inputs_of : (st : State) (tasks : List Task) → (inputs : List Input)
 inputs_of st [] = ([], refl)
 inputs_of st (task ∷ tasks) =
     let (one, e) = input_behind st task in
-    let (more, f) = inputs_of (state_behind st task) tasks in
+    let (more, f) = inputs_of (next_state st task) tasks in
     (one ++ more, f ∙ ap (λ (s : State). machine_after s more) e ∙ sym (machine-append st one more))
 
 follows_tasks : (st : State) (tasks : List Task) (new : Content)

@@ -1,10 +1,9 @@
 -- The sides of each subject, as rows are added.
-use Rattle.std.proofs.Common.{◌≡◌, ℕ, suc, ◌+◌, ◌<◌, Bool, true, false, List, [], ◌∷◌, length, drop, get_or, map, Option, Some, None, option_map, is_some, refl, ap, sym, ◌∙◌, subst, add-one}
+use Rattle.std.proofs.Common.{◌≡◌, ℕ, ◌+◌, ◌<◌, Bool, true, false, List, [], ◌∷◌, length, drop, get_or, map, Option, Some, None, option_map, is_some, refl, ap, sym, ◌∙◌, subst}
 use Rattle.std.specs.Prelude.{fold, unwrap_or, if◌then◌else◌, ◌||◌}
 use Rattle.std.specs.List.{list_any}
 use Rattle.std.specs.BTreeMap.{BTreeMap, get}
 use Rattle.std.specs.Ordering.{nat_cmp}
-use Rattle.std.proofs.Math.Seq.{drop-cons}
 use Rattle.numbers.specs.Subjects.{Subject as SubjectModel, subject_eq, subject_key}
 use Rattle.numbers.specs.Abstraction.{key_of, routing_of, subject_of}
 use Rattle.numbers.specs.declared.ported.Routing.{Routing}
@@ -14,8 +13,8 @@ use Rattle.delivery.specs.declared.mirror.RoutedRow.{RoutedRow}
 use Rattle.model.proofs.Ids.{same_subject}
 use Rattle.model.specs.Copies.{copy_of_rows}
 use Rattle.model.specs.State.{InForce}
-use Rattle.bulk.specs.Audits.{AreNew, EachOnce, subjects_in}
-use Rattle.bulk.specs.Sides.{no_sides, routed_after, sides_at, waits_after}
+use Rattle.bulk.specs.Audits.{AreNew, AreDistinct, subjects_in}
+use Rattle.bulk.specs.Sides.{no_sides, routed_after, sides_at, waiting_after}
 use Rattle.bulk.specs.declared.sides.Sides.{Sides}
 use Rattle.settle.proofs.Rest.{rest_at}
 
@@ -76,27 +75,30 @@ in_force_turn rows i row within is old new set s =
 -- ---- the pending downloads
 
 abbrev pub with_waiting : List Subject → Subject → Sides → Sides
-with_waiting subjects s sides = record sides { waits = waits_after subjects s sides.waits }
+with_waiting subjects s sides = record sides {
+  is_waiting = waiting_after subjects s
+      sides.is_waiting;
+}
 
 pub waiting_turn :
     (subjects : List Subject) (i : ℕ) (t : Subject) → i < length subjects → t ≡ get_or subjects i t
     → (old new : Map) →
     ((s : Subject) → sides_at new s ≡ (if subject_eq (subject_of t) (subject_of s)
-    then (record (sides_at old t) { waits = true }) else sides_at old s)) →
+    then (record (sides_at old t) { is_waiting = true }) else sides_at old s)) →
     (s : Subject) → with_waiting (drop (i + 1) subjects) s (sides_at new s) ≡ with_waiting
     (drop i subjects) s (sides_at old s)
 waiting_turn subjects i t within is old new set s =
     ap (with_waiting (drop (i + 1) subjects) s)
-    (set_here old new s t (λ sides. record sides { waits = true }) (set s))
+    (set_here old new s t (λ sides. record sides { is_waiting = true }) (set s))
     ∙ by_cases (subject_eq (subject_of t) (subject_of s))
     ∙ ap (λ (ts : List Subject). with_waiting ts s (sides_at old s))
     (sym (rest_at subjects i t within is))
   where
     by_cases : (b : Bool) → with_waiting (drop (i + 1) subjects) s (if b
-        then (record (sides_at old s) { waits = true }) else sides_at old s)
+        then (record (sides_at old s) { is_waiting = true }) else sides_at old s)
         ≡ record (sides_at old s) {
-          waits = waits_after (drop (i + 1) subjects) s (if b then true
-              else (sides_at old s).waits);
+          is_waiting = waiting_after (drop (i + 1) subjects) s (if b then true
+              else (sides_at old s).is_waiting);
         }
     by_cases true = refl
     by_cases false = refl
@@ -134,8 +136,8 @@ copied_turn entries i entry within is old new set s =
 -- copied.
 pub record Taken (whole left : List RoutedRow) (all : Map) : Type 0 where
   pub before : List SubjectModel
-  pub forth : EachOnce (subjects_in whole) → AreNew before (subjects_in left)
-  pub back : AreNew before (subjects_in left) → EachOnce (subjects_in whole)
+  pub forth : AreDistinct (subjects_in whole) → AreNew before (subjects_in left)
+  pub back : AreNew before (subjects_in left) → AreDistinct (subjects_in whole)
   pub copied : (s : Subject)
       → is_some (sides_at all s).copied ≡ list_any (λ t. subject_eq t (subject_of s)) before
 
@@ -153,8 +155,9 @@ entry_taken entries i entry within is old new not set before =
     sym (before.copied entry.subject) ∙ not in
     record {
       before = subject_of entry.subject ∷ before.before;
-      forth = λ once. (subst (λ (es : List RoutedRow). AreNew before.before (subjects_in es)) left
-          (before.forth once)).1;
+      forth = λ distinct. (subst (λ (es : List RoutedRow). AreNew before.before (subjects_in es))
+          left
+          (before.forth distinct)).1;
       back = λ more. before.back
           (subst (λ (es : List RoutedRow). AreNew before.before (subjects_in es)) (sym left)
           (fresh, more));
@@ -198,20 +201,20 @@ always : (b : Bool) → (if b then true else true) ≡ true
 always true = refl
 always false = refl
 
-still_waits : (subjects : List Subject) (s : Subject) → waits_after subjects s true ≡ true
+still_waits : (subjects : List Subject) (s : Subject) → waiting_after subjects s true ≡ true
 still_waits [] s = refl
-still_waits (t ∷ ts) s = ap (waits_after ts s) (always (subject_eq (subject_of t) (subject_of s)))
+still_waits (t ∷ ts) s = ap (waiting_after ts s) (always (subject_eq (subject_of t) (subject_of s)))
     ∙ still_waits ts s
 
 waits_then : (ts : List Subject) (s : Subject)
-    → waits_after ts s false ≡ list_any (λ t. subject_eq t (subject_of s)) (map subject_of ts) →
-    (b : Bool) → waits_after ts s (if b then true else false)
+    → waiting_after ts s false ≡ list_any (λ t. subject_eq t (subject_of s)) (map subject_of ts) →
+    (b : Bool) → waiting_after ts s (if b then true else false)
     ≡ (b || list_any (λ t. subject_eq t (subject_of s)) (map subject_of ts))
 waits_then ts s later true = still_waits ts s
 waits_then ts s later false = later
 
 pub waits_awaited : (subjects : List Subject) (s : Subject)
-    → waits_after subjects s false ≡ list_any (λ t. subject_eq t (subject_of s))
+    → waiting_after subjects s false ≡ list_any (λ t. subject_eq t (subject_of s))
     (map subject_of subjects)
 waits_awaited [] s = refl
 waits_awaited (t ∷ ts) s =

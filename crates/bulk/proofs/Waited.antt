@@ -6,7 +6,7 @@ use Rattle.model.specs.declared.refusal.Refusal.{Refusal}
 use Rattle.model.specs.declared.refusal.Refusal.TheVariants.{UnknownCarrier}
 use Rattle.model.specs.Machine.{Awaited, Refused, out, refused_or}
 use Rattle.model.specs.State.{State, is_carrier}
-use Rattle.model.specs.Refusals.{QuestionFrom, Waiting, refusal, tests}
+use Rattle.model.specs.Refusals.{QuestionFrom, Waiting, refusal}
 use Rattle.model.specs.RefusalNumbers.{number_of}
 use Rattle.requests.specs.Calls.{refused_with}
 use Rattle.register.specs.Refinement.{SimulatesStep, Refines}
@@ -15,17 +15,18 @@ use Rattle.register.proofs.Downloads.Fetched.{may_fetch}
 use Rattle.bulk.specs.Findings.{awaited}
 use Rattle.register.proofs.Downloads.Awaited.{waiting_by}
 
-told : (r : Option ℕ) (xs ys : List Subject) → Awaited xs ≡ refused_or r (Awaited ys)
+answered : (r : Option ℕ) (xs ys : List Subject) → Awaited xs ≡ refused_or r (Awaited ys)
     → (r ≡ None) × (xs ≡ ys)
-told None xs ys e = (refl, cc)
-told (Some k) xs ys e = let f : Awaited xs ≡ Refused k = e in let x : ⊥ = cc in absurd x
+answered None xs ys e = (refl, cc)
+answered (Some k) xs ys e = let f : Awaited xs ≡ Refused k = e in let x : ⊥ = cc in absurd x
 
 pub waits_are : (st : State) (carrier : ℕ) (subjects : List Subject)
     → Awaited subjects ≡ out st (QuestionFrom carrier Waiting) → (subjects ≡ awaited st carrier)
     × (is_carrier st carrier ≡ true)
 unfolding out
 waits_are st carrier subjects e =
-    let answer = told (refusal st (QuestionFrom carrier Waiting)) subjects (awaited st carrier) e in (
+    let answer = answered (refusal st (QuestionFrom carrier Waiting)) subjects (awaited st carrier)
+    e in (
       answer.1,
       known_by (is_carrier st carrier) (sym (waiting_by st carrier) ∙ answer.0),
     )

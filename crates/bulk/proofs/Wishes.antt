@@ -42,11 +42,11 @@ no_new_provider old new due last by none (operation.Create o n d creator) e =
 no_new_provider old new due last by none (operation.OnVersion c) e = λ same. no_command c by e
 
 -- If no operation of the action has these fields, the row encodes no request.
-pub no_order :
+pub no_request :
     (row : Row) (caller name subject : List ℕ) (six : Row) (a : ActionName)
     → row ≡ caller ∷ name ∷ subject ∷ six → name ≡ action_name a →
     ((w : Operation) → action_of w ≡ a → six ≢ operation_fields w) → (o : BulkRequest)
     → ¬ (EncodesRequest row o)
-no_order row caller name subject six a e named none o says =
+no_request row caller name subject six a e named none o says =
     let same : action_name (action_of o.operation) ≡ action_name a = cc in
     none o.operation (one_name (action_of o.operation) a same) cc

@@ -9,13 +9,13 @@ use Rattle.numbers.specs.declared.ported.Subject.{Subject as SubjectImpl}
 use Rattle.numbers.specs.declared.ported.Subject.TheVariants as code
 use Rattle.numbers.specs.declared.tn.Tn.{Tn}
 use Rattle.model.specs.Copies.{copy_of_rows}
-use Rattle.model.specs.Examples.{a, c, n, active_at_201, part_at_215}
+use Rattle.bulk.specs.WorkedStates.{a, c, n, active_at_201, part_at_215}
 use Rattle.model.specs.History.{replay_of, replay_step, effect}
 use Rattle.model.specs.Judge.{judge, judged_for, judged_version}
 use Rattle.model.specs.Machine.{next, out}
 use Rattle.model.specs.State.{InForce, all_in_force, queue}
 use Rattle.model.specs.Refusals.{tests}
-use Rattle.bulk.specs.Findings.{AreFindings, awaited, finding_at, finding_of, told_of}
+use Rattle.bulk.specs.Findings.{AreFindings, awaited, finding_at, finding_of, finding_in}
 use Rattle.bulk.specs.declared.finding.Finding.TheVariants.{Waiting, Missing, Extra, Different}
 use Rattle.bulk.specs.declared.finding.SubjectFinding.{SubjectFinding}
 
@@ -58,7 +58,7 @@ findings = record {
 
 -- The findings by the rows in force and the copy, without pending downloads.
 by_rows : (s : SubjectImpl)
-    → told_of findings (subject_of s) ≡ finding_of false (copy_of_rows force (subject_of s))
+    → finding_in findings (subject_of s) ≡ finding_of false (copy_of_rows force (subject_of s))
     (copy_of_rows copy (subject_of s))
 by_rows (code.Block block) = refl
 by_rows (code.Number tn) = go (n == tn.number) (other == tn.number)

@@ -54,18 +54,18 @@ AreNew before [] = ⊤
 AreNew before (s ∷ ss) = (list_any (λ t. subject_eq t s) before ≡ false) × AreNew (s ∷ before) ss
 
 -- Holds if no subject occurs twice.
-abbrev pub EachOnce : List Subject → Type 0
-EachOnce subjects = AreNew [] subjects
+abbrev pub AreDistinct : List Subject → Type 0
+AreDistinct subjects = AreNew [] subjects
 
 -- Holds if the rows after the header are a copy with these entries.
 pub record IsCopy (rows : List Row) (entries : List RoutedRow) : Type 0 where
   pub read : AreEntries rows entries
-  pub once : EachOnce (subjects_in entries)
+  pub distinct : AreDistinct (subjects_in entries)
 
 -- Holds if some row encodes no entry, or a subject occurs twice.
 abbrev pub IsBadCopy : List Row → Type 0
 IsBadCopy rows = HasNoEntry rows ⊎ ((entries : List RoutedRow) × AreEntries rows entries
-    × (¬ (EachOnce (subjects_in entries))))
+    × (¬ (AreDistinct (subjects_in entries))))
 
 -- Holds if this fault is the reason why rows were not read as a copy's entries.
 abbrev pub IsNotRead : FaultKind → List Row → Type 0

@@ -9,7 +9,7 @@ use Rattle.delivery.specs.declared.mirror.RoutedRow.{RoutedRow}
 use Rattle.model.specs.Copies.{copy_of_rows}
 use Rattle.model.specs.Laws.{AreSubjectsSorted}
 use Rattle.bulk.specs.Audits.{HasBadHeader, HasBadRows, IsCopy, copy_header}
-use Rattle.bulk.specs.Findings.{finding_of, told_of}
+use Rattle.bulk.specs.Findings.{finding_of, finding_in}
 use Rattle.bulk.specs.Rows.{Row, AreRowsOf}
 use Rattle.bulk.specs.declared.fault.FaultKind.{FaultKind}
 use Rattle.bulk.specs.declared.fault.FaultKind.TheVariants.{BadHeader, BadFile, UnknownCarrier, Storage, NoMemory, Read, Write}
@@ -20,7 +20,7 @@ use Rattle.bulk.specs.declared.finding.SubjectFinding.{SubjectFinding}
 pub record AreCompared (in_force : List RoutedRow) (waiting : List Subject)
     (entries : List RoutedRow) (findings : List SubjectFinding) : Type 0 where
   pub rise : AreSubjectsSorted (map (λ (f : SubjectFinding). subject_of f.subject) findings)
-  pub each : (s : Subject) → told_of findings (subject_of s)
+  pub each : (s : Subject) → finding_in findings (subject_of s)
       ≡ finding_of (list_any (λ t. subject_eq t (subject_of s)) (map subject_of waiting))
       (copy_of_rows (map in_force_of in_force) (subject_of s))
       (copy_of_rows (map in_force_of entries)

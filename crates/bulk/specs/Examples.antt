@@ -7,7 +7,7 @@ use Rattle.model.specs.Machine.{next, out}
 use Rattle.model.specs.State.{queue}
 use Rattle.model.specs.Refusals.{tests}
 use Rattle.numbers.specs.Texts.{digits_of}
-use Rattle.model.specs.Examples.{a, b, c, n, start}
+use Rattle.bulk.specs.WorkedStates.{a, b, c, n, start}
 use Rattle.numbers.specs.declared.spid.Spid.{Spid}
 use Rattle.numbers.specs.declared.tn.Tn.{Tn}
 use Rattle.numbers.specs.declared.lrn.Lrn.{Lrn}
@@ -32,8 +32,8 @@ cccc = record { number = c; valid = refl }
 abbrev tn : Tn
 tn = record { number = n; valid = (lit< tt, lit≤ tt, lit≤ tt) }
 
-abbrev alone : Numbers
-alone = record {
+abbrev single : Numbers
+single = record {
   first = tn;
   last = tn;
   valid = record { one_code = refl; rise = lit≤ tt; few = lit< tt };
@@ -45,7 +45,7 @@ due = record { number = 100; valid = lit< tt }
 abbrev new_create : Spid → Lrn → BulkRequest
 new_create spid lrn = record {
   caller = spid;
-  numbers = alone;
+  numbers = single;
   operation =
       operation.Create bbbb spid due (creator.NewProvider (record { lrn = lrn; cic = None }));
 }
@@ -59,16 +59,21 @@ second = new_create cccc (record { number = 2025550000; valid = lit< tt })
 abbrev third : BulkRequest
 third = record {
   caller = bbbb;
-  numbers = alone;
+  numbers = single;
   operation = operation.Create bbbb aaaa due (creator.OldProvider true);
 }
 
 -- The row of a new provider's create encodes it.
-first_is_said :
+first_encodes_request :
     EncodesRequest (codes "AAAA" ∷ codes "subscriptionVersionNewSP-Create" ∷ codes "2025331234" ∷ codes "BBBB"
     ∷ codes "AAAA" ∷ decimal 100 ∷ codes "2025440000" ∷ [] ∷ [] ∷ []) first
 unfolding digits_of action_name
-first_is_said = record { subject = codes "2025331234"; names = inl (refl, refl); fields = refl }
+first_encodes_request = record {
+  subject = codes "2025331234";
+  names = inl (refl, refl);
+  fields =
+      refl;
+}
 
 -- A create, another one for the same number, and the old provider's create: the second is refused.
 file_is_reported :
@@ -80,9 +85,9 @@ unfolding next replay_of replay_step effect judge judged_for judged_version queu
 file_is_reported = refl
 
 -- A bad row is reported, and the rows after it are run.
-bad_row_is_told :
+bad_row_is_reported :
     lines_of start (tasks_from 1 (None ∷ Some third ∷ [])) ≡ report_line 1 [] (codes "bad_row") []
     ∷ report_line 2 (codes "2025331234") (codes "ok") (decimal 1) ∷ []
 unfolding next replay_of replay_step effect judge judged_for judged_version queue tests out
     digits_of
-bad_row_is_told = refl
+bad_row_is_reported = refl

@@ -15,8 +15,8 @@ kind_name Read = codes "read"
 kind_name Write = codes "write"
 
 -- Holds if the device or an allocation failed.
-abbrev pub IsShort : FaultKind → Type 0
-IsShort kind = (kind ≡ Storage) ⊎ (kind ≡ NoMemory)
+abbrev pub IsUnavailableKind : FaultKind → Type 0
+IsUnavailableKind kind = (kind ≡ Storage) ⊎ (kind ≡ NoMemory)
 
 -- Holds if the result is a fault of this kind.
 abbrev pub FailsWith : FaultKind → Result ℕ BulkFault → Type 0

@@ -36,7 +36,7 @@ same_routing r q = (r.lrn == q.lrn) && same_cic r.cic q.cic
 
 -- The finding on a subject, by whether a download of it is pending, and by its routing in force and
 -- in the copy. If these agree, there is no finding.
-abbrev pub finding_of : (waits : Bool) → (in_force copied : Option Routing) → Option Finding
+abbrev pub finding_of : (is_waiting : Bool) → (in_force copied : Option Routing) → Option Finding
 finding_of true in_force copied = Some Waiting
 finding_of false None None = None
 finding_of false None (Some copy) = Some Extra
@@ -57,15 +57,16 @@ finding_at st carrier copy s =
 -- ---- all findings
 
 -- The finding on a subject in a list.
-abbrev pub told_of : List SubjectFinding → Subject → Option Finding
-told_of [] s = None
-told_of (f ∷ fs) s = if subject_eq (subject_of f.subject) s then Some f.finding else told_of fs s
+abbrev pub finding_in : List SubjectFinding → Subject → Option Finding
+finding_in [] s = None
+finding_in (f ∷ fs) s = if subject_eq (subject_of f.subject) s then Some f.finding else finding_in
+    fs s
 
 -- Holds if these are the findings on all subjects, ascending, without duplicates, and no others.
 pub record AreFindings (st : State) (carrier : ℕ) (copy : List InForce)
     (findings : List SubjectFinding) : Type 0 where
   pub rise : AreSubjectsSorted (map (λ (f : SubjectFinding). subject_of f.subject) findings)
-  pub each : (s : SubjectImpl) → told_of findings (subject_of s) ≡ finding_at st carrier copy
+  pub each : (s : SubjectImpl) → finding_in findings (subject_of s) ≡ finding_at st carrier copy
       (subject_of s)
 
 -- ---- the file of the findings

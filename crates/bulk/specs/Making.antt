@@ -6,7 +6,7 @@ use Rattle.model.specs.Machine.{Reply, Refused, Shown}
 use Rattle.json_api.specs.Failures.{refusal_name}
 use Rattle.bulk.specs.Report.{report_line, reply_line}
 use Rattle.bulk.specs.declared.command_result.CommandResult.{CommandResult}
-use Rattle.bulk.specs.declared.command_result.CommandResult.TheVariants as told
+use Rattle.bulk.specs.declared.command_result.CommandResult.TheVariants as outcome
 
 -- Whether a command is a create or a command on a version.
 abbrev pub is_of_number : Command → Bool
@@ -22,16 +22,17 @@ is_of_number (Assign block holder lrn cic) = false
 is_of_number (Release block) = false
 
 -- The report's line for a result.
-abbrev pub told_line : (row tn : ℕ) → CommandResult → List ℕ
-told_line row tn (told.Version id) = report_line row (tn_text tn) (codes "ok") (decimal id)
-told_line row tn (told.Refused refusal) = report_line row (tn_text tn) (refusal_name refusal) []
+abbrev pub outcome_line : (row tn : ℕ) → CommandResult → List ℕ
+outcome_line row tn (outcome.Version id) = report_line row (tn_text tn) (codes "ok") (decimal id)
+outcome_line row tn (outcome.Refused refusal) = report_line row (tn_text tn) (refusal_name refusal)
+    []
 
 -- Holds if the result is that of the reply.
 abbrev pub IsResultOf : CommandResult → Reply → Type 0
-IsResultOf told reply = (row tn : ℕ) → told_line row tn told ≡ reply_line row tn reply
+IsResultOf outcome reply = (row tn : ℕ) → outcome_line row tn outcome ≡ reply_line row tn reply
 
 -- Holds if the reply is one to a create or a command on a version: a refusal or a version.
-abbrev pub IsSaid : Reply → Type 0
-IsSaid (Refused number) = Unit {0}
-IsSaid (Shown view) = Unit {0}
-IsSaid _ = ⊥
+abbrev pub IsCommandReply : Reply → Type 0
+IsCommandReply (Refused number) = Unit {0}
+IsCommandReply (Shown view) = Unit {0}
+IsCommandReply _ = ⊥

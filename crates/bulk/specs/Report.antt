@@ -127,15 +127,15 @@ line_of st (Bad row) = report_line row [] (codes "bad_row") []
 line_of st (CommandTask row caller tn operation) =
     reply_line row tn (out st (input_for st caller tn operation))
 
-abbrev pub state_behind : State → Task → State
-state_behind st (Bad row) = st
-state_behind st (CommandTask row caller tn operation) = next st (input_for st caller tn operation)
+abbrev pub next_state : State → Task → State
+next_state st (Bad row) = st
+next_state st (CommandTask row caller tn operation) = next st (input_for st caller tn operation)
 
 -- The lines of tasks in order, and the state after them.
 abbrev pub lines_of : State → List Task → List (List ℕ)
 lines_of st [] = []
-lines_of st (task ∷ tasks) = line_of st task ∷ lines_of (state_behind st task) tasks
+lines_of st (task ∷ tasks) = line_of st task ∷ lines_of (next_state st task) tasks
 
 abbrev pub state_after : State → List Task → State
 state_after st [] = st
-state_after st (task ∷ tasks) = state_after (state_behind st task) tasks
+state_after st (task ∷ tasks) = state_after (next_state st task) tasks

@@ -11,7 +11,7 @@ use Rattle.register.specs.Refinement.{Refines}
 use Rattle.bulk.specs.Faults.{IsUnread}
 use Rattle.bulk.specs.Files.{AreSent}
 use Rattle.bulk.specs.Requests.{header}
-use Rattle.bulk.specs.Report.{AreRead, Task, line_of, lines_of, report_header, state_behind, state_after, tasks_from}
+use Rattle.bulk.specs.Report.{AreRead, Task, line_of, lines_of, report_header, next_state, state_after, tasks_from}
 use Rattle.bulk.specs.Rows.{Row, AreRowsOf}
 use Rattle.bulk.specs.declared.request.BulkRequest.{BulkRequest}
 use Rattle.bulk.specs.declared.fault.BulkFault.{BulkFault}
@@ -48,7 +48,7 @@ pub record BreaksAt (st : State) (tasks : List Task) (new : Content) (had has : 
   pub task : Task
   pub others : List Task
   pub all : tasks ≡ first ++ task ∷ others
-  pub refines : Refines new (state_behind (state_after st first) task)
+  pub refines : Refines new (next_state (state_after st first) task)
   pub part : ℕ
   pub sent : Appends had has (concat (lines_of st first) ++ take part
       (line_of (state_after st first) task))

@@ -13,7 +13,7 @@ use Rattle.bulk.specs.declared.finding.SubjectFinding.{SubjectFinding}
 use Rattle.bulk.specs.declared.sides.Sides.{Sides}
 
 abbrev pub no_sides : Sides
-no_sides = record { in_force = None; copied = None; waits = false }
+no_sides = record { in_force = None; copied = None; is_waiting = false }
 
 abbrev pub sides_at : BTreeMap Subject Sides → Subject → Sides
 sides_at all s = unwrap_or (get (on key_of nat_cmp) all s) no_sides
@@ -26,15 +26,15 @@ routed_after (r ∷ rs) s before =
     else before)
 
 -- Whether a subject is among these, or had a pending download before.
-abbrev pub waits_after : List Subject → Subject → Bool → Bool
-waits_after [] s before = before
-waits_after (t ∷ ts) s before = waits_after ts s (if subject_eq (subject_of t) (subject_of s)
+abbrev pub waiting_after : List Subject → Subject → Bool → Bool
+waiting_after [] s before = before
+waiting_after (t ∷ ts) s before = waiting_after ts s (if subject_eq (subject_of t) (subject_of s)
     then true else before)
 
 -- The finding on a subject by its sides.
 abbrev pub found_of : Sides → Option Finding
 found_of sides =
-    finding_of sides.waits (option_map routing_of sides.in_force)
+    finding_of sides.is_waiting (option_map routing_of sides.in_force)
     (option_map routing_of sides.copied)
 
 abbrev pub with_found : Subject → Option Finding → List SubjectFinding → List SubjectFinding

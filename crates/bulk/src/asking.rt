@@ -7,7 +7,7 @@ ghost use Rattle.register.specs.Refinement.{Refines};
 ghost use Rattle.settle.specs.StoreContract.{PreservesStore, ReportsStorage};
 ghost use Rattle.requests.specs.Calls.{command_of};
 ghost use Rattle.numbers.specs.Abstraction.{subject_of};
-ghost use Rattle.bulk.specs.Faults.{IsShort};
+ghost use Rattle.bulk.specs.Faults.{IsUnavailableKind};
 ghost use Rattle.bulk.specs.Findings.{awaited};
 ghost use Rattle.bulk.specs.Report.{command_for, id_taken, in_force_id, open_id};
 
@@ -27,7 +27,7 @@ const NO_ID: u64 = 0;
 // Returns the fault of a call that the machine never refuses.
 fn kind_of(refusal: Refusal) -> FaultKind
     ensures storage { result ≡ FaultKind.Storage → refusal ≡ Storage }
-    ensures short { IsShort result }
+    ensures unavailable { IsUnavailableKind result }
 {
     match refusal {
         Refusal::Storage => FaultKind::Storage,
@@ -42,10 +42,9 @@ pub fn rows_in_force<S: Store>(register: &mut Register<S>) -> Result<Vec<RoutedR
         → map in_force_of rows.items ≡ all_in_force st) }
     ensures kept { S.IsUsable register.new.store → (st : State)
         → Refines (S.content register.old.store) st → Refines (S.content register.new.store) st }
-    ensures short { IfErr result IsShort }
-    ensures preserves { PreservesStore S.IsUsable S.HasHonestDevice S.failed register.old.store
-        register.new.store
-        ⊥ (ReportsStorage (S.IsUsable register.new.store) (S.content register.old.store)
+    ensures unavailable { IfErr result IsUnavailableKind }
+    ensures preserves { PreservesStore S.StoreModel register.old.store register.new.store ⊥
+        (ReportsStorage (S.IsUsable register.new.store) (S.content register.old.store)
         (result ≡ Err FaultKind.Storage)) }
 {
     match register.in_force() {
@@ -58,7 +57,7 @@ pub fn rows_in_force<S: Store>(register: &mut Register<S>) -> Result<Vec<RoutedR
 fn kind_for(refusal: Refusal) -> FaultKind
     ensures storage { result ≡ FaultKind.Storage → refusal ≡ Storage }
     ensures unknown { result ≡ FaultKind.UnknownCarrier → refusal ≡ UnknownCarrier }
-    ensures kinds { IsShort result ⊎ (result ≡ FaultKind.UnknownCarrier) }
+    ensures kinds { IsUnavailableKind result ⊎ (result ≡ FaultKind.UnknownCarrier) }
 {
     match refusal {
         Refusal::UnknownCarrier => FaultKind::UnknownCarrier,
@@ -84,10 +83,10 @@ pub fn subjects_waiting<S: Store>(
         → is_carrier st carrier.number ≡ false }
     ensures kept { S.IsUsable register.new.store → (st : State)
         → Refines (S.content register.old.store) st → Refines (S.content register.new.store) st }
-    ensures kinds { IfErr result (λ kind. IsShort kind ⊎ (kind ≡ FaultKind.UnknownCarrier)) }
-    ensures preserves { PreservesStore S.IsUsable S.HasHonestDevice S.failed register.old.store
-        register.new.store
-        ⊥ (ReportsStorage (S.IsUsable register.new.store) (S.content register.old.store)
+    ensures kinds { IfErr result (λ kind. IsUnavailableKind kind ⊎ (kind
+        ≡ FaultKind.UnknownCarrier)) }
+    ensures preserves { PreservesStore S.StoreModel register.old.store register.new.store ⊥
+        (ReportsStorage (S.IsUsable register.new.store) (S.content register.old.store)
         (result ≡ Err FaultKind.Storage)) }
 {
     match register.waiting(carrier) {
@@ -103,10 +102,9 @@ fn ids_of<S: Store>(register: &mut Register<S>, tn: Tn) -> Result<Ids, FaultKind
         → (ids.in_force ≡ in_force_id st tn.number) × (ids.opened ≡ open_id st tn.number)) }
     ensures kept { S.IsUsable register.new.store → (st : State)
         → Refines (S.content register.old.store) st → Refines (S.content register.new.store) st }
-    ensures short { IfErr result IsShort }
-    ensures preserves { PreservesStore S.IsUsable S.HasHonestDevice S.failed register.old.store
-        register.new.store
-        ⊥ (ReportsStorage (S.IsUsable register.new.store) (S.content register.old.store)
+    ensures unavailable { IfErr result IsUnavailableKind }
+    ensures preserves { PreservesStore S.StoreModel register.old.store register.new.store ⊥
+        (ReportsStorage (S.IsUsable register.new.store) (S.content register.old.store)
         (result ≡ Err FaultKind.Storage)) }
 {
     match register.ids(tn) {
@@ -138,10 +136,9 @@ pub fn command_for<S: Store>(
         → command_of command ≡ command_for st tn.number operation.now) }
     ensures kept { S.IsUsable register.new.store → (st : State)
         → Refines (S.content register.old.store) st → Refines (S.content register.new.store) st }
-    ensures short { IfErr result IsShort }
-    ensures preserves { PreservesStore S.IsUsable S.HasHonestDevice S.failed register.old.store
-        register.new.store
-        ⊥ (ReportsStorage (S.IsUsable register.new.store) (S.content register.old.store)
+    ensures unavailable { IfErr result IsUnavailableKind }
+    ensures preserves { PreservesStore S.StoreModel register.old.store register.new.store ⊥
+        (ReportsStorage (S.IsUsable register.new.store) (S.content register.old.store)
         (result ≡ Err FaultKind.Storage)) }
 {
     match operation {

@@ -5,9 +5,9 @@ ghost use Rattle.delivery.specs.Mirrors.{in_force_of};
 ghost use Rattle.model.specs.State.{State, all_in_force, is_carrier};
 ghost use Rattle.register.specs.Refinement.{Refines};
 ghost use Rattle.settle.specs.StoreContract.{PreservesStore, ReportsStorage};
-ghost use Rattle.bulk.specs.Audits.{Audits, EachOnce, subjects_in};
+ghost use Rattle.bulk.specs.Audits.{Audits, AreDistinct, subjects_in};
 ghost use Rattle.bulk.specs.Comparing.{AreCompared, ComparesFile, IsNotCompared};
-ghost use Rattle.bulk.specs.Faults.{FailsWith, IsShort};
+ghost use Rattle.bulk.specs.Faults.{FailsWith, IsUnavailableKind};
 ghost use Rattle.bulk.specs.Findings.{awaited};
 
 use crate::asking::{rows_in_force, subjects_waiting};
@@ -30,27 +30,27 @@ const HEADER: &str = "subject,finding";
 
 /// The register's side of an audit.
 #[derive(Drop)]
-struct Held {
+struct RegisterSide {
     in_force: Vec<RoutedRow>,
     waiting: Vec<Subject>,
 }
 
 // Reads the register's side of an audit for a carrier.
-fn held_for<S: Store>(register: &mut Register<S>, carrier: Spid) -> Result<Held, FaultKind>
-    ensures held { IfOk result (λ held. S.IsUsable register.new.store → (st : State)
+fn side_for<S: Store>(register: &mut Register<S>, carrier: Spid) -> Result<RegisterSide, FaultKind>
+    ensures side { IfOk result (λ side. S.IsUsable register.new.store → (st : State)
         → Refines (S.content register.old.store) st
-        → (map in_force_of held.in_force.items ≡ all_in_force st)
-        × (map subject_of held.waiting.items ≡ awaited st carrier.number)
+        → (map in_force_of side.in_force.items ≡ all_in_force st)
+        × (map subject_of side.waiting.items ≡ awaited st carrier.number)
         × (is_carrier st carrier.number ≡ true)) }
     ensures unknown { result ≡ Err FaultKind.UnknownCarrier → S.IsUsable register.new.store
         → (st : State) → Refines (S.content register.old.store) st
         → is_carrier st carrier.number ≡ false }
     ensures kept { S.IsUsable register.new.store → (st : State)
         → Refines (S.content register.old.store) st → Refines (S.content register.new.store) st }
-    ensures kinds { IfErr result (λ kind. IsShort kind ⊎ (kind ≡ FaultKind.UnknownCarrier)) }
-    ensures preserves { PreservesStore S.IsUsable S.HasHonestDevice S.failed register.old.store
-        register.new.store
-        ⊥ (ReportsStorage (S.IsUsable register.new.store) (S.content register.old.store)
+    ensures kinds { IfErr result (λ kind. IsUnavailableKind kind ⊎ (kind
+        ≡ FaultKind.UnknownCarrier)) }
+    ensures preserves { PreservesStore S.StoreModel register.old.store register.new.store ⊥
+        (ReportsStorage (S.IsUsable register.new.store) (S.content register.old.store)
         (result ≡ Err FaultKind.Storage)) }
 {
     let waiting = match subjects_waiting(register, carrier) {
@@ -58,7 +58,7 @@ fn held_for<S: Store>(register: &mut Register<S>, carrier: Spid) -> Result<Held,
         Err(kind) => return Err(kind),
     };
     match rows_in_force(register) {
-        Ok(in_force) => Ok(Held { in_force, waiting }),
+        Ok(in_force) => Ok(RegisterSide { in_force, waiting }),
         Err(kind) => Err(kind),
     }
 }
@@ -66,48 +66,37 @@ fn held_for<S: Store>(register: &mut Register<S>, carrier: Spid) -> Result<Held,
 // Returns the findings on a copy with these entries, ordered by subject.
 fn compare(
     alloc: Global,
-    held: &Held,
+    side: &RegisterSide,
     entries: &[RoutedRow],
 ) -> Result<Vec<SubjectFinding>, FaultKind>
-    ensures compared { IfOk result (λ findings. EachOnce (subjects_in entries.now)
-        × AreCompared held.now.in_force.items held.now.waiting.items entries.now
+    ensures compared { IfOk result (λ findings. AreDistinct (subjects_in entries.now)
+        × AreCompared side.now.in_force.items side.now.waiting.items entries.now
         findings.items) }
-    ensures twice { result ≡ Err FaultKind.BadFile → ¬ (EachOnce (subjects_in entries.now)) }
+    ensures duplicate { result ≡ Err FaultKind.BadFile → ¬ (AreDistinct (subjects_in entries.now)) }
     ensures kinds { IfErr result
         (λ kind. (kind ≡ FaultKind.BadFile) ⊎ (kind ≡ FaultKind.NoMemory)) }
 {
-    let mut all = match copy_sides(alloc, entries) {
-        Ok(all) => all,
-        Err(kind) => return Err(kind),
-    };
-    match add_in_force(&mut all, &held.in_force) {
-        Ok(()) => {}
-        Err(kind) => return Err(kind),
-    }
-    match add_waiting(&mut all, &held.waiting) {
-        Ok(()) => {}
-        Err(kind) => return Err(kind),
-    }
-    match findings_in(alloc, &all) {
-        Ok(findings) => Ok(findings),
-        Err(_) => Err(FaultKind::NoMemory),
-    }
+    let mut all = copy_sides(alloc, entries)?;
+    add_in_force(&mut all, &side.in_force)?;
+    add_waiting(&mut all, &side.waiting)?;
+    let findings = findings_in(alloc, &all)?;
+    Ok(findings)
 }
 
 // Returns the findings on the copy that `reader` supplies.
 fn compare_file<R: Read + Drop>(
     alloc: Global,
-    held: &Held,
+    side: &RegisterSide,
     reader: R,
 ) -> Result<Vec<SubjectFinding>, FaultKind>
     ensures compared { IfOk result (λ findings. IfSome (R.remaining reader) (λ bytes. ComparesFile
-        held.now.in_force.items held.now.waiting.items bytes findings.items)) }
+        side.now.in_force.items side.now.waiting.items bytes findings.items)) }
     ensures other { IfErr result (λ kind. IfSome (R.remaining reader) (IsNotCompared kind)) }
     ensures kinds { IfErr result (λ kind. kind ≢ FaultKind.Storage) }
 {
     let mut reader = open(alloc, reader);
     match read_copy(alloc, &mut reader) {
-        Ok(entries) => compare(alloc, held, &entries),
+        Ok(entries) => compare(alloc, side, &entries),
         Err(kind) => Err(kind),
     }
 }
@@ -137,17 +126,16 @@ pub fn audit<S: Store, R: Read + Drop, W: Write>(
         (W.contents writer.old) (W.contents writer.new) result) }
     ensures kept { S.IsUsable register.new.store → (st : State)
         → Refines (S.content register.old.store) st → Refines (S.content register.new.store) st }
-    ensures preserves { PreservesStore S.IsUsable S.HasHonestDevice S.failed register.old.store
-        register.new.store
-        ⊥ (ReportsStorage (S.IsUsable register.new.store) (S.content register.old.store)
+    ensures preserves { PreservesStore S.StoreModel register.old.store register.new.store ⊥
+        (ReportsStorage (S.IsUsable register.new.store) (S.content register.old.store)
         (FailsWith FaultKind.Storage result)) }
 {
-    let (mut line, held) = match (LineBuffer::new(alloc), held_for(register, carrier)) {
-        (Ok(line), Ok(held)) => (line, held),
+    let (mut line, side) = match (LineBuffer::new(alloc), side_for(register, carrier)) {
+        (Ok(line), Ok(side)) => (line, side),
         (Err(_), _) => return Err(BulkFault::at_start(FaultKind::NoMemory)),
         (_, Err(kind)) => return Err(BulkFault::at_start(kind)),
     };
-    let findings = match compare_file(alloc, &held, reader) {
+    let findings = match compare_file(alloc, &side, reader) {
         Ok(findings) => findings,
         Err(kind) => return Err(BulkFault::at_start(kind)),
     };

@@ -37,9 +37,8 @@ pub fn export<S: Store, W: Write>(
         → Exports result st (W.contents writer.old) (W.contents writer.new) }
     ensures kept { S.IsUsable register.new.store → (st : State)
         → Refines (S.content register.old.store) st → Refines (S.content register.new.store) st }
-    ensures preserves { PreservesStore S.IsUsable S.HasHonestDevice S.failed register.old.store
-        register.new.store
-        ⊥ (ReportsStorage (S.IsUsable register.new.store) (S.content register.old.store)
+    ensures preserves { PreservesStore S.StoreModel register.old.store register.new.store ⊥
+        (ReportsStorage (S.IsUsable register.new.store) (S.content register.old.store)
         (FailsWith FaultKind.Storage result)) }
 {
     let (mut line, rows) = match (LineBuffer::new(alloc), rows_in_force(register)) {

@@ -2,6 +2,8 @@
 ghost use Rattle.std.specs.Prelude.{◌≡◌};
 ghost use Rattle.bulk.specs.Faults.{kind_name};
 
+use std::alloc::AllocError;
+
 /// The kind of a fault.
 #[derive(Clone, Copy, Debug, PartialEq, Eq)]
 pub enum FaultKind {
@@ -35,6 +37,16 @@ impl FaultKind {
             FaultKind::Read => "read",
             FaultKind::Write => "write",
         }
+    }
+}
+
+impl From<AllocError> for FaultKind {
+    ghost use Rattle.bulk.specs.declared.fault.FaultKind.TheVariants.{NoMemory};
+
+    ghost from_gives = { λ _ kind. kind ≡ NoMemory };
+
+    fn from(_error: AllocError) -> FaultKind {
+        FaultKind::NoMemory
     }
 }
 

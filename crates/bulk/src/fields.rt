@@ -139,7 +139,7 @@ fn action_in(field: &[u8]) -> Option<ActionName>
 }
 
 // Splits a range at the hyphen after ten characters. Returns the parts before and after it.
-fn cut(field: &[u8]) -> Option<(&[u8], &[u8])>
+fn split_range(field: &[u8]) -> Option<(&[u8], &[u8])>
     ensures some { IfSome result (λ parts. (length parts.0.now ≡ 10)
         × (field.now ≡ parts.0.now ++ 45 ∷ parts.1.now)) }
     ensures none { IfNone result ((before behind : List ℕ) → length before ≡ 10
@@ -158,7 +158,7 @@ fn range_in(field: &[u8]) -> Option<Numbers>
     ensures none { IfNone result ((numbers : NumbersImpl)
         → field.now ≢ tn_text numbers.first.number ++ 45 ∷ tn_text numbers.last.number) }
 {
-    let (first, last) = cut(field)?;
+    let (first, last) = split_range(field)?;
     Numbers::new(tn_in(first)?, tn_in(last)?)
 }
 
@@ -293,7 +293,7 @@ fn create_in(fields: &Fields, creator: Creator) -> Option<Operation>
 }
 
 // Returns whether all fields after the subject are empty, except perhaps due.
-fn has_due_alone(fields: &Fields) -> bool
+fn has_only_due(fields: &Fields) -> bool
     ensures { IsTrue result
         ↔ (six_fields fields.now ≡ [] ∷ [] ∷ fields.now.due.now ∷ [] ∷ [] ∷ [] ∷ []) }
 {
@@ -305,7 +305,7 @@ fn has_due_alone(fields: &Fields) -> bool
 }
 
 // Returns whether all fields after the subject are empty, except perhaps lrn and cic.
-fn has_routing_alone(fields: &Fields) -> bool
+fn has_only_routing(fields: &Fields) -> bool
     ensures { IsTrue result
         ↔ (six_fields fields.now ≡ [] ∷ [] ∷ [] ∷ fields.now.lrn.now ∷ fields.now.cic.now ∷ [] ∷
         []) }
@@ -324,7 +324,7 @@ fn modify_in(fields: &Fields) -> Option<Operation>
         → command_action command ≡ ModifyRouting
         → six_fields fields.now ≢ operation_fields (OnVersion command)) }
 {
-    if !has_routing_alone(fields) {
+    if !has_only_routing(fields) {
         return None;
     }
     let routing = Routing {
@@ -342,7 +342,7 @@ fn command_in(fields: &Fields, action: ActionName) -> Option<Operation>
         → six_fields fields.now ≢ operation_fields (OnVersion command)) }
 {
     let command = version_command_in(action, fields.due)?;
-    if has_due_alone(fields) {
+    if has_only_due(fields) {
         Some(Operation::OnVersion(command))
     } else {
         None

@@ -52,15 +52,13 @@ fn report_rows<S: Store, R: Read, W: Write>(
     requires { IsPlain reader.old }
     ensures reports { S.IsUsable register.new.store → (st : State)
         → Refines (S.content register.old.store) st → (rows : List Row)
-        → HasRows R.remaining reader.old rows
-        → Reports st rows (S.content register.new.store) (W.contents writer.old)
-        (W.contents writer.new) result }
+        → HasRows R.remaining reader.old rows → Reports st rows (S.content register.new.store)
+        (W.contents writer.old) (W.contents writer.new) result }
     ensures state { S.IsUsable register.new.store → (st : State)
         → Refines (S.content register.old.store) st
         → RefinesReachable st (S.content register.new.store) }
-    ensures preserves { PreservesStore S.IsUsable S.HasHonestDevice S.failed register.old.store
-        register.new.store
-        ⊥ (ReportsStorage (S.IsUsable register.new.store) (S.content register.old.store)
+    ensures preserves { PreservesStore S.StoreModel register.old.store register.new.store ⊥
+        (ReportsStorage (S.IsUsable register.new.store) (S.content register.old.store)
         (FailsWith FaultKind.Storage result)) }
 {
     line.set_first(HEADER);
@@ -97,9 +95,8 @@ pub fn run_file<S: Store, R: Read + Drop, W: Write>(
     ensures state { S.IsUsable register.new.store → (st : State)
         → Refines (S.content register.old.store) st
         → RefinesReachable st (S.content register.new.store) }
-    ensures preserves { PreservesStore S.IsUsable S.HasHonestDevice S.failed register.old.store
-        register.new.store
-        ⊥ (ReportsStorage (S.IsUsable register.new.store) (S.content register.old.store)
+    ensures preserves { PreservesStore S.StoreModel register.old.store register.new.store ⊥
+        (ReportsStorage (S.IsUsable register.new.store) (S.content register.old.store)
         (FailsWith FaultKind.Storage result)) }
 {
     let mut line = match LineBuffer::new(alloc) {

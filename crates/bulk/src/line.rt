@@ -1,6 +1,6 @@
 //! Writes lines of files into reserved memory.
 ghost use Rattle.std.specs.Prelude.{◌≡◌, ◌+◌, ◌≤◌, ◌++◌, ◌∷◌, [], string_bytes, string_len, string_capacity, IfErr, OnOk, OnErr, Some, length, codes, decimal};
-ghost use Rattle.bulk.specs.Making.{told_line};
+ghost use Rattle.bulk.specs.Making.{outcome_line};
 ghost use Rattle.bulk.specs.Report.{report_line};
 ghost use Rattle.std.specs.Io.KnownBytes.{Appends};
 ghost use Rattle.delivery.specs.Mirrors.{in_force_of};
@@ -124,12 +124,12 @@ impl LineBuffer {
     }
 
     /// Writes the report's line for a command on a number.
-    pub fn set_told(&mut self, row: u64, tn: Tn, told: CommandResult)
-        ensures { string_bytes self.new.text ≡ told_line row tn.number told }
+    pub fn set_outcome(&mut self, row: u64, tn: Tn, outcome: CommandResult)
+        ensures { string_bytes self.new.text ≡ outcome_line row tn.number outcome }
     {
         self.set_row(row);
         put_subject(&mut self.text, Subject::Number(tn));
-        match told {
+        match outcome {
             CommandResult::Version(id) => {
                 put(&mut self.text, ",ok,");
                 put_number(&mut self.text, id);

@@ -10,9 +10,9 @@ ghost use Rattle.bulk.specs.declared.fault.FaultKind.TheVariants.{Storage};
 ghost use Rattle.requests.specs.Calls.{command_of, reply_of};
 ghost use Rattle.register.specs.Refinement.{Refines};
 ghost use Rattle.settle.specs.StoreContract.{PreservesStore, ReportsStorage};
-ghost use Rattle.bulk.specs.Faults.{IsShort};
-ghost use Rattle.bulk.specs.Making.{IsSaid, IsResultOf, is_of_number};
-ghost use Rattle.bulk.specs.Report.{CommandTask, input_for, line_of, state_behind};
+ghost use Rattle.bulk.specs.Faults.{IsUnavailableKind};
+ghost use Rattle.bulk.specs.Making.{IsCommandReply, IsResultOf, is_of_number};
+ghost use Rattle.bulk.specs.Report.{CommandTask, input_for, line_of, next_state};
 
 use crate::asking::command_for;
 use crate::command_result::CommandResult;
@@ -26,9 +26,9 @@ use requests::{Command, Reply};
 use settle::Store;
 
 // Returns the result of a reply. The reply to a create or to a command on a version is a version.
-fn told_of(reply: Reply) -> Result<CommandResult, FaultKind>
-    ensures told { IfOk result (λ told. IsResultOf told (reply_of reply)) }
-    ensures other { OnErr result (¬ (IsSaid (reply_of reply))) }
+fn outcome_of_reply(reply: Reply) -> Result<CommandResult, FaultKind>
+    ensures outcome { IfOk result (λ outcome. IsResultOf outcome (reply_of reply)) }
+    ensures other { OnErr result (¬ (IsCommandReply (reply_of reply))) }
     ensures kind { IfErr result (λ kind. kind ≡ FaultKind.NoMemory) }
 {
     match reply {
@@ -38,12 +38,12 @@ fn told_of(reply: Reply) -> Result<CommandResult, FaultKind>
 }
 
 // Returns the result of a refusal, if it is one of the machine's.
-fn told_by(refusal: Refusal) -> Result<CommandResult, FaultKind>
-    ensures told { IfOk result (λ told. (nat_lt (number_of refusal) 29 ≡ true)
-        × IsResultOf told (Refused (number_of refusal))) }
+fn outcome_of_refusal(refusal: Refusal) -> Result<CommandResult, FaultKind>
+    ensures outcome { IfOk result (λ outcome. (nat_lt (number_of refusal) 29 ≡ true)
+        × IsResultOf outcome (Refused (number_of refusal))) }
     ensures other { OnErr result (nat_lt (number_of refusal) 29 ≡ false) }
     ensures kind { IfErr result
-        (λ kind. IsShort kind × (kind ≡ Storage → refusal ≡ StorageRefusal)) }
+        (λ kind. IsUnavailableKind kind × (kind ≡ Storage → refusal ≡ StorageRefusal)) }
 {
     match refusal {
         Refusal::Storage => Err(FaultKind::Storage),
@@ -53,14 +53,14 @@ fn told_by(refusal: Refusal) -> Result<CommandResult, FaultKind>
 }
 
 // Executes a create or a command on a version.
-fn make_call<S: Store>(
+fn execute_command<S: Store>(
     register: &mut Register<S>,
     caller: Spid,
     command: &Command,
 ) -> Result<CommandResult, FaultKind>
-    ensures told { IfOk result (λ told. S.IsUsable register.new.store → (st : State)
+    ensures outcome { IfOk result (λ outcome. S.IsUsable register.new.store → (st : State)
         → Refines (S.content register.old.store) st
-        → IsResultOf told
+        → IsResultOf outcome
         (out st (RequestFrom caller.number (CommandRequest (command_of command.now))))
         × Refines (S.content register.new.store)
         (next st (RequestFrom caller.number (CommandRequest (command_of command.now))))) }
@@ -68,47 +68,43 @@ fn make_call<S: Store>(
         → Refines (S.content register.old.store) st
         → is_of_number (command_of command.now) ≡ true
         → Refines (S.content register.new.store) st) }
-    ensures short { IfErr result IsShort }
-    ensures preserves { PreservesStore S.IsUsable S.HasHonestDevice S.failed register.old.store
-        register.new.store
-        ⊥ (ReportsStorage (S.IsUsable register.new.store) (S.content register.old.store)
+    ensures unavailable { IfErr result IsUnavailableKind }
+    ensures preserves { PreservesStore S.StoreModel register.old.store register.new.store ⊥
+        (ReportsStorage (S.IsUsable register.new.store) (S.content register.old.store)
         (result ≡ Err FaultKind.Storage)) }
 {
     match register.do_it(caller, command) {
-        Ok(reply) => told_of(reply),
-        Err(refusal) => told_by(refusal),
+        Ok(reply) => outcome_of_reply(reply),
+        Err(refusal) => outcome_of_refusal(refusal),
     }
 }
 
 // Executes an operation on a number.
-fn answer_for<S: Store>(
+fn execute_operation<S: Store>(
     register: &mut Register<S>,
     caller: Spid,
     tn: Tn,
     operation: &Operation,
 ) -> Result<CommandResult, FaultKind>
-    ensures told { IfOk result (λ told. S.IsUsable register.new.store → (st : State)
+    ensures outcome { IfOk result (λ outcome. S.IsUsable register.new.store → (st : State)
         → Refines (S.content register.old.store) st
-        → IsResultOf told (out st (input_for st caller.number tn.number operation.now))
+        → IsResultOf outcome (out st (input_for st caller.number tn.number operation.now))
         × Refines (S.content register.new.store)
         (next st (input_for st caller.number tn.number operation.now))) }
     ensures kept { OnErr result (S.IsUsable register.new.store → (st : State)
         → Refines (S.content register.old.store) st → Refines (S.content register.new.store) st) }
-    ensures short { IfErr result IsShort }
-    ensures preserves { PreservesStore S.IsUsable S.HasHonestDevice S.failed register.old.store
-        register.new.store
-        ⊥ (ReportsStorage (S.IsUsable register.new.store) (S.content register.old.store)
+    ensures unavailable { IfErr result IsUnavailableKind }
+    ensures preserves { PreservesStore S.StoreModel register.old.store register.new.store ⊥
+        (ReportsStorage (S.IsUsable register.new.store) (S.content register.old.store)
         (result ≡ Err FaultKind.Storage)) }
 {
-    match command_for(register, tn, operation) {
-        Ok(command) => make_call(register, caller, &command),
-        Err(kind) => Err(kind),
-    }
+    let command = command_for(register, tn, operation)?;
+    execute_command(register, caller, &command)
 }
 
 /// Executes an operation on a number, and writes the report's line for it. On an error, the state
 /// is unchanged.
-pub fn make<S: Store>(
+pub fn execute<S: Store>(
     register: &mut Register<S>,
     line: &mut LineBuffer,
     row: u64,
@@ -116,25 +112,20 @@ pub fn make<S: Store>(
     tn: Tn,
     operation: &Operation,
 ) -> Result<(), FaultKind>
-    ensures made { OnOk result (S.IsUsable register.new.store → (st : State)
+    ensures executed { OnOk result (S.IsUsable register.new.store → (st : State)
         → Refines (S.content register.old.store) st
         → (string_bytes line.new.text ≡ line_of st (CommandTask row caller.number tn.number
         operation.now))
         × Refines (S.content register.new.store)
-        (state_behind st (CommandTask row caller.number tn.number operation.now))) }
+        (next_state st (CommandTask row caller.number tn.number operation.now))) }
     ensures kept { OnErr result (S.IsUsable register.new.store → (st : State)
         → Refines (S.content register.old.store) st → Refines (S.content register.new.store) st) }
-    ensures short { IfErr result IsShort }
-    ensures preserves { PreservesStore S.IsUsable S.HasHonestDevice S.failed register.old.store
-        register.new.store
-        ⊥ (ReportsStorage (S.IsUsable register.new.store) (S.content register.old.store)
+    ensures unavailable { IfErr result IsUnavailableKind }
+    ensures preserves { PreservesStore S.StoreModel register.old.store register.new.store ⊥
+        (ReportsStorage (S.IsUsable register.new.store) (S.content register.old.store)
         (result ≡ Err FaultKind.Storage)) }
 {
-    match answer_for(register, caller, tn, operation) {
-        Ok(told) => {
-            line.set_told(row, tn, told);
-            Ok(())
-        }
-        Err(kind) => Err(kind),
-    }
+    let outcome = execute_operation(register, caller, tn, operation)?;
+    line.set_outcome(row, tn, outcome);
+    Ok(())
 }

@@ -16,7 +16,7 @@ ghost use Rattle.bulk.specs.declared.request.BulkRequest.{BulkRequest as BulkReq
 use crate::fault::{BulkFault, FaultKind};
 use crate::fields::read_request;
 use crate::line::LineBuffer;
-use crate::making::make;
+use crate::making::execute;
 use crate::request::BulkRequest;
 use crate::rows::next_row;
 use csv::{ByteRecord, Reader};
@@ -55,19 +55,18 @@ fn run_number<S: Store, W: Write>(
         (S.content register.new.store) (W.contents writer.old) (W.contents writer.new)
         count result }
     ensures count { IfOk result (λ k. k ≡ count + 1) }
-    ensures preserves { PreservesStore S.IsUsable S.HasHonestDevice S.failed register.old.store
-        register.new.store
-        ⊥ (ReportsStorage (S.IsUsable register.new.store) (S.content register.old.store)
+    ensures preserves { PreservesStore S.StoreModel register.old.store register.new.store ⊥
+        (ReportsStorage (S.IsUsable register.new.store) (S.content register.old.store)
         (FailsWith FaultKind.Storage result)) }
 {
-    match make(register, line, row, request.caller, tn, &request.operation) {
+    match execute(register, line, row, request.caller, tn, &request.operation) {
         Ok(()) => send_line(line, writer, count),
         Err(kind) => Err(BulkFault { kind, rows: count }),
     }
 }
 
 // Executes a request for each of its numbers, ascending.
-fn run_order<S: Store, W: Write>(
+fn run_request<S: Store, W: Write>(
     register: &mut Register<S>,
     line: &mut LineBuffer,
     writer: &mut W,
@@ -81,9 +80,8 @@ fn run_order<S: Store, W: Write>(
         → RunsTo st (tasks_of row (Some request.now)) (S.content register.new.store)
         (W.contents writer.old) (W.contents writer.new) count result }
     ensures few { IfOk result (λ k. k ≤ count + 1000) }
-    ensures preserves { PreservesStore S.IsUsable S.HasHonestDevice S.failed register.old.store
-        register.new.store
-        ⊥ (ReportsStorage (S.IsUsable register.new.store) (S.content register.old.store)
+    ensures preserves { PreservesStore S.StoreModel register.old.store register.new.store ⊥
+        (ReportsStorage (S.IsUsable register.new.store) (S.content register.old.store)
         (FailsWith FaultKind.Storage result)) }
 {
     let mut written = count;
@@ -109,18 +107,16 @@ fn run_row<S: Store, W: Write>(
 ) -> Result<u64, BulkFault>
     requires { count + 1001 < 2 ^ 64 }
     ensures runs { (o : Option BulkRequestImpl) × ParsesRow (fields_of raw.now) o
-        × (S.IsUsable register.new.store → (st : State)
-        → Refines (S.content register.old.store) st
-        → RunsTo st (tasks_of row o) (S.content register.new.store)
-        (W.contents writer.old) (W.contents writer.new) count result) }
+        × (S.IsUsable register.new.store → (st : State) → Refines (S.content register.old.store) st
+        → RunsTo st (tasks_of row o) (S.content register.new.store) (W.contents writer.old)
+        (W.contents writer.new) count result) }
     ensures few { IfOk result (λ k. k ≤ count + 1000) }
-    ensures preserves { PreservesStore S.IsUsable S.HasHonestDevice S.failed register.old.store
-        register.new.store
-        ⊥ (ReportsStorage (S.IsUsable register.new.store) (S.content register.old.store)
+    ensures preserves { PreservesStore S.StoreModel register.old.store register.new.store ⊥
+        (ReportsStorage (S.IsUsable register.new.store) (S.content register.old.store)
         (FailsWith FaultKind.Storage result)) }
 {
     match read_request(raw) {
-        Some(request) => run_order(register, line, writer, row, &request, count),
+        Some(request) => run_request(register, line, writer, row, &request, count),
         None => {
             line.set_bad(row);
             send_line(line, writer, count)
@@ -142,15 +138,13 @@ pub fn run_rows<S: Store, R: Read, W: Write>(
     requires { IsPlain reader.old }
     ensures runs { S.IsUsable register.new.store → (st : State)
         → Refines (S.content register.old.store) st → (rows : List Row)
-        → HasRows R.remaining reader.old rows
-        → RunsRows st rows (S.content register.new.store) (W.contents writer.old)
-        (W.contents writer.new) result }
+        → HasRows R.remaining reader.old rows → RunsRows st rows (S.content register.new.store)
+        (W.contents writer.old) (W.contents writer.new) result }
     ensures state { S.IsUsable register.new.store → (st : State)
         → Refines (S.content register.old.store) st
         → RefinesReachable st (S.content register.new.store) }
-    ensures preserves { PreservesStore S.IsUsable S.HasHonestDevice S.failed register.old.store
-        register.new.store
-        ⊥ (ReportsStorage (S.IsUsable register.new.store) (S.content register.old.store)
+    ensures preserves { PreservesStore S.StoreModel register.old.store register.new.store ⊥
+        (ReportsStorage (S.IsUsable register.new.store) (S.content register.old.store)
         (FailsWith FaultKind.Storage result)) }
 {
     let mut raw = ByteRecord::new(alloc);

@@ -5,10 +5,10 @@ ghost use Rattle.std.specs.Ordering.{nat_cmp, on};
 ghost use Rattle.numbers.specs.Subjects.{subject_eq};
 ghost use Rattle.numbers.specs.Abstraction.{key_of, routing_of, subject_of};
 ghost use Rattle.numbers.specs.declared.ported.Subject.{Subject as SubjectImpl};
-ghost use Rattle.bulk.specs.Audits.{EachOnce, subjects_in};
+ghost use Rattle.bulk.specs.Audits.{AreDistinct, subjects_in};
 ghost use Rattle.bulk.specs.Findings.{finding_of, same_routing};
 ghost use Rattle.bulk.specs.declared.finding.Finding.TheVariants.{Different};
-ghost use Rattle.bulk.specs.Sides.{found_in, found_of, routed_after, sides_at, waits_after};
+ghost use Rattle.bulk.specs.Sides.{found_in, found_of, routed_after, sides_at, waiting_after};
 
 use crate::fault::FaultKind;
 use crate::finding::{Finding, SubjectFinding};
@@ -25,13 +25,13 @@ pub struct Sides {
     /// The routing in the copy.
     pub copied: Option<Routing>,
     /// Whether a download of the subject is pending for the carrier.
-    pub waits: bool,
+    pub is_waiting: bool,
 }
 
 const NO_SIDES: Sides = Sides {
     in_force: None,
     copied: None,
-    waits: false,
+    is_waiting: false,
 };
 
 // Returns the finding on a subject with these routings in force and in the copy, if they differ.
@@ -68,7 +68,7 @@ impl Sides {
     pub fn finding(&self) -> Option<Finding>
         ensures { result ≡ found_of self.now }
     {
-        if self.waits {
+        if self.is_waiting {
             Some(Finding::Waiting)
         } else {
             routed_finding(self.in_force, self.copied)
@@ -121,13 +121,13 @@ pub fn add_waiting(
 ) -> Result<(), FaultKind>
     ensures added { OnOk result ((s : SubjectImpl) → sides_at all.new s
         ≡ record (sides_at all.old s) {
-          waits = waits_after subjects.now s (sides_at all.old s).waits;
+          is_waiting = waiting_after subjects.now s (sides_at all.old s).is_waiting;
         }) }
     ensures memory { IfErr result (λ kind. kind ≡ FaultKind.NoMemory) }
 {
     for subject in subjects {
         let mut sides = sides_of(all, *subject);
-        sides.waits = true;
+        sides.is_waiting = true;
         set_sides(all, *subject, sides)?;
     }
     Ok(())
@@ -139,9 +139,9 @@ pub fn copy_sides(
     entries: &[RoutedRow],
 ) -> Result<BTreeMap<Subject, Sides>, FaultKind>
     ensures added { IfOk result (λ all. (s : SubjectImpl) → sides_at all s
-        ≡ record { in_force = None; copied = routed_after entries.now s None; waits = false }) }
-    ensures once { OnOk result (EachOnce (subjects_in entries.now)) }
-    ensures twice { result ≡ Err FaultKind.BadFile → ¬ (EachOnce (subjects_in entries.now)) }
+        ≡ record { in_force = None; copied = routed_after entries.now s None; is_waiting = false }) }
+    ensures distinct { OnOk result (AreDistinct (subjects_in entries.now)) }
+    ensures duplicate { result ≡ Err FaultKind.BadFile → ¬ (AreDistinct (subjects_in entries.now)) }
     ensures kinds { IfErr result
         (λ kind. (kind ≡ FaultKind.BadFile) ⊎ (kind ≡ FaultKind.NoMemory)) }
 {

@@ -32,7 +32,7 @@ module _ (from to : ℕ) (st : State) (new : Content) (trace : IoTrace) (has : O
     run = x.run;
     refines = x.refines;
     count = x.count;
-    handed = x.handed;
+    supplied = x.supplied;
     written = Appends-kept trace.written_before trace.written_after has _ x.written kept;
   }
 
@@ -45,14 +45,14 @@ module _ (from to : ℕ) (st : State) (new : Content) (trace : IoTrace) (has : O
     rest = x.rest;
     run = x.run;
     last = x.last;
-    left = x.left;
-    cuts = x.cuts;
+    rest_after = x.rest_after;
+    parses = x.parses;
     closes = x.closes;
     end = x.end;
     step = x.step;
     refines = x.refines;
     count = x.count;
-    handed = x.handed;
+    supplied = x.supplied;
     read = x.read;
     written = Appends-kept trace.written_before trace.written_after has _ x.written kept;
   }
@@ -67,7 +67,7 @@ module _ (from to : ℕ) (st : State) (new : Content) (trace : IoTrace) (has : O
     refused = x.refused;
     refines = x.refines;
     count = x.count;
-    handed = x.handed;
+    supplied = x.supplied;
     read = x.read;
     written = Appends-kept trace.written_before trace.written_after has _ x.written kept;
   }
@@ -80,9 +80,9 @@ module _ (from to : ℕ) (st : State) (new : Content) (trace : IoTrace) (has : O
     mid = x.mid;
     rest = x.rest;
     run = x.run;
-    untold = x.untold;
-    handed = x.handed;
-    answer = x.answer;
+    remaining_ticks = x.remaining_ticks;
+    supplied = x.supplied;
+    response = x.response;
     end = x.end;
     next = x.next;
     refines = x.refines;

@@ -17,38 +17,38 @@ line_of name = codes "npacd: " ++ name ++ 10 ∷ []
 
 -- Holds if a text was written whole and the status is `wanted`, or only a prefix of it and the
 -- status is 3.
-abbrev pub Tells : List ℕ → ℕ → (had has : Option (List ℕ)) → (status : ℕ) → Type 0
-Tells text wanted had has status = ((status ≡ wanted) × Appends had has text)
+abbrev pub ReportsText : List ℕ → ℕ → (had has : Option (List ℕ)) → (status : ℕ) → Type 0
+ReportsText text wanted had has status = ((status ≡ wanted) × Appends had has text)
     ⊎ ((status ≡ 3) × AppendsFront had has text)
 
 -- Holds if a fault was reported with its own status.
-abbrev pub TellsFault : Fault → (had has : Option (List ℕ)) → (status : ℕ) → Type 0
-TellsFault refused had has status =
-    Tells (line_of (fault_name refused)) (exit_status refused) had has status
+abbrev pub ReportsFault : Fault → (had has : Option (List ℕ)) → (status : ℕ) → Type 0
+ReportsFault refused had has status =
+    ReportsText (line_of (fault_name refused)) (exit_status refused) had has status
 
 -- Holds if a mistake in the command line was reported.
-abbrev pub TellsMistake : List ℕ → (had has : Option (List ℕ)) → (status : ℕ) → Type 0
-TellsMistake text had has status = Tells text 2 had has status
+abbrev pub ReportsMistake : List ℕ → (had has : Option (List ℕ)) → (status : ℕ) → Type 0
+ReportsMistake text had has status = ReportsText text 2 had has status
 
 -- Holds if success is not reported, and a fault is.
-abbrev pub TellsOutcome : Result (Unit {0}) Fault → (had has : Option (List ℕ)) → (status : ℕ)
+abbrev pub ReportsOutcome : Result (Unit {0}) Fault → (had has : Option (List ℕ)) → (status : ℕ)
     → Type 0
-TellsOutcome (Ok done) had has status = (status ≡ 0) × Keeps had has
-TellsOutcome (Err refused) had has status = TellsFault refused had has status
+ReportsOutcome (Ok done) had has status = (status ≡ 0) × Keeps had has
+ReportsOutcome (Err refused) had has status = ReportsFault refused had has status
 
 -- Holds if help was written and nothing was reported; or if help could not be written, and that was
 -- reported.
-abbrev pub TellsHelp : List ℕ → (wrote written had has : Option (List ℕ)) → (status : ℕ) → Type 0
-TellsHelp text wrote written had has status =
+abbrev pub ReportsHelp : List ℕ → (wrote written had has : Option (List ℕ)) → (status : ℕ) → Type 0
+ReportsHelp text wrote written had has status =
     ((status ≡ 0) × Appends wrote written text × Keeps had has)
-    ⊎ TellsFault fault.Write had has status
+    ⊎ ReportsFault fault.Write had has status
 
 -- Holds if the report is the one for this status of the usage.
-pub record TellsUsage (wanted : ℕ) (text : List ℕ) (wrote written had has : Option (List ℕ))
+pub record ReportsUsage (wanted : ℕ) (text : List ℕ) (wrote written had has : Option (List ℕ))
     (status : ℕ) : Type 0 where
-  pub help : wanted ≡ 0 → TellsHelp text wrote written had has status
-  pub mistake : wanted ≡ 2 → TellsMistake text had has status
-  pub memory : wanted ≡ 3 → TellsFault fault.NoMemory had has status
+  pub help : wanted ≡ 0 → ReportsHelp text wrote written had has status
+  pub mistake : wanted ≡ 2 → ReportsMistake text had has status
+  pub memory : wanted ≡ 3 → ReportsFault fault.NoMemory had has status
 
 -- Holds for the statuses of a usage: help, a mistake, or a failed allocation.
 abbrev pub IsUsage : ℕ → Type 0
@@ -64,8 +64,8 @@ AsksForHelp words = IsAmong kind.DisplayHelp (fault_of npacd_app words)
     ⊎ IsAmong kind.DisplayVersion (fault_of npacd_app words)
 
 -- Holds if a fault of this status was reported in full.
-abbrev pub HasTold : ℕ → (had has : Option (List ℕ)) → Type 0
-HasTold status had has = (refused : Fault) × (exit_status refused ≡ status)
+abbrev pub HasReported : ℕ → (had has : Option (List ℕ)) → Type 0
+HasReported status had has = (refused : Fault) × (exit_status refused ≡ status)
     × Appends had has (line_of (fault_name refused))
 
 -- Holds if the words are a command line, which was executed, or ask for help, and nothing was
@@ -78,7 +78,7 @@ EndsWell words had has status =
 abbrev pub EndsRefused : (words : List (List ℕ)) → (had has : Option (List ℕ)) → (status : ℕ)
     → Type 0
 EndsRefused words had has status = (status ≡ 1) × ((line : CommandLine) × IsLine words line)
-    × HasTold 1 had has
+    × HasReported 1 had has
 
 -- Holds if the words are no command line, and some text reports that.
 abbrev pub EndsMistaken : (words : List (List ℕ)) → (had has : Option (List ℕ)) → (status : ℕ)
@@ -90,7 +90,7 @@ EndsMistaken words had has status = (status ≡ 2) × IsNoLine words
 -- written.
 abbrev pub EndsFailed : (had has : Option (List ℕ)) → (status : ℕ) → Type 0
 EndsFailed had has status =
-    (status ≡ 3) × (HasTold 3 had has ⊎ ((text : List ℕ) × AppendsFront had has text))
+    (status ≡ 3) × (HasReported 3 had has ⊎ ((text : List ℕ) × AppendsFront had has text))
 
 -- Holds if the program ends so, by what it reported on the errors.
 abbrev pub Ends : (words : List (List ℕ)) → (had has : Option (List ℕ)) → (status : ℕ) → Type 0

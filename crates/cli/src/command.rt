@@ -83,8 +83,7 @@ fn plain<'a>(alloc: Global, name: &'a str, about: &'a str) -> Result<Command<'a>
 
 // Creates the subcommand that listens to a port.
 fn serve<'a>(alloc: Global) -> Result<Command<'a>, AllocError>
-    ensures { IfOk result
-        (λ c. (app_of c ≡ serve_app) × ((out-Command c).has_globals ≡ false)) }
+    ensures { IfOk result (λ c. (app_of c ≡ serve_app) × ((out-Command c).has_globals ≡ false)) }
 {
     let command = plain(
         alloc,
@@ -104,8 +103,7 @@ fn serve<'a>(alloc: Global) -> Result<Command<'a>, AllocError>
 
 // Creates the subcommand that compares a carrier's copy.
 fn audit<'a>(alloc: Global) -> Result<Command<'a>, AllocError>
-    ensures { IfOk result
-        (λ c. (app_of c ≡ audit_app) × ((out-Command c).has_globals ≡ false)) }
+    ensures { IfOk result (λ c. (app_of c ≡ audit_app) × ((out-Command c).has_globals ≡ false)) }
 {
     let command = plain(
         alloc,

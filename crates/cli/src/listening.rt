@@ -6,7 +6,7 @@ ghost use Rattle.register.specs.Refinement.{Refines};
 ghost use Rattle.api.specs.Serving.{RefinesReachable};
 
 use crate::fault::Fault;
-use crate::running::GATHERED;
+use crate::running::BUFFER_SIZE;
 use api::{Options, Served, Ticks, serve};
 use numbers::Minute;
 use register::Register;
@@ -62,13 +62,13 @@ fn serve_stream<C: Read, W: Write, S: Store, T: Ticks>(
     ensures usable { S.IsUsable register.new.store → S.IsUsable register.old.store }
     ensures rises { S.failed register.old.store ≤ S.failed register.new.store }
 {
-    let Ok(mut gathering) = BufWriter::with_capacity(alloc, GATHERED, writer) else {
+    let Ok(mut buffered) = BufWriter::with_capacity(alloc, BUFFER_SIZE, writer) else {
         return Err(api::Fault::Memory(0));
     };
     let options = Options { clock_route: false };
-    let served = serve(alloc, register, ticks, &options, reader, &mut gathering);
-    let flushed = gathering.flush();
-    let (_writer, _unwritten) = gathering.into_parts();
+    let served = serve(alloc, register, ticks, &options, reader, &mut buffered);
+    let flushed = buffered.flush();
+    let (_writer, _unwritten) = buffered.into_parts();
     match (served, flushed) {
         (Ok(served), Err(_)) => Err(api::Fault::Write(served.count)),
         (served, _) => served,
@@ -148,8 +148,8 @@ pub fn listen<T: AllocGlobal + Net + Clock, S: Store, W: Write>(
     writer: &mut W,
 ) -> Result<(), Fault> {
     let listener = listener_at(rt, port)?;
-    let told = writeln!(writer, "listening on 127.0.0.1:{port}");
-    if told.is_err() || writer.flush().is_err() {
+    let reported = writeln!(writer, "listening on 127.0.0.1:{port}");
+    if reported.is_err() || writer.flush().is_err() {
         return Err(Fault::Write);
     }
     let mut ticks = MachineMinutes { clock: rt };

@@ -2,7 +2,7 @@
 ghost use Rattle.std.specs.Prelude.{◌≡◌, OnErr, OnOk, string_bytes};
 ghost use Rattle.std.specs.Io.KnownBytes.{Appends};
 ghost use Rattle.http_messages.specs.Sending.{AppendsFront};
-ghost use Rattle.cli.specs.Reporting.{TellsFault, TellsMistake, TellsOutcome, TellsUsage, line_of};
+ghost use Rattle.cli.specs.Reporting.{ReportsFault, ReportsMistake, ReportsOutcome, ReportsUsage, line_of};
 
 use crate::fault::Fault;
 use crate::parse::Usage;
@@ -25,7 +25,7 @@ fn write_line<E: Write>(errors: &mut E, name: &str) -> io::Result<()>
 /// Reports a fault in one line on `errors`. Returns the fault's exit status, or 3 if the line
 /// cannot be written.
 pub fn report_fault<E: Write>(errors: &mut E, fault: Fault) -> u8
-    ensures { TellsFault fault (E.contents errors.old) (E.contents errors.new) result }
+    ensures { ReportsFault fault (E.contents errors.old) (E.contents errors.new) result }
 {
     match write_line(errors, fault.name()) {
         Ok(()) => fault.status(),
@@ -35,7 +35,7 @@ pub fn report_fault<E: Write>(errors: &mut E, fault: Fault) -> u8
 
 /// Reports how a command line was executed: nothing and 0 on success, otherwise the fault.
 pub fn report_outcome<E: Write>(errors: &mut E, outcome: Result<(), Fault>) -> u8
-    ensures { TellsOutcome outcome (E.contents errors.old) (E.contents errors.new) result }
+    ensures { ReportsOutcome outcome (E.contents errors.old) (E.contents errors.new) result }
 {
     match outcome {
         Ok(()) => 0,
@@ -45,7 +45,7 @@ pub fn report_outcome<E: Write>(errors: &mut E, outcome: Result<(), Fault>) -> u
 
 // Reports a mistake in the command line on `errors`.
 fn report_mistake<E: Write>(errors: &mut E, text: &str) -> u8
-    ensures { TellsMistake text.now (E.contents errors.old) (E.contents errors.new) result }
+    ensures { ReportsMistake text.now (E.contents errors.old) (E.contents errors.new) result }
 {
     match send_all(errors, text.as_bytes(), true) {
         Ok(()) => 2,
@@ -57,9 +57,8 @@ fn report_mistake<E: Write>(errors: &mut E, text: &str) -> u8
 /// to `errors` with status 2. If an allocation failed or help cannot be written, reports that
 /// fault.
 pub fn report_usage<W: Write, E: Write>(writer: &mut W, errors: &mut E, usage: &Usage) -> u8
-    ensures { TellsUsage usage.now.status (string_bytes usage.now.text)
-        (W.contents writer.old) (W.contents writer.new)
-        (E.contents errors.old) (E.contents errors.new) result }
+    ensures { ReportsUsage usage.now.status (string_bytes usage.now.text) (W.contents writer.old)
+        (W.contents writer.new) (E.contents errors.old) (E.contents errors.new) result }
 {
     let text = usage.text.as_str();
     match usage.status {

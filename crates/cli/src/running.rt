@@ -51,7 +51,7 @@ fn windows_at<T: Files + AllocGlobal>(rt: &T, path: &str) -> Result<Windows, Fau
 }
 
 // Returns how serving ended. A refused message is the program's fault.
-fn ended(served: Result<Served, api::Fault>) -> Result<(), Fault>
+fn serving_outcome(served: Result<Served, api::Fault>) -> Result<(), Fault>
     ensures { result ≡ outcome_of served }
 {
     match served {
@@ -66,7 +66,7 @@ fn ended(served: Result<Served, api::Fault>) -> Result<(), Fault>
 }
 
 // The size of the buffer for answers, in bytes.
-pub(crate) const GATHERED: usize = 65_536;
+pub(crate) const BUFFER_SIZE: usize = 65_536;
 
 // Serves `reader` to `writer` over a register. If the content refines the first state for some
 // windows and the device never failed, the answers are the machine's from there on. Unless a write
@@ -91,7 +91,7 @@ fn feed_to<S: Store, R: Read, W: Write + Drop>(
     let options = Options { clock_route: true };
     let served = serve(alloc, register, &mut NoTicks, &options, reader, writer);
     match writer.flush() {
-        Ok(()) => ended(served),
+        Ok(()) => serving_outcome(served),
         Err(_) => Err(Fault::Write),
     }
 }
@@ -168,8 +168,8 @@ pub fn feed_at<S: Start, R: Read, W: Write + Drop>(
     reader: &mut R,
     writer: &mut BufWriter<W>,
 ) -> Result<(StoreAt<S>, Result<(), Fault>), (FileFault, UnopenedAt<S>)>
-    ensures { IfOk result (λ r. HasCleanDisk (file_state r.0.conn)
-        → IsTrue (file_state r.0.conn).is_open → r.0.failures ≡ 0
+    ensures { IfOk result (λ r. HasCleanDisk (file_state r.0.db.conn)
+        → IsTrue (file_state r.0.db.conn).is_open → r.0.failures ≡ 0
         → (image_at S.Start).db ≡ [] → IfSome (R.remaining reader.old) (λ input.
         Feeds (windows_of windows.now) (io_of_feed input (R.remaining reader.new)
         (writer_contents W.contents writer.old) (W.contents (writer_inner writer.new)))
@@ -180,48 +180,48 @@ pub fn feed_at<S: Start, R: Read, W: Write + Drop>(
 }
 
 // Like `feed`, to a writer without a buffer. Discards what a failed write leaves in the buffer.
-fn feed_gathering<R: Read, W: Write>(
+fn feed_buffered<R: Read, W: Write>(
     alloc: Global,
     windows: &Windows,
     reader: &mut R,
     writer: &mut W,
 ) -> Result<(), Fault> {
-    let Ok(mut gathering) = BufWriter::with_capacity(alloc, GATHERED, writer) else {
+    let Ok(mut buffered) = BufWriter::with_capacity(alloc, BUFFER_SIZE, writer) else {
         return Err(Fault::NoMemory);
     };
-    let outcome = feed(alloc, windows, reader, &mut gathering);
-    let (_writer, _unwritten) = gathering.into_parts();
+    let outcome = feed(alloc, windows, reader, &mut buffered);
+    let (_writer, _unwritten) = buffered.into_parts();
     outcome
 }
 
-// Like `feed_gathering`, over a register.
-fn feed_gathering_to<S: Store, R: Read, W: Write>(
+// Like `feed_buffered`, over a register.
+fn feed_buffered_to<S: Store, R: Read, W: Write>(
     alloc: Global,
     register: &mut Register<S>,
     reader: &mut R,
     writer: &mut W,
 ) -> Result<(), Fault> {
-    let Ok(mut gathering) = BufWriter::with_capacity(alloc, GATHERED, writer) else {
+    let Ok(mut buffered) = BufWriter::with_capacity(alloc, BUFFER_SIZE, writer) else {
         return Err(Fault::NoMemory);
     };
-    let outcome = feed_to(alloc, register, reader, &mut gathering);
-    let (_writer, _unwritten) = gathering.into_parts();
+    let outcome = feed_to(alloc, register, reader, &mut buffered);
+    let (_writer, _unwritten) = buffered.into_parts();
     outcome
 }
 
-// Like `feed_gathering`, over the file at `path`.
-fn feed_gathering_at<R: Read, W: Write>(
+// Like `feed_buffered`, over the file at `path`.
+fn feed_buffered_at<R: Read, W: Write>(
     rt: &HostRuntime,
     path: &str,
     windows: &Windows,
     reader: &mut R,
     writer: &mut W,
 ) -> Result<(StoreAt<Unknown>, Result<(), Fault>), Fault> {
-    let Ok(mut gathering) = BufWriter::with_capacity(rt.alloc(), GATHERED, writer) else {
+    let Ok(mut buffered) = BufWriter::with_capacity(rt.alloc(), BUFFER_SIZE, writer) else {
         return Err(Fault::NoMemory);
     };
-    let fed = feed_at(rt, path, Unknown, windows, reader, &mut gathering);
-    let (_writer, _unwritten) = gathering.into_parts();
+    let fed = feed_at(rt, path, Unknown, windows, reader, &mut buffered);
+    let (_writer, _unwritten) = buffered.into_parts();
     fed.map_err(open_fault)
 }
 
@@ -232,20 +232,20 @@ fn feed_file<T: Files + AllocGlobal, S: Store>(
     path: &str,
 ) -> Result<(), Fault> {
     let mut file = File::open(rt, path).map_err(read_fault)?;
-    let offered = Options { clock_route: true };
-    let mut nobody = io::sink();
-    ended(serve(
+    let file_options = Options { clock_route: true };
+    let mut sink = io::sink();
+    serving_outcome(serve(
         rt.alloc(),
         register,
         &mut NoTicks,
-        &offered,
+        &file_options,
         &mut file,
-        &mut nobody,
+        &mut sink,
     ))
 }
 
 // Returns how the work on a file ended, as the program's outcome.
-fn file_ended(ran: Result<u64, BulkFault>) -> Result<(), Fault>
+fn file_outcome(ran: Result<u64, BulkFault>) -> Result<(), Fault>
     ensures done { OnOk ran (IsOk result) }
     ensures broken { IfErr ran (λ fault. result ≡ Err (Fault.File fault.kind)) }
 {
@@ -268,12 +268,12 @@ fn run_on<T: Files + AllocGlobal + Net + Clock, S: Store, R: Read, W: Write>(
         feed_file(rt, register, path)?;
     }
     match line.subcommand {
-        Subcommand::Feed => feed_gathering_to(alloc, register, reader, writer),
+        Subcommand::Feed => feed_buffered_to(alloc, register, reader, writer),
         Subcommand::Serve { port, connections } => listen(rt, register, port, connections, writer),
-        Subcommand::Bulk => file_ended(run_file(alloc, register, reader, writer)),
-        Subcommand::Export => file_ended(export(alloc, register, writer)),
+        Subcommand::Bulk => file_outcome(run_file(alloc, register, reader, writer)),
+        Subcommand::Export => file_outcome(export(alloc, register, writer)),
         Subcommand::Audit { spid } => match Spid::read(spid) {
-            Some(carrier) => file_ended(audit(alloc, register, carrier, reader, writer)),
+            Some(carrier) => file_outcome(audit(alloc, register, carrier, reader, writer)),
             None => Err(Fault::File(FaultKind::UnknownCarrier)),
         },
     }
@@ -318,7 +318,7 @@ fn run_at<R: Read, W: Write>(
     writer: &mut W,
 ) -> Result<(), Fault> {
     let (store, outcome) = match (line.subcommand, line.feed) {
-        (Subcommand::Feed, None) => feed_gathering_at(rt, path, windows, reader, writer)?,
+        (Subcommand::Feed, None) => feed_buffered_at(rt, path, windows, reader, writer)?,
         _ => {
             let store = SqlStore::at(rt, path, Unknown, windows).map_err(open_fault)?;
             run_over(rt, store, windows, line, reader, writer)
@@ -345,7 +345,7 @@ fn run_line<R: Read, W: Write>(
     let windows = windows_at(rt, line.windows)?;
     match (line.subcommand, line.feed, line.db) {
         (_, _, Some(path)) => run_at(rt, path, &windows, line, reader, writer),
-        (Subcommand::Feed, None, None) => feed_gathering(rt.alloc(), &windows, reader, writer),
+        (Subcommand::Feed, None, None) => feed_buffered(rt.alloc(), &windows, reader, writer),
         _ => {
             let store = MemoryStore::new(rt.alloc());
             let (_store, outcome) = run_over(rt, store, &windows, line, reader, writer);

@@ -62,6 +62,6 @@ after_acknowledgement c is_last b = record b {
 
 -- The outcome of a broadcast that is pending for some carrier: partly acknowledged once its window
 -- has ended.
-abbrev pub outcome_while_waited : (is_open : Bool) → Outcome
-outcome_while_waited true = Open
-outcome_while_waited false = SomeAcknowledged
+abbrev pub outcome_while_pending : (is_open : Bool) → Outcome
+outcome_while_pending true = Open
+outcome_while_pending false = SomeAcknowledged

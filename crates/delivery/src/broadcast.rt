@@ -4,7 +4,7 @@ ghost use Rattle.numbers.specs.Subjects.{Subject as SubjectModel};
 ghost use Rattle.numbers.specs.Abstraction.{routing_of, subject_of};
 ghost use Rattle.model.specs.Versions.{Broadcast as BroadcastModel};
 ghost use Rattle.model.specs.Content.{stored_broadcast};
-ghost use Rattle.delivery.specs.Broadcasts.{after_acknowledgement, new_broadcast, broadcast_row, outcome_after, outcome_while_waited, row_of};
+ghost use Rattle.delivery.specs.Broadcasts.{after_acknowledgement, new_broadcast, broadcast_row, outcome_after, outcome_while_pending, row_of};
 
 use model::{Action, Outcome};
 use numbers::{Minute, Routing, Subject};
@@ -64,7 +64,7 @@ impl Broadcast {
     /// Returns the outcome; `is_last` says that no recipient is left. A broadcast that was closed
     /// before stays partly acknowledged.
     pub fn outcome(&self, is_last: bool) -> Outcome
-        ensures { result ≡ outcome_after is_last (outcome_while_waited self.now.is_open) }
+        ensures { result ≡ outcome_after is_last (outcome_while_pending self.now.is_open) }
     {
         if self.is_open {
             if is_last {

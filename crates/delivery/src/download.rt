@@ -44,33 +44,33 @@ fn is_earlier(first: &DownloadKey, second: &DownloadKey) -> bool
             && (first.id < second.id || (first.id == second.id && first.attempt < second.attempt)))
 }
 
-fn has_earlier(waiting: &[DownloadKey], key: &DownloadKey) -> bool
-    ensures { result ≡ has_earlier waiting.now key.now }
+fn has_earlier(pending: &[DownloadKey], key: &DownloadKey) -> bool
+    ensures { result ≡ has_earlier pending.now key.now }
 {
-    waiting.iter().any(|earlier| is_earlier(earlier, key))
+    pending.iter().any(|earlier| is_earlier(earlier, key))
 }
 
-fn is_behind(waiting: &[DownloadKey], id: u64, attempt: u64) -> bool
-    ensures { result ≡ is_behind waiting.now id attempt }
+fn is_behind(pending: &[DownloadKey], id: u64, attempt: u64) -> bool
+    ensures { result ≡ is_behind pending.now id attempt }
 {
-    waiting.iter().any(|key| is_key(key, id, attempt) && has_earlier(waiting, key))
+    pending.iter().any(|key| is_key(key, id, attempt) && has_earlier(pending, key))
 }
 
-fn found(waiting: &[DownloadKey], id: u64, attempt: u64) -> Option<DownloadKey>
-    ensures { result ≡ find (is_key id attempt) waiting.now }
+fn find_key(pending: &[DownloadKey], id: u64, attempt: u64) -> Option<DownloadKey>
+    ensures { result ≡ find (is_key id attempt) pending.now }
 {
-    waiting.iter().copied().find(|key| is_key(key, id, attempt))
+    pending.iter().copied().find(|key| is_key(key, id, attempt))
 }
 
 #[tactic(auto, using(crate::proofs::Queues::any_found))]
-fn acknowledgeable(waiting: &[DownloadKey], id: u64, attempt: u64) -> Result<DownloadKey, Refusal>
-    ensures refusal { refusal_in result ≡ key_refusal waiting.now id attempt }
-    ensures found { IfOk result (λ key. find (is_key id attempt) waiting.now ≡ Some key) }
+fn acknowledged_key(pending: &[DownloadKey], id: u64, attempt: u64) -> Result<DownloadKey, Refusal>
+    ensures refusal { refusal_in result ≡ key_refusal pending.now id attempt }
+    ensures found { IfOk result (λ key. find (is_key id attempt) pending.now ≡ Some key) }
 {
-    let Some(found) = found(waiting, id, attempt) else {
+    let Some(found) = find_key(pending, id, attempt) else {
         return Err(Refusal::NotQueued);
     };
-    if is_behind(waiting, id, attempt) {
+    if is_behind(pending, id, attempt) {
         return Err(Refusal::OutOfOrder);
     }
     Ok(found)
@@ -79,22 +79,22 @@ fn acknowledgeable(waiting: &[DownloadKey], id: u64, attempt: u64) -> Result<Dow
 /// Decides whether a carrier may acknowledge an attempt of a version, and returns the download's
 /// key.
 ///
-/// `waiting` are the downloads of the version's subject that are pending for the carrier.
+/// `pending` are the downloads of the version's subject that are pending for the carrier.
 ///
 /// # Errors
 ///
 /// `NotQueued` if no such download is pending; then `OutOfOrder` if an earlier one of the subject
 /// is.
 pub fn may_acknowledge(
-    waiting: &[DownloadKey],
+    pending: &[DownloadKey],
     id: u64,
     attempt: u64,
 ) -> Result<DownloadKey, Refusal>
     ensures refusal { (subject : SubjectModel) (downloads : List DownloadModel)
-        → AreKeysOf subject waiting.now downloads
+        → AreKeysOf subject pending.now downloads
         → refusal_in result ≡ queue_refusal downloads id attempt }
-    ensures of_keys { refusal_in result ≡ key_refusal waiting.now id attempt }
-    ensures found { IfOk result (λ key. find (is_key id attempt) waiting.now ≡ Some key) }
+    ensures of_keys { refusal_in result ≡ key_refusal pending.now id attempt }
+    ensures found { IfOk result (λ key. find (is_key id attempt) pending.now ≡ Some key) }
 {
-    acknowledgeable(waiting, id, attempt)
+    acknowledged_key(pending, id, attempt)
 }

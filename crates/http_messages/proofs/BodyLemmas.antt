@@ -4,18 +4,19 @@ use Rattle.std.specs.Io.KnownBytes.{Consumes, Keeps, prepend_known}
 use Rattle.std.proofs.KnownBytes.{Consumes-kept, Consumes-trans}
 use Rattle.std.proofs.lemmas.List.{take-append-drop}
 
-front_taken : (held : List ℕ) (n : ℕ) (r : Option (List ℕ))
-    → Consumes (prepend_known held r) (prepend_known (drop n held) r) (take n held)
-front_taken held n None = tt
-front_taken held n (Some more) = ap (λ (t : List ℕ). t ++ more) (sym (take-append-drop n held))
-    ∙ append_assoc (take n held) (drop n held) more
+prefix_taken : (bytes : List ℕ) (n : ℕ) (r : Option (List ℕ))
+    → Consumes (prepend_known bytes r) (prepend_known (drop n bytes) r) (take n bytes)
+prefix_taken bytes n None = tt
+prefix_taken bytes n (Some more) = ap (λ (t : List ℕ). t ++ more) (sym (take-append-drop n bytes))
+    ∙ append_assoc (take n bytes) (drop n bytes) more
 
-pub more_taken : (all left r : Option (List ℕ)) (held held' body body' : List ℕ) (n : ℕ)
-    → Consumes all left body → Keeps left (prepend_known held r)
-    → held' ≡ drop n held → body' ≡ body ++ take n held → Consumes all (prepend_known held' r) body'
-more_taken all left r held held' body body' n taken keeps e f =
-    let both = Consumes-trans all (prepend_known held r) (prepend_known (drop n held) r) body
-    (take n held) (Consumes-kept all left (prepend_known held r) body taken keeps)
-    (front_taken held n r) in
+pub more_taken : (all left r : Option (List ℕ)) (bytes bytes' body body' : List ℕ) (n : ℕ)
+    → Consumes all left body → Keeps left (prepend_known bytes r)
+    → bytes' ≡ drop n bytes → body' ≡ body ++ take n bytes
+    → Consumes all (prepend_known bytes' r) body'
+more_taken all left r bytes bytes' body body' n taken keeps e f =
+    let both = Consumes-trans all (prepend_known bytes r) (prepend_known (drop n bytes) r) body
+    (take n bytes) (Consumes-kept all left (prepend_known bytes r) body taken keeps)
+    (prefix_taken bytes n r) in
     subst (λ (h : List ℕ). Consumes all (prepend_known h r) body') (sym e)
-    (subst (Consumes all (prepend_known (drop n held) r)) (sym f) both)
+    (subst (Consumes all (prepend_known (drop n bytes) r)) (sym f) both)

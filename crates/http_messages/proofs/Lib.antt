@@ -1,10 +1,10 @@
 mod Appending
 mod BlankLemmas
 mod BodyLemmas
-mod CutLemmas
+mod BufferLemmas
 mod FieldLemmas
-mod HeldLemmas
 mod MessageLemmas
 mod NumberLemmas
+mod ParseLemmas
 mod PathLemmas
 mod ReadLemmas

@@ -16,57 +16,59 @@ use Rattle.http_messages.specs.declared.read_buffer.ReadBuffer.{ReadBuffer}
 use Rattle.http_messages.specs.declared.message.Request.{Request}
 use Rattle.http_messages.specs.declared.message.NextMessage.TheVariants.{Message}
 use Rattle.http_messages.proofs.BodyLemmas.{more_taken}
-use Rattle.http_messages.proofs.HeldLemmas.{held_length}
+use Rattle.http_messages.proofs.BufferLemmas.{buffered_length}
 use Rattle.numbers.proofs.Small.{no_members}
 
-pub held_short : (held : ReadBuffer) → vec_len held.bytes ≡ 8192
-    → length (buffered_bytes held) ≤ 8192
-held_short held size =
-    omega (arith, held_length held, held.fits, size)
+pub buffered_short : (buffer : ReadBuffer) → vec_len buffer.bytes ≡ 8192
+    → length (buffered_bytes buffer) ≤ 8192
+buffered_short buffer size =
+    omega (arith, buffered_length buffer, buffer.fits, size)
 
 -- Holds if the buffered bytes begin with a head of this length.
-pub record HoldsHead (all r : Option (List ℕ)) (held : List ℕ) (len : ℕ)
+pub record HasBufferedHead (all r : Option (List ℕ)) (bytes : List ℕ) (len : ℕ)
     (h : RequestHead) : Type 0 where
-  pub keeps : Keeps all (prepend_known held r)
-  pub reads : ReadsRequest held h (drop len held)
+  pub keeps : Keeps all (prepend_known bytes r)
+  pub reads : ReadsRequest bytes h (drop len bytes)
   pub len_is : len ≡ length (print_request h)
-  pub fits : length held ≤ 8192
+  pub fits : length bytes ≤ 8192
   pub few : length h.fields < 65
 
-front_of : (input more held : List ℕ) (len : ℕ) (h : RequestHead)
-    → HoldsHead (Some input) (Some more) held len h → HasHead input h (drop len held ++ more)
-front_of input more held len h x = record {
-  reads = subst (λ (t : List ℕ). ReadsRequest t h (drop len held ++ more)) x.keeps
-      (ReadsRequest-append held h (drop len held) more x.reads);
+input_head : (input more bytes : List ℕ) (len : ℕ) (h : RequestHead)
+    → HasBufferedHead (Some input) (Some more) bytes len h
+    → HasHead input h (drop len bytes ++ more)
+input_head input more bytes len h x = record {
+  reads = subst (λ (t : List ℕ). ReadsRequest t h (drop len bytes ++ more)) x.keeps
+      (ReadsRequest-append bytes h (drop len bytes) more x.reads);
   short = omega (
     arith,
     x.fits,
     ap length x.reads.1,
-    length-append (print_request h) (drop len held),
+    length-append (print_request h) (drop len bytes),
   );
   few = omega (arith, x.few);
 }
 
-pub message_made : (all r left : Option (List ℕ)) (held held' body : List ℕ) (len : ℕ)
+pub message_made : (all r left : Option (List ℕ)) (bytes bytes' body : List ℕ) (len : ℕ)
     (h : RequestHead) (request : Request)
-    → HoldsHead all r held len h → IsRequestOf h request → request.length ≤ 1048576
-    → held' ≡ drop len held
-    → Consumes (prepend_known held' r) left body → length body ≡ request.length
+    → HasBufferedHead all r bytes len h → IsRequestOf h request → request.length ≤ 1048576
+    → bytes' ≡ drop len bytes
+    → Consumes (prepend_known bytes' r) left body → length body ≡ request.length
     → IfSome all (λ input. IsNextMessage input (Message request) body left)
-message_made None r left held held' body len h request x asks small e taken whole = tt
-message_made (Some input) None left held held' body len h request x asks small e taken whole =
+message_made None r left bytes bytes' body len h request x asks small e taken whole = tt
+message_made (Some input) None left bytes bytes' body len h request x asks small e taken whole =
     absurd x.keeps
-message_made (Some input) (Some more) None held held' body len h request x asks small e taken
+message_made (Some input) (Some more) None bytes bytes' body len h request x asks small e taken
     whole = absurd taken
-message_made (Some input) (Some more) (Some rest) held held' body len h request x asks small e taken
+message_made (Some input) (Some more) (Some rest) bytes bytes' body len h request x asks small e
+    taken
     whole =
-    let same : drop len held ++ more ≡ body ++ rest =
+    let same : drop len bytes ++ more ≡ body ++ rest =
     ap (λ (t : List ℕ). t ++ more) (sym e) ∙ taken in (
       rest,
       refl,
       record {
         head = h;
-        front = subst (HasHead input h) same (front_of input more held len h x);
+        front = subst (HasHead input h) same (input_head input more bytes len h x);
         asks = asks;
         whole = whole;
         small = omega (arith, whole, small);
@@ -74,44 +76,45 @@ message_made (Some input) (Some more) (Some rest) held held' body len h request 
     )
 
 -- A message that is buffered whole is taken, with its body in a buffer that was empty.
-pub taken_made : (r : Option (List ℕ)) (held held' held'' body body' : List ℕ) (len : ℕ)
+pub taken_made : (r : Option (List ℕ)) (bytes bytes' bytes'' body body' : List ℕ) (len : ℕ)
     (h : RequestHead) (request : Request)
-    → HoldsHead (prepend_known held r) r held len h → IsRequestOf h request
-    → request.length ≤ 1048576 → held' ≡ drop len held
-    → request.length ≤ length held' → length body ≡ 0 → held'' ≡ drop request.length held'
-    → body' ≡ body ++ take request.length held'
-    → IfSome (prepend_known held r) (λ input. IsNextMessage input (Message request) body'
-    (prepend_known held'' r))
-taken_made r held held' held'' body body' len h request x asks small e fits empty left taken =
-    let behind = prepend_known held' r in
-    let none : Consumes behind behind body =
-    subst (Consumes behind behind) (sym (no_members body empty)) (Consumes-nil behind) in
+    → HasBufferedHead (prepend_known bytes r) r bytes len h → IsRequestOf h request
+    → request.length ≤ 1048576 → bytes' ≡ drop len bytes
+    → request.length ≤ length bytes' → length body ≡ 0 → bytes'' ≡ drop request.length bytes'
+    → body' ≡ body ++ take request.length bytes'
+    → IfSome (prepend_known bytes r) (λ input. IsNextMessage input (Message request) body'
+    (prepend_known bytes'' r))
+taken_made r bytes bytes' bytes'' body body' len h request x asks small e fits empty left taken =
+    let after = prepend_known bytes' r in
+    let none : Consumes after after body =
+    subst (Consumes after after) (sym (no_members body empty)) (Consumes-nil after) in
     let whole : length body' ≡ request.length = omega (
       arith,
       ap length taken,
-      length-append body (take request.length held'),
-      length-take-le request.length held' fits,
+      length-append body (take request.length bytes'),
+      length-take-le request.length bytes' fits,
       empty,
     ) in
-    message_made (prepend_known held r) r (prepend_known held'' r) held held' body' len h request x
+    message_made (prepend_known bytes r) r (prepend_known bytes'' r) bytes bytes' body' len h
+    request x
     asks small e
-    (more_taken behind behind r held' held'' body body' request.length none (Keeps-refl behind) left
+    (more_taken after after r bytes' bytes'' body body' request.length none (Keeps-refl after) left
     taken) whole
 
-pub cut_made : (all r : Option (List ℕ)) (held held' : List ℕ) (len : ℕ) (h : RequestHead)
+pub cut_made : (all r : Option (List ℕ)) (bytes bytes' : List ℕ) (len : ℕ) (h : RequestHead)
     (request : Request)
-    → HoldsHead all r held len h → IsRequestOf h request → request.length ≤ 1048576
-    → held' ≡ drop len held
-    → IfSome (prepend_known held' r) (λ input. length input < request.length)
+    → HasBufferedHead all r bytes len h → IsRequestOf h request → request.length ≤ 1048576
+    → bytes' ≡ drop len bytes
+    → IfSome (prepend_known bytes' r) (λ input. length input < request.length)
     → IfSome all IsCutShort
-cut_made None r held held' len h request x asks small e short = tt
-cut_made (Some input) None held held' len h request x asks small e short = absurd x.keeps
-cut_made (Some input) (Some more) held held' len h request x asks small e short = record {
+cut_made None r bytes bytes' len h request x asks small e short = tt
+cut_made (Some input) None bytes bytes' len h request x asks small e short = absurd x.keeps
+cut_made (Some input) (Some more) bytes bytes' len h request x asks small e short = record {
   head = h;
-  rest = drop len held ++ more;
-  front = front_of input more held len h x;
-  says = request.length;
-  said = asks.length;
+  rest = drop len bytes ++ more;
+  front = input_head input more bytes len h x;
+  size = request.length;
+  has_size = asks.length;
   small = small;
   short = subst (λ (t : List ℕ). length (t ++ more) < request.length) e short;
 }
@@ -143,12 +146,13 @@ refused_here input rest h BadRequest one lines x refuses = absurd refuses
 refused_here input rest h NoPath one lines x refuses = absurd refuses
 refused_here input rest h BadMethod one lines x refuses = absurd refuses
 
-pub refused_made : (all r : Option (List ℕ)) (held : List ℕ) (len : ℕ) (h : RequestHead)
+pub refused_made : (all r : Option (List ℕ)) (bytes : List ℕ) (len : ℕ) (h : RequestHead)
     (fault : MessageFault) → OneHead → HeadsAreNoLines
-    → HoldsHead all r held len h → RefusesHead h fault
+    → HasBufferedHead all r bytes len h → RefusesHead h fault
     → IfSome all (λ input. ParsesAs input (RefusedMessage fault))
-refused_made None r held len h fault one lines x refuses = tt
-refused_made (Some input) None held len h fault one lines x refuses = absurd x.keeps
-refused_made (Some input) (Some more) held len h fault one lines x refuses =
-    refused_here input (drop len held ++ more) h fault one lines (front_of input more held len h x)
+refused_made None r bytes len h fault one lines x refuses = tt
+refused_made (Some input) None bytes len h fault one lines x refuses = absurd x.keeps
+refused_made (Some input) (Some more) bytes len h fault one lines x refuses =
+    refused_here input (drop len bytes ++ more) h fault one lines (input_head input more bytes len h
+    x)
     refuses

@@ -15,7 +15,7 @@ use Rattle.matchit.specs.declared.error.InsertError.{InsertError}
 use Rattle.matchit.specs.declared.error.InsertError.TheVariants.{Conflict, OutOfMemory, InvalidParam, InvalidParamSegment, InvalidCatchAll}
 use Rattle.matchit.specs.Seek.{first, seek, own, step, or_else, param_step, has_slash}
 use Rattle.http_messages.specs.declared.paths.Route.{Route}
-use Rattle.http_messages.specs.Table.{fixed, path_among, paths, table, all_placed, placed_if_read, placed_unless, texts_of}
+use Rattle.http_messages.specs.Table.{fixed_row, path_among, paths, table, all_placed, placed_if_read, placed_unless, texts_of}
 use Rattle.numbers.proofs.Small.{and_both}
 
 abbrev are_bytes : List ℕ → Bool
@@ -110,16 +110,16 @@ module _ {K : Type 0} where
       ∙ seek_is (step b rs) p (step_fixed b rs h) ∙ step_is b rs p
 
 among_by : (p : List ℕ × Route) (ps : List (List ℕ × Route)) (target : List ℕ) (c : Bool)
-    → option_map (λ (r : RouteOf Route). r.value) (row_at (map fixed ps) target) ≡ path_among ps
+    → option_map (λ (r : RouteOf Route). r.value) (row_at (map fixed_row ps) target) ≡ path_among ps
     target
     → option_map (λ (r : RouteOf Route). r.value)
-    (cond c (Some (fixed p).1) (row_at (map fixed ps) target)) ≡ cond c (Some p.1)
+    (cond c (Some (fixed_row p).1) (row_at (map fixed_row ps) target)) ≡ cond c (Some p.1)
     (path_among ps target)
 among_by p ps target true ih = refl
 among_by p ps target false ih = ih
 
 among_is : (ps : List (List ℕ × Route)) (target : List ℕ)
-    → option_map (λ (r : RouteOf Route). r.value) (row_at (map fixed ps) target) ≡ path_among ps
+    → option_map (λ (r : RouteOf Route). r.value) (row_at (map fixed_row ps) target) ≡ path_among ps
     target
 among_is [] target = refl
 among_is (p ∷ ps) target = among_by p ps target (bytes_eq p.0 target) (among_is ps target)

@@ -10,28 +10,28 @@ use Rattle.http_messages.specs.Fields.{body_length}
 use Rattle.http_messages.specs.Head.{HasHead}
 use Rattle.http_messages.specs.Reading.{HasNoWholeMessage, IsReadAhead}
 use Rattle.http_messages.specs.declared.message.Request.{Request}
-use Rattle.http_messages.proofs.MessageLemmas.{HoldsHead}
+use Rattle.http_messages.proofs.MessageLemmas.{HasBufferedHead}
 use Rattle.numbers.proofs.Small.{some_is}
 
 -- All that was read is buffered.
-pub held_ahead : (all r : Option (List ℕ)) (held : List ℕ) → Keeps all (prepend_known held r)
-    → length held ≤ 8192 → IfSome all (λ input. IsReadAhead input r)
-held_ahead None r held keeps short = tt
-held_ahead (Some input) None held keeps short = absurd keeps
-held_ahead (Some input) (Some more) held keeps short = record {
-  read = held;
+pub buffered_ahead : (all r : Option (List ℕ)) (bytes : List ℕ) → Keeps all (prepend_known bytes r)
+    → length bytes ≤ 8192 → IfSome all (λ input. IsReadAhead input r)
+buffered_ahead None r bytes keeps short = tt
+buffered_ahead (Some input) None bytes keeps short = absurd keeps
+buffered_ahead (Some input) (Some more) bytes keeps short = record {
+  read = bytes;
   short = short;
   all =
       ap Some keeps;
 }
 
 -- If nothing is buffered, the reader's bytes are the rest of the input.
-pub nothing_held : (all before behind : Option (List ℕ)) (held body : List ℕ)
-    → Consumes all before body → Keeps before (prepend_known held behind) → held ≡ []
-    → Consumes all behind body
-nothing_held all before None held body taken keeps e =
+pub nothing_buffered : (all before after : Option (List ℕ)) (bytes body : List ℕ)
+    → Consumes all before body → Keeps before (prepend_known bytes after) → bytes ≡ []
+    → Consumes all after body
+nothing_buffered all before None bytes body taken keeps e =
     Consumes-kept all before None body taken keeps
-nothing_held all before (Some more) held body taken keeps e =
+nothing_buffered all before (Some more) bytes body taken keeps e =
     Consumes-kept all before (Some more) body taken
     (subst (λ (h : List ℕ). Keeps before (Some (h ++ more))) e keeps)
 
@@ -54,29 +54,29 @@ short_body read body h request other text rest front asks short message =
     )
 
 -- If less was read after the head than it gives its body, no whole message was read.
-pub no_body_yet : (all r left : Option (List ℕ)) (held held' body : List ℕ) (len : ℕ)
+pub no_body_yet : (all r left : Option (List ℕ)) (bytes bytes' body : List ℕ) (len : ℕ)
     (h : RequestHead) (request : Request)
-    → HoldsHead all r held len h → IsRequestOf h request → held' ≡ drop len held
-    → Consumes (prepend_known held' r) left body → length body < request.length
+    → HasBufferedHead all r bytes len h → IsRequestOf h request → bytes' ≡ drop len bytes
+    → Consumes (prepend_known bytes' r) left body → length body < request.length
     → IfSome all (λ input. HasNoWholeMessage input left)
-no_body_yet None r left held held' body len h request x asks e taken short = tt
-no_body_yet (Some input) None left held held' body len h request x asks e taken short =
+no_body_yet None r left bytes bytes' body len h request x asks e taken short = tt
+no_body_yet (Some input) None left bytes bytes' body len h request x asks e taken short =
     absurd x.keeps
-no_body_yet (Some input) (Some more) None held held' body len h request x asks e taken short =
+no_body_yet (Some input) (Some more) None bytes bytes' body len h request x asks e taken short =
     absurd taken
-no_body_yet (Some input) (Some more) (Some rest) held held' body len h request x asks e taken
+no_body_yet (Some input) (Some more) (Some rest) bytes bytes' body len h request x asks e taken
     short =
-    let same : drop len held ++ more ≡ body ++ rest =
+    let same : drop len bytes ++ more ≡ body ++ rest =
     ap (λ (t : List ℕ). t ++ more) (sym e) ∙ taken in
     let whole : (print_request h ++ body) ++ rest ≡ input =
     append_assoc (print_request h) body rest ∙ ap (λ (t : List ℕ). print_request h ++ t) (sym same)
-    ∙ sym (append_assoc (print_request h) (drop len held) more)
+    ∙ sym (append_assoc (print_request h) (drop len bytes) more)
     ∙ ap (λ (t : List ℕ). t ++ more) (sym x.reads.1) ∙ x.keeps in
     let long : length (print_request h) ≤ 8192 = omega (
       arith,
       x.fits,
       ap length x.reads.1,
-      length-append (print_request h) (drop len held),
+      length-append (print_request h) (drop len bytes),
     ) in
     let front : HasHead (print_request h ++ body) h body = record {
       reads = (x.reads.0, refl);
@@ -86,6 +86,6 @@ no_body_yet (Some input) (Some more) (Some rest) held held' body len h request x
     record {
       read = print_request h ++ body;
       all = ap Some whole;
-      none = λ other text behind. short_body (print_request h ++ body) body h request other text
-          behind front asks short;
+      none = λ other text after. short_body (print_request h ++ body) body h request other text
+          after front asks short;
     }

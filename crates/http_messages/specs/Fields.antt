@@ -34,10 +34,10 @@ number_of v = if nat_lt 0 (length v) && (nat_le (length v) 19 && all_ascii_digit
     then Some (digits_value 10 v) else None
 
 -- The length that the values of `content-length` give: 0 without a value, none with several.
-abbrev pub length_said : List (List ℕ) → Option ℕ
-length_said [] = Some 0
-length_said (v ∷ []) = number_of v
-length_said (v ∷ w ∷ vs) = None
+abbrev pub content_length : List (List ℕ) → Option ℕ
+content_length [] = Some 0
+content_length (v ∷ []) = number_of v
+content_length (v ∷ w ∷ vs) = None
 
 abbrev pub is_empty : List (List ℕ) → Bool
 is_empty [] = true
@@ -46,7 +46,7 @@ is_empty (v ∷ vs) = false
 -- The length of the body, or `None` if the head is refused.
 abbrev pub body_length : RequestHead → Option ℕ
 body_length h = if is_empty (values_of (codes "transfer-encoding") h)
-    then length_said (values_of (codes "content-length") h) else None
+    then content_length (values_of (codes "content-length") h) else None
 
 -- Whether the answer to this head is the last of the connection.
 abbrev pub closes : RequestHead → Bool

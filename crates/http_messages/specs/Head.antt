@@ -28,8 +28,8 @@ pub record IsBad (s : List ℕ) : Type 0 where
   pub not_blank : ¬ (IsBlank s)
   pub none : (h : RequestHead) (rest : List ℕ) → HasHead s h rest → body_length h ≡ None
 
--- Holds if the result is right: a whole head within the limits, more fields than 64, or no whole
--- head yet.
+-- Holds if the result is right. `Head`: the bytes begin with a whole head within the limits. `Bad`:
+-- however they continue, a head has more than 64 fields. `More`: no whole head yet.
 abbrev pub IsHeadParse : List ℕ → List HeaderSpan → HeadParse → Type 0
 IsHeadParse buf headers (Head spans) = IsRequestWithin buf headers spans
     × ((h : RequestHead) × IsRequestAt buf headers spans h × (length h.fields ≤ 64))

@@ -2,7 +2,7 @@ pub mod Blank
 pub mod Parsing
 pub mod Faults
 pub mod Fields
-pub mod Front
+pub mod NextHead
 pub mod Head
 pub mod ReadBuffer
 pub mod Reading

@@ -37,8 +37,8 @@ abbrev pub body_limit : ℕ
 body_limit = 1048576
 
 -- Holds if the body's length, as the head gives it, is over the limit.
-abbrev pub SaysTooMuch : RequestHead → Type 0
-SaysTooMuch h = (n : ℕ) × (body_length h ≡ Some n) × (body_limit < n)
+abbrev pub HasTooLargeBody : RequestHead → Type 0
+HasTooLargeBody h = (n : ℕ) × (body_length h ≡ Some n) × (body_limit < n)
 
 -- Holds if the input is a whole message, followed by rest.
 pub record IsMessage (input : List ℕ) (request : Request) (body rest : List ℕ) : Type 0 where
@@ -53,17 +53,17 @@ pub record IsTooLarge (input : List ℕ) : Type 0 where
   pub head : RequestHead
   pub rest : List ℕ
   pub front : HasHead input head rest
-  pub large : SaysTooMuch head
+  pub large : HasTooLargeBody head
 
 -- Holds if the input begins with a head and ends before its body does.
 pub record IsCutShort (input : List ℕ) : Type 0 where
   pub head : RequestHead
   pub rest : List ℕ
   pub front : HasHead input head rest
-  pub says : ℕ
-  pub said : body_length head ≡ Some says
-  pub small : says ≤ body_limit
-  pub short : length rest < says
+  pub size : ℕ
+  pub has_size : body_length head ≡ Some size
+  pub small : size ≤ body_limit
+  pub short : length rest < size
 
 -- What an input begins with: nothing more, a refused message, or a whole message with its body and
 -- what follows.
@@ -104,7 +104,7 @@ IsTaken input (Some request) body left =
 -- Holds if the fields of the head are refused with this fault.
 abbrev pub RefusesHead : RequestHead → MessageFault → Type 0
 RefusesHead h BadHead = body_length h ≡ None
-RefusesHead h TooLarge = SaysTooMuch h
+RefusesHead h TooLarge = HasTooLargeBody h
 RefusesHead h CutBody = ⊥
 RefusesHead h BadRequest = ⊥
 RefusesHead h NoPath = ⊥

@@ -57,27 +57,27 @@ path_among (p ∷ ps) target = if bytes_eq p.0 target then Some p.1 else path_am
 -- ---- paths that end in a number: `/versions/`, `/numbers/` or `/downloads/` and one part
 
 -- Whether a part may have this byte: neither a slash (47) nor a question mark (63).
-abbrev pub is_of_part : ℕ → Bool
-is_of_part b = not (b == 47) && not (b == 63)
+abbrev pub is_part_byte : ℕ → Bool
+is_part_byte b = not (b == 47) && not (b == 63)
 
 abbrev pub is_part : List ℕ → Bool
-is_part part = nat_lt 0 (length part) && list_all is_of_part part
+is_part part = nat_lt 0 (length part) && list_all is_part_byte part
 
 -- Whether the part begins with a zero and continues.
-abbrev pub has_zero_in_front : List ℕ → Bool
-has_zero_in_front part = nat_lt 1 (length part) && bytes_eq (codes "0") (take 1 part)
+abbrev pub has_leading_zero : List ℕ → Bool
+has_leading_zero part = nat_lt 1 (length part) && bytes_eq (codes "0") (take 1 part)
 
 abbrev pub below_limit : ℕ → Option ℕ
 below_limit n = if nat_lt n (2 ^ 40) then Some n else None
 
 -- The number below 2^40 that the part writes in digits, without leading zeros.
 unfoldable pub number_in : List ℕ → Option ℕ
-number_in part = if has_zero_in_front part then None
+number_in part = if has_leading_zero part then None
     else option_and_then below_limit (number_of part)
 
 -- What follows the prefix, if it is one part: its number, or `None` inside.
-unfoldable pub number_behind : (prefix : List ℕ) → List ℕ → Option (Option ℕ)
-number_behind prefix target =
+unfoldable pub number_after : (prefix : List ℕ) → List ℕ → Option (Option ℕ)
+number_after prefix target =
     if bytes_eq (take (length prefix) target) prefix && is_part (drop (length prefix) target)
     then Some (number_in (drop (length prefix) target)) else None
 
@@ -85,9 +85,9 @@ number_behind prefix target =
 -- downloads.
 abbrev pub numbered_path : List ℕ → Option Route
 numbered_path target =
-    option_or (option_map (λ id. Version id) (number_behind (codes "/versions/") target))
-    (option_or (option_map (λ number. Number number) (number_behind (codes "/numbers/") target))
-    (option_map (λ count. Downloads count) (number_behind (codes "/downloads/") target)))
+    option_or (option_map (λ id. Version id) (number_after (codes "/versions/") target))
+    (option_or (option_map (λ number. Number number) (number_after (codes "/numbers/") target))
+    (option_map (λ count. Downloads count) (number_after (codes "/downloads/") target)))
 
 -- ---- all paths
 
@@ -150,11 +150,11 @@ offered_route false None = None
 -- ---- the router's rows
 
 -- The row of a constant path.
-abbrev pub fixed : List ℕ × Route → List ℕ × RouteOf Route
-fixed p = (p.0, record { pattern = p.0; text = p.0; names = []; value = p.1 })
+abbrev pub fixed_row : List ℕ × Route → List ℕ × RouteOf Route
+fixed_row p = (p.0, record { pattern = p.0; text = p.0; names = []; value = p.1 })
 
 abbrev pub table : RowsOf (RouteOf Route)
-table = map fixed paths
+table = map fixed_row paths
 
 -- The rows with the route in its place, or `None` if it conflicts with one of them.
 abbrev pub placed_unless : RowsOf (RouteOf Route) → RouteOf Route → Option (RouteOf Route)

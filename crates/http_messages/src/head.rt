@@ -24,7 +24,7 @@ pub enum Occurrence {
 #[derive(Clone, Copy, Debug)]
 pub enum HeadParse {
     Head(RequestSpans),
-    /// No head, however the bytes continue.
+    /// No head of at most 64 fields, however the bytes continue.
     Bad,
     /// No whole head yet.
     More,
@@ -57,7 +57,7 @@ fn is_name(own: &[u8], name: &[u8]) -> bool
 
 /// Returns how often a field with this name occurs.
 #[tactic(auto, using(crate::proofs::FieldLemmas::found_within))]
-pub fn find(buf: &[u8], headers: &[HeaderSpan], name: &[u8]) -> Occurrence
+pub fn find_field(buf: &[u8], headers: &[HeaderSpan], name: &[u8]) -> Occurrence
     requires within { All (IsHeaderWithin (length buf.now)) headers.now }
     requires lower { lower name.now ≡ name.now }
     ensures found { IsFound buf.now result
@@ -94,7 +94,7 @@ pub fn read_number(value: &[u8]) -> Option<u64>
 }
 
 /// Returns whether some field with this name has this value, ignoring case.
-pub fn says(buf: &[u8], headers: &[HeaderSpan], name: &[u8], value: &[u8]) -> bool
+pub fn has_field(buf: &[u8], headers: &[HeaderSpan], name: &[u8], value: &[u8]) -> bool
     requires within { All (IsHeaderWithin (length buf.now)) headers.now }
     requires lower { lower name.now ≡ name.now }
     requires lower_value { lower value.now ≡ value.now }
@@ -134,10 +134,10 @@ pub fn read_head(buf: &[u8], headers: &[HeaderSpan], spans: &RequestSpans) -> Op
     ensures within { IfSome result (λ head. IsFoundWithin (length buf.now) head.caller) }
 {
     let fields = &headers[..spans.headers];
-    let Occurrence::Absent = find(buf, fields, b"transfer-encoding") else {
+    let Occurrence::Absent = find_field(buf, fields, b"transfer-encoding") else {
         return None;
     };
-    let body = match find(buf, fields, b"content-length") {
+    let body = match find_field(buf, fields, b"content-length") {
         Occurrence::Absent => 0,
         Occurrence::Once(value) => read_number(value.of(buf))?,
         Occurrence::Twice => return None,
@@ -146,8 +146,8 @@ pub fn read_head(buf: &[u8], headers: &[HeaderSpan], spans: &RequestSpans) -> Op
         method: spans.method,
         target: spans.path,
         body,
-        caller: find(buf, fields, b"x-spid"),
-        closes: spans.version == 0 || says(buf, fields, b"connection", b"close"),
+        caller: find_field(buf, fields, b"x-spid"),
+        closes: spans.version == 0 || has_field(buf, fields, b"connection", b"close"),
         len: spans.len,
     })
 }

@@ -3,9 +3,9 @@
 
 mod body;
 mod fault;
-mod front;
 mod head;
 mod message;
+mod next_head;
 mod paths;
 mod read_buffer;
 mod send;

@@ -8,10 +8,10 @@ ghost use Rattle.http_messages.specs.ReadBuffer.{remaining_input};
 ghost use Rattle.http_messages.specs.Reading.{IsRead};
 ghost use Rattle.http_messages.specs.Table.{table};
 
-use crate::body::{read_body, take_held};
+use crate::body::{read_body, take_buffered};
 use crate::fault::MessageFault;
-use crate::front::{HeadOutcome, next_head};
 use crate::head::{HeadParse, Occurrence, head_is_unique, parse_head, read_head};
+use crate::next_head::{HeadOutcome, next_head};
 use crate::paths::{Method, Route, method_of, route_of};
 use crate::read_buffer::ReadBuffer;
 use httparse::spans::{HeaderSpan, RequestSpans};
@@ -52,7 +52,7 @@ pub enum NextFault {
 }
 
 // Returns the provider that the bytes name.
-fn named(value: &[u8]) -> Option<Spid>
+fn parse_spid(value: &[u8]) -> Option<Spid>
     ensures { IsNamed value.now result }
 {
     match str::from_utf8(value) {
@@ -62,41 +62,41 @@ fn named(value: &[u8]) -> Option<Spid>
 }
 
 // Returns the provider that a field names, if the field occurs once.
-fn caller_of(held: &[u8], found: Occurrence) -> Option<Spid>
-    requires { IsFoundWithin (length held.now) found }
-    ensures { (values : List (List ℕ)) → IsFound held.now found values → IsCaller values result }
+fn caller_of(buf: &[u8], found: Occurrence) -> Option<Spid>
+    requires { IsFoundWithin (length buf.now) found }
+    ensures { (values : List (List ℕ)) → IsFound buf.now found values → IsCaller values result }
 {
     match found {
-        Occurrence::Once(span) => named(span.of(held)),
+        Occurrence::Once(span) => parse_spid(span.of(buf)),
         Occurrence::Absent | Occurrence::Twice => None,
     }
 }
 
 // Returns what the head in the buffered bytes asks. `BadHead` precedes `TooLarge`.
 fn request_of(
-    held: &[u8],
+    buf: &[u8],
     headers: &[HeaderSpan],
     spans: &RequestSpans,
     router: &Router<Route>,
 ) -> Result<Request, MessageFault>
-    requires within { IsRequestWithin held.now headers.now spans.now }
+    requires within { IsRequestWithin buf.now headers.now spans.now }
     requires router { router.now ≡ table }
     ensures small { IfOk result (λ request. request.length ≤ 1048576) }
-    ensures asks { (h : RequestHead) → IsRequestAt held.now headers.now spans.now h
+    ensures asks { (h : RequestHead) → IsRequestAt buf.now headers.now spans.now h
         → IfOk result (IsRequestOf h) }
-    ensures refuses { (h : RequestHead) → IsRequestAt held.now headers.now spans.now h
+    ensures refuses { (h : RequestHead) → IsRequestAt buf.now headers.now spans.now h
         → IfErr result (RefusesHead h) }
 {
-    let Some(head) = read_head(held, headers, spans) else {
+    let Some(head) = read_head(buf, headers, spans) else {
         return Err(MessageFault::BadHead);
     };
     if head.body > BODY_LIMIT {
         return Err(MessageFault::TooLarge);
     }
     Ok(Request {
-        route: route_of(router, spans.path.of(held)),
-        method: method_of(spans.method.of(held)),
-        caller: caller_of(held, head.caller),
+        route: route_of(router, spans.path.of(buf)),
+        method: method_of(spans.method.of(buf)),
+        caller: caller_of(buf, head.caller),
         length: head.body as usize,
         closes: head.closes,
     })
@@ -123,32 +123,32 @@ fn reserve(body: &mut Vec<u8>, length: usize) -> Result<(), AllocError>
 /// yet, the allocation of its body failed, it is refused, or the input ended. `next_message` then
 /// finds which.
 pub fn next_buffered(
-    held: &mut ReadBuffer,
+    buffer: &mut ReadBuffer,
     headers: &mut [HeaderSpan],
     router: &Router<Route>,
     body: &mut Vec<u8>,
 ) -> Option<Request>
     requires room { length headers.old ≡ 64 }
-    requires size { vec_len held.old.bytes ≡ 8192 }
+    requires size { vec_len buffer.old.bytes ≡ 8192 }
     requires router { router.now ≡ table }
-    ensures size { vec_len held.new.bytes ≡ 8192 }
+    ensures size { vec_len buffer.new.bytes ≡ 8192 }
     ensures room { length headers.new ≡ 64 }
     ensures cut { (remaining : Option (List ℕ))
-        → IsTaken (remaining_input held.old remaining) result body.new.items
-        (remaining_input held.new remaining) }
+        → IsTaken (remaining_input buffer.old remaining) result body.new.items
+        (remaining_input buffer.new remaining) }
 {
-    let HeadParse::Head(spans) = parse_head(held.held(), headers) else {
+    let HeadParse::Head(spans) = parse_head(buffer.buffered(), headers) else {
         return None;
     };
-    let Ok(request) = request_of(held.held(), headers, &spans, router) else {
+    let Ok(request) = request_of(buffer.buffered(), headers, &spans, router) else {
         return None;
     };
     let head_len = spans.len;
-    if held.len() - head_len < request.length || reserve(body, request.length).is_err() {
+    if buffer.len() - head_len < request.length || reserve(body, request.length).is_err() {
         return None;
     }
-    held.drop_front(head_len);
-    take_held(held, request.length, body);
+    buffer.discard(head_len);
+    take_buffered(buffer, request.length, body);
     Some(request)
 }
 
@@ -162,41 +162,41 @@ pub fn next_buffered(
 /// `Read` if the reader fails, `Memory` if the allocation of the body fails. A refused message is
 /// `Ok`, with `BadHead`, `TooLarge` or `CutBody`, in this order.
 pub fn next_message<R: Read>(
-    held: &mut ReadBuffer,
+    buffer: &mut ReadBuffer,
     headers: &mut [HeaderSpan],
     router: &Router<Route>,
     reader: &mut R,
     body: &mut Vec<u8>,
 ) -> Result<Option<NextMessage>, NextFault>
     requires room { length headers.old ≡ 64 }
-    requires size { vec_len held.old.bytes ≡ 8192 }
+    requires size { vec_len buffer.old.bytes ≡ 8192 }
     requires router { router.now ≡ table }
-    ensures size { vec_len held.new.bytes ≡ 8192 }
+    ensures size { vec_len buffer.new.bytes ≡ 8192 }
     ensures room { length headers.new ≡ 64 }
-    ensures cut { IfOk result (λ next. IfSome (remaining_input held.old (R.remaining reader.old))
+    ensures cut { IfOk result (λ next. IfSome (remaining_input buffer.old (R.remaining reader.old))
         (λ input. IsNextOrEnd input next body.new.items
-        (remaining_input held.new (R.remaining reader.new)))) }
-    ensures read { IfSome (remaining_input held.old (R.remaining reader.old))
+        (remaining_input buffer.new (R.remaining reader.new)))) }
+    ensures read { IfSome (remaining_input buffer.old (R.remaining reader.old))
         (λ input. IsRead result input (R.remaining reader.new)) }
 {
-    let spans = match next_head(held, headers, reader) {
+    let spans = match next_head(buffer, headers, reader) {
         Err(_) => return Err(NextFault::Read),
         Ok(HeadOutcome::End) => return Ok(None),
         Ok(HeadOutcome::Bad) => return Ok(Some(NextMessage::Refused(MessageFault::BadHead))),
         Ok(HeadOutcome::Head(spans)) => spans,
     };
-    let request = match request_of(held.held(), headers, &spans, router) {
+    let request = match request_of(buffer.buffered(), headers, &spans, router) {
         Ok(request) => request,
         Err(fault) => {
             head_is_unique();
             return Ok(Some(NextMessage::Refused(fault)));
         }
     };
-    held.drop_front(spans.len);
+    buffer.discard(spans.len);
     if reserve(body, request.length).is_err() {
         return Err(NextFault::Memory);
     }
-    match read_body(held, reader, request.length, body) {
+    match read_body(buffer, reader, request.length, body) {
         Err(_) => Err(NextFault::Read),
         Ok(false) => Ok(Some(NextMessage::Refused(MessageFault::CutBody))),
         Ok(true) => Ok(Some(NextMessage::Message(request))),

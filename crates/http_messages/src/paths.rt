@@ -5,7 +5,7 @@ ghost use Rattle.matchit.specs.Router.{RouteOf};
 ghost use Rattle.http_messages.specs.declared.paths.Route.{Route as RouteImpl};
 ghost use Rattle.matchit.specs.declared.error.InsertError.TheVariants.{OutOfMemory};
 ghost use Rattle.std.specs.List.{list_all};
-ghost use Rattle.http_messages.specs.Table.{table, paths, all_placed, texts_of, path_among, path_of, numbered_path, number_behind, number_in, is_of_part, is_part as is_one_part, method_of as method_model, allows_method as takes_method, offered_route};
+ghost use Rattle.http_messages.specs.Table.{table, paths, all_placed, texts_of, path_among, path_of, numbered_path, number_after, number_in, is_part_byte, is_part as is_one_part, method_of as method_model, allows_method as takes_method, offered_route};
 
 use crate::head::read_number;
 use matchit::{InsertError, Router};
@@ -201,8 +201,8 @@ fn fixed_route_of(router: &Router<Route>, target: &[u8]) -> Option<Route>
 }
 
 // Returns whether no byte is a slash or a question mark.
-fn are_of_part(part: &[u8]) -> bool
-    ensures { result ≡ list_all is_of_part part.now }
+fn are_part_bytes(part: &[u8]) -> bool
+    ensures { result ≡ list_all is_part_byte part.now }
 {
     part.iter().all(|b| *b != b'/' && *b != b'?')
 }
@@ -214,7 +214,7 @@ fn is_part(part: &[u8]) -> bool
     if part.is_empty() {
         return false;
     }
-    are_of_part(part)
+    are_part_bytes(part)
 }
 
 // Returns the number below 2^40 that a part writes in digits, without leading zeros.
@@ -229,9 +229,9 @@ fn number_of_part(part: &[u8]) -> Option<u64>
 }
 
 // Returns what follows `prefix`, if it is one part of a path: its number, or `None` inside.
-#[tactic(auto, unfolding(crate::specs::Table::number_behind))]
-fn number_behind(target: &[u8], prefix: &[u8]) -> Option<Option<u64>>
-    ensures { result ≡ number_behind prefix.now target.now }
+#[tactic(auto, unfolding(crate::specs::Table::number_after))]
+fn number_after(target: &[u8], prefix: &[u8]) -> Option<Option<u64>>
+    ensures { result ≡ number_after prefix.now target.now }
 {
     let part = target.strip_prefix(prefix)?;
     if !is_part(part) {
@@ -244,13 +244,13 @@ fn number_behind(target: &[u8], prefix: &[u8]) -> Option<Option<u64>>
 fn numbered_route_of(target: &[u8]) -> Option<Route>
     ensures { result ≡ numbered_path target.now }
 {
-    if let Some(id) = number_behind(target, b"/versions/") {
+    if let Some(id) = number_after(target, b"/versions/") {
         return Some(Route::Version(id));
     }
-    if let Some(number) = number_behind(target, b"/numbers/") {
+    if let Some(number) = number_after(target, b"/numbers/") {
         return Some(Route::Number(number));
     }
-    let count = number_behind(target, b"/downloads/")?;
+    let count = number_after(target, b"/downloads/")?;
     Some(Route::Downloads(count))
 }
 

@@ -33,8 +33,8 @@ impl ReadBuffer {
     ///
     /// `AllocError` if the allocation fails.
     pub fn new(alloc: Global) -> Result<ReadBuffer, AllocError>
-        ensures size { IfOk result (λ held. vec_len held.bytes ≡ 8192) }
-        ensures empty { IfOk result (λ held. buffered_bytes held ≡ []) }
+        ensures size { IfOk result (λ buffer. vec_len buffer.bytes ≡ 8192) }
+        ensures empty { IfOk result (λ buffer. buffered_bytes buffer ≡ []) }
     {
         let bytes = vec![in alloc; 0; HEAD_LIMIT]?;
         Ok(ReadBuffer {
@@ -45,7 +45,7 @@ impl ReadBuffer {
     }
 
     /// Returns the buffered bytes.
-    pub(crate) fn held(&self) -> &[u8]
+    pub(crate) fn buffered(&self) -> &[u8]
         ensures { result.now ≡ buffered_bytes self.now }
     {
         &self.bytes[self.start..self.filled]
@@ -60,10 +60,10 @@ impl ReadBuffer {
     }
 
     /// Discards the first `n` buffered bytes. Moves `start` and no byte.
-    pub(crate) fn drop_front(&mut self, n: usize)
+    pub(crate) fn discard(&mut self, n: usize)
         requires { n ≤ length (buffered_bytes self.old) }
         ensures size { vec_len self.new.bytes ≡ vec_len self.old.bytes }
-        ensures held { buffered_bytes self.new ≡ drop n (buffered_bytes self.old) }
+        ensures buffered { buffered_bytes self.new ≡ drop n (buffered_bytes self.old) }
     {
         self.start += n;
         if self.start == self.filled {
@@ -73,10 +73,10 @@ impl ReadBuffer {
     }
 
     // Moves the buffered bytes to the start of `bytes`.
-    fn move_to_front(&mut self)
+    fn move_to_start(&mut self)
         ensures size { vec_len self.new.bytes ≡ vec_len self.old.bytes }
-        ensures held { buffered_bytes self.new ≡ buffered_bytes self.old }
-        ensures front { self.new.start ≡ 0 }
+        ensures buffered { buffered_bytes self.new ≡ buffered_bytes self.old }
+        ensures start { self.new.start ≡ 0 }
     {
         self.bytes.copy_within(self.start..self.filled, 0);
         self.filled -= self.start;
@@ -84,14 +84,14 @@ impl ReadBuffer {
     }
 
     // Frees capacity after the buffered bytes if there is too little for a read.
-    fn make_room(&mut self)
+    fn free_capacity(&mut self)
         requires { length (buffered_bytes self.old) < vec_len self.old.bytes }
         ensures size { vec_len self.new.bytes ≡ vec_len self.old.bytes }
-        ensures held { buffered_bytes self.new ≡ buffered_bytes self.old }
-        ensures room { self.new.filled < vec_len self.new.bytes }
+        ensures buffered { buffered_bytes self.new ≡ buffered_bytes self.old }
+        ensures capacity { self.new.filled < vec_len self.new.bytes }
     {
         if self.start > 0 && self.bytes.len() - self.filled < LEAST_CAPACITY {
-            self.move_to_front();
+            self.move_to_start();
         }
     }
 
@@ -99,7 +99,7 @@ impl ReadBuffer {
     pub(crate) fn fill<R: Read>(&mut self, reader: &mut R) -> io::Result<usize>
         requires { length (buffered_bytes self.old) < vec_len self.old.bytes }
         ensures size { vec_len self.new.bytes ≡ vec_len self.old.bytes }
-        ensures left { Keeps (remaining_input self.old (R.remaining reader.old))
+        ensures remaining { Keeps (remaining_input self.old (R.remaining reader.old))
             (remaining_input self.new (R.remaining reader.new)) }
         ensures grows { IfOk result
             (λ n. length (buffered_bytes self.new) ≡ length (buffered_bytes self.old) + n) }
@@ -108,7 +108,7 @@ impl ReadBuffer {
             × (buffered_bytes self.new ≡ buffered_bytes self.old)) }
         ensures same { OnErr result (buffered_bytes self.new ≡ buffered_bytes self.old) }
     {
-        self.make_room();
+        self.free_capacity();
         let start = self.filled;
         let n = reads::read_at(reader, &mut self.bytes, start)?;
         self.filled = start + n;

@@ -15,7 +15,7 @@ use Rattle.http_messages.specs.declared.paths.VersionPath.{VersionPath}
 use Rattle.http_messages.specs.declared.paths.VersionPath.TheVariants.{Activate as ActivatePath, PutInConflict as PutInConflictPath, RemoveFromConflict as RemoveFromConflictPath, Cancel as CancelPath, OldProviderCancellationAcknowledge as OldAcknowledgePath, NewProviderCancellationAcknowledge as NewAcknowledgePath, Disconnect as DisconnectPath, ModifyRouting as ModifyPath}
 use Rattle.http_messages.specs.declared.paths.BlockPath.{BlockPath}
 use Rattle.http_messages.specs.declared.paths.BlockPath.TheVariants.{Assign as AssignPath, Donate as DonatePath, Release as ReleasePath}
-use Rattle.json_api.specs.Forms.{ApiCall, RegisterCall, UriQuery, items, AreLineTexts, HasBlock, HasUsed, HasBlockCommand, HasRelease, HasVersionCommand, text, whole, HasSpid, HasTn, HasLrn, HasCode, HasCic, HasWindows, HasCommand, HasOrder, HasValues, HasForm, is_left_out, flag}
+use Rattle.json_api.specs.Forms.{ApiCall, RegisterCall, UriQuery, items, AreLineTexts, HasBlock, HasUsed, HasBlockCommand, HasRelease, HasVersionCommand, text, whole, HasSpid, HasTn, HasLrn, HasCode, HasCic, HasWindows, HasCommand, HasCommandCall, HasValues, HasForm, is_left_out, flag}
 
 pub same_said : {A : Type 0} (given : Option A) (a b : A) → given ≡ Some a → given ≡ Some b → a ≡ b
 same_said given a b e f = cc
@@ -200,9 +200,10 @@ same_command (Version id) d b c x y = absurd x
 same_command (Number tn) d b c x y = absurd x
 same_command (Downloads count) d b c x y = absurd x
 
-same_order : (route : Route) (d : Data) (a b : ApiCall) → HasOrder route d a → HasOrder route d b
+same_command_call : (route : Route) (d : Data) (a b : ApiCall) → HasCommandCall route d a
+    → HasCommandCall route d b
     → a ≡ b
-same_order route d a b x y =
+same_command_call route d a b x y =
     x.2 ∙ ap (λ (c : Command). RegisterCall (RequestCall (CommandRequest c)))
     (same_command route d x.0 y.0 x.1 y.1)
     ∙ sym y.2
@@ -221,14 +222,14 @@ same_values Clock d a b x y =
 same_values (Version id) d a b x y = absurd x
 same_values (Number tn) d a b x y = absurd x
 same_values (Downloads count) d a b x y = absurd x
-same_values Carriers d a b x y = same_order Carriers d a b x y
-same_values RoutingNumbers d a b x y = same_order RoutingNumbers d a b x y
-same_values Codes d a b x y = same_order Codes d a b x y
-same_values OldProviderPath d a b x y = same_order OldProviderPath d a b x y
-same_values NewProviderPath d a b x y = same_order NewProviderPath d a b x y
-same_values (VersionPaths path) d a b x y = same_order (VersionPaths path) d a b x y
-same_values (BlockPaths path) d a b x y = same_order (BlockPaths path) d a b x y
-same_values WindowsPath d a b x y = same_order WindowsPath d a b x y
+same_values Carriers d a b x y = same_command_call Carriers d a b x y
+same_values RoutingNumbers d a b x y = same_command_call RoutingNumbers d a b x y
+same_values Codes d a b x y = same_command_call Codes d a b x y
+same_values OldProviderPath d a b x y = same_command_call OldProviderPath d a b x y
+same_values NewProviderPath d a b x y = same_command_call NewProviderPath d a b x y
+same_values (VersionPaths path) d a b x y = same_command_call (VersionPaths path) d a b x y
+same_values (BlockPaths path) d a b x y = same_command_call (BlockPaths path) d a b x y
+same_values WindowsPath d a b x y = same_command_call WindowsPath d a b x y
 
 pub same_form : (route : Route) (d : Data) (a b : ApiCall) → HasForm route d a → HasForm route d b
     → a ≡ b

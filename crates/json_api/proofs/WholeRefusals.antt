@@ -1,5 +1,5 @@
 -- The whole text of a refusal.
-use Rattle.std.proofs.Common.{◌≡◌, ℕ, List, [], ◌∷◌, ◌++◌, length, refl, ap, ◌∙◌, arith, string_bytes, string_len}
+use Rattle.std.proofs.Common.{◌≡◌, ℕ, List, [], ◌++◌, ap, ◌∙◌, arith, string_bytes, string_len}
 use Rattle.std.specs.Prelude.{String}
 use Rattle.json_api.specs.Response.{response}
 use Rattle.json_api.specs.Failures.{failure_text, failure_body, failure_status}

@@ -244,8 +244,8 @@ HasCommand (Version id) d c = ⊥
 HasCommand (Number tn) d c = ⊥
 HasCommand (Downloads count) d c = ⊥
 
-abbrev pub HasOrder : Route → Data → ApiCall → Type 0
-HasOrder route d asked = (c : Command) × HasCommand route d c
+abbrev pub HasCommandCall : Route → Data → ApiCall → Type 0
+HasCommandCall route d asked = (c : Command) × HasCommand route d c
     × (asked ≡ RegisterCall (RequestCall (CommandRequest c)))
 
 -- Holds if this is what the values ask on a route. The routes of a version, a telephone number and
@@ -260,14 +260,14 @@ HasValues Clock d asked = (minute : ℕ) × (whole (codes "minute") d ≡ Some m
 HasValues (Version id) d asked = ⊥
 HasValues (Number tn) d asked = ⊥
 HasValues (Downloads count) d asked = ⊥
-HasValues Carriers d asked = HasOrder Carriers d asked
-HasValues RoutingNumbers d asked = HasOrder RoutingNumbers d asked
-HasValues Codes d asked = HasOrder Codes d asked
-HasValues OldProviderPath d asked = HasOrder OldProviderPath d asked
-HasValues NewProviderPath d asked = HasOrder NewProviderPath d asked
-HasValues (VersionPaths path) d asked = HasOrder (VersionPaths path) d asked
-HasValues (BlockPaths path) d asked = HasOrder (BlockPaths path) d asked
-HasValues WindowsPath d asked = HasOrder WindowsPath d asked
+HasValues Carriers d asked = HasCommandCall Carriers d asked
+HasValues RoutingNumbers d asked = HasCommandCall RoutingNumbers d asked
+HasValues Codes d asked = HasCommandCall Codes d asked
+HasValues OldProviderPath d asked = HasCommandCall OldProviderPath d asked
+HasValues NewProviderPath d asked = HasCommandCall NewProviderPath d asked
+HasValues (VersionPaths path) d asked = HasCommandCall (VersionPaths path) d asked
+HasValues (BlockPaths path) d asked = HasCommandCall (BlockPaths path) d asked
+HasValues WindowsPath d asked = HasCommandCall WindowsPath d asked
 
 -- Holds if the value is an object of the route's form, without other keys, that asks this.
 pub record HasForm (route : Route) (d : Data) (asked : ApiCall) : Type 0 where

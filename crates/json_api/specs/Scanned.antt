@@ -21,8 +21,8 @@ pub record IsTokenOf (token : Token) (s : Scalar) : Type 0 where
   pub is : IsScalar token s
 
 -- Holds if `rest` follows leading spaces and line feeds.
-abbrev pub IsBehindGap : List ℕ → List ℕ → Type 0
-IsBehindGap bytes rest = (gap : List ℕ) × IsGap gap × (bytes ≡ gap ++ rest)
+abbrev pub IsAfterGap : List ℕ → List ℕ → Type 0
+IsAfterGap bytes rest = (gap : List ℕ) × IsGap gap × (bytes ≡ gap ++ rest)
 
 -- Holds if the bytes are a plain value, then `rest`.
 abbrev pub IsScalarThen : List ℕ → Scalar → List ℕ → Type 0

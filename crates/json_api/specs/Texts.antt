@@ -74,12 +74,12 @@ times_text v =
     ++ codes ",\"since\":" ++ decimal v.since
 
 -- The members `status` and `subject`.
-abbrev pub standing_text : View → List ℕ
-standing_text v = codes ",\"status\":\"" ++ status_word v.status ++ codes "\",\"subject\":\""
+abbrev pub state_text : View → List ℕ
+state_text v = codes ",\"status\":\"" ++ status_word v.status ++ codes "\",\"subject\":\""
     ++ subject_text v.subject ++ codes "\"}"
 
 unfoldable pub view_text : View → List ℕ
-view_text v = counts_text v ++ parties_text v ++ times_text v ++ standing_text v
+view_text v = counts_text v ++ parties_text v ++ times_text v ++ state_text v
 
 -- ---- lists
 

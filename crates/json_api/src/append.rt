@@ -21,7 +21,7 @@ pub fn put(out: &mut String, text: &str)
 // Appends a number below ten as one digit.
 fn put_digit(out: &mut String, digit: u8)
     requires digit { digit < 10 }
-    requires room { string_len out.old + 20 ≤ string_capacity out.old }
+    requires fits { string_len out.old + 20 ≤ string_capacity out.old }
     ensures bytes { string_bytes out.new ≡ string_bytes out.old ++ decimal digit }
     ensures len { string_len out.new ≤ string_len out.old + 20 }
     ensures capacity { string_capacity out.old ≤ string_capacity out.new }

@@ -10,22 +10,21 @@ pub(crate) trait Item {
     // Its text.
     ghost text: { Self → List ℕ };
     // The most bytes of its text.
-    ghost room: { ℕ };
+    ghost max_len: { ℕ };
 
     /// Appends the text.
     fn put(&self, out: &mut String)
-        requires { string_len out.old + room ≤ string_capacity out.old }
+        requires { string_len out.old + max_len ≤ string_capacity out.old }
         ensures bytes { string_bytes out.new ≡ string_bytes out.old ++ text self.now }
-        ensures len { string_len out.new ≤ string_len out.old + room }
+        ensures len { string_len out.new ≤ string_len out.old + max_len }
         ensures capacity { string_capacity out.old ≤ string_capacity out.new };
 }
 
 // Appends a comma and an item.
 fn put_next<T: Item>(out: &mut String, item: &T)
-    requires { string_len out.old + (T.room + 1) ≤ string_capacity out.old }
-    ensures bytes { string_bytes out.new
-        ≡ string_bytes out.old ++ (codes "," ++ T.text item.now) }
-    ensures len { string_len out.new ≤ string_len out.old + (T.room + 1) }
+    requires { string_len out.old + (T.max_len + 1) ≤ string_capacity out.old }
+    ensures bytes { string_bytes out.new ≡ string_bytes out.old ++ (codes "," ++ T.text item.now) }
+    ensures len { string_len out.new ≤ string_len out.old + (T.max_len + 1) }
     ensures capacity { string_capacity out.old ≤ string_capacity out.new }
 {
     put(out, ",");
@@ -34,10 +33,10 @@ fn put_next<T: Item>(out: &mut String, item: &T)
 
 // Appends the items after the first, each with a comma before it.
 fn put_rest<T: Item>(out: &mut String, items: &[T])
-    requires { string_len out.old + length items.now * (T.room + 1) ≤ string_capacity out.old }
+    requires { string_len out.old + length items.now * (T.max_len + 1) ≤ string_capacity out.old }
     ensures bytes { string_bytes out.new
         ≡ string_bytes out.old ++ flat_map (λ i. codes "," ++ T.text i) items.now }
-    ensures len { string_len out.new ≤ string_len out.old + length items.now * (T.room + 1) }
+    ensures len { string_len out.new ≤ string_len out.old + length items.now * (T.max_len + 1) }
     ensures capacity { string_capacity out.old ≤ string_capacity out.new }
 {
     for item in items {
@@ -48,9 +47,9 @@ fn put_rest<T: Item>(out: &mut String, items: &[T])
 /// Appends the items, with a comma between two. Needs memory for the longest text of each, and one
 /// byte more.
 pub(crate) fn put_list<T: Item>(out: &mut String, items: &[T])
-    requires { string_len out.old + length items.now * (T.room + 1) ≤ string_capacity out.old }
+    requires { string_len out.old + length items.now * (T.max_len + 1) ≤ string_capacity out.old }
     ensures bytes { string_bytes out.new ≡ string_bytes out.old ++ listed T.text items.now }
-    ensures len { string_len out.new ≤ string_len out.old + length items.now * (T.room + 1) }
+    ensures len { string_len out.new ≤ string_len out.old + length items.now * (T.max_len + 1) }
     ensures capacity { string_capacity out.old ≤ string_capacity out.new }
 {
     if let Some((first, rest)) = items.split_first() {

@@ -12,7 +12,7 @@ ghost use Rattle.telnp.specs.Answer.{answer_text};
 ghost use Rattle.telnp.specs.Abstraction.{uri_of};
 ghost use Rattle.json_api.specs.Failures.{failure_body};
 ghost use Rattle.json_api.specs.ResponseBuffers.{HasCapacity, IsEmpty, IsWritten};
-ghost use Rattle.json_api.specs.Texts.{cic_value, lrn_value, number_value, phase_value, status_word, cic_in, lrn_in, counts_text, parties_text, times_text, standing_text, view_text, listed, row_text, registered_text, donated_text, action_word, sent_text, placed_text, download_text, downloads_text, routing_number_text, opened_code_text, ids_text, now_text, windows_set_text, uri_text};
+ghost use Rattle.json_api.specs.Texts.{cic_value, lrn_value, number_value, phase_value, status_word, cic_in, lrn_in, counts_text, parties_text, times_text, state_text, view_text, listed, row_text, registered_text, donated_text, action_word, sent_text, placed_text, download_text, downloads_text, routing_number_text, opened_code_text, ids_text, now_text, windows_set_text, uri_text};
 
 use crate::append::{
     put, put_block, put_cic, put_code, put_lrn, put_minute, put_number, put_spid, put_subject,
@@ -193,10 +193,9 @@ fn put_times(out: &mut String, view: &VersionView)
 }
 
 // Appends the members `status` and `subject`.
-fn put_standing(out: &mut String, view: &VersionView)
+fn put_state(out: &mut String, view: &VersionView)
     requires { string_len out.old + 80 ≤ string_capacity out.old }
-    ensures bytes { string_bytes out.new
-        ≡ string_bytes out.old ++ standing_text (view_of view.now) }
+    ensures bytes { string_bytes out.new ≡ string_bytes out.old ++ state_text (view_of view.now) }
     ensures len { string_len out.new ≤ string_len out.old + 80 }
     ensures capacity { string_capacity out.old ≤ string_capacity out.new }
 {
@@ -218,7 +217,7 @@ pub fn put_version(out: &mut String, view: &VersionView)
     put_counts(out, view);
     put_parties(out, view);
     put_times(out, view);
-    put_standing(out, view);
+    put_state(out, view);
 }
 
 /// Appends the body with an LRN and its carrier, of at most 64 bytes.
@@ -315,7 +314,7 @@ pub fn put_windows_set(out: &mut String, now: Minute, number: u16)
 impl Item for RoutedRow {
     ghost text = { λ r. row_text (in_force_of r) };
 
-    ghost room = { 63 };
+    ghost max_len = { 63 };
 
     fn put(&self, out: &mut String) {
         put(out, "{\"cic\":");
@@ -360,7 +359,7 @@ pub fn put_registered(out: &mut String, spid: Spid, rows: &[RoutedRow])
 impl Item for u64 {
     ghost text = { λ id. decimal id };
 
-    ghost room = { 20 };
+    ghost max_len = { 20 };
 
     fn put(&self, out: &mut String) {
         put_number(out, *self);
@@ -444,7 +443,7 @@ fn put_placed(out: &mut String, download: &Download)
 impl Item for Download {
     ghost text = { λ d. download_text (download_of d) };
 
-    ghost room = { 191 };
+    ghost max_len = { 191 };
 
     fn put(&self, out: &mut String) {
         put_sent(out, self);
@@ -505,18 +504,18 @@ pub fn put_uri(out: &mut String, uri: &str)
 #[tactic(auto, unfolding(crate::specs::Texts::uri_text))]
 pub fn put_looked_up(
     alloc: Global,
-    room: &mut ResponseBuffer,
+    response: &mut ResponseBuffer,
     uri: &TelUri<'_>,
     routing: Option<Routing>,
 ) -> Result<(), AllocError>
-    requires { IsEmpty room.old }
-    ensures ok { OnOk result (IsWritten room.new) }
-    ensures body { OnOk result (string_bytes room.new.body
+    requires { IsEmpty response.old }
+    ensures ok { OnOk result (IsWritten response.new) }
+    ensures body { OnOk result (string_bytes response.new.body
         ≡ uri_text (answer_text (uri_of uri.now) (option_map routing_of routing))) }
-    ensures room { (n : ℕ) → HasCapacity n room.old → HasCapacity n room.new }
+    ensures capacity { (n : ℕ) → HasCapacity n response.old → HasCapacity n response.new }
 {
-    room.body.push_str("{\"uri\":\"")?;
-    uri.write_answer(alloc, routing, &mut room.body)?;
-    room.body.push_str("\"}")?;
-    room.fit()
+    response.body.push_str("{\"uri\":\"")?;
+    uri.write_answer(alloc, routing, &mut response.body)?;
+    response.body.push_str("\"}")?;
+    response.fit()
 }

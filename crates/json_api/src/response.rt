@@ -30,7 +30,7 @@ fn phrase_of(status: StatusCode) -> &'static str
 
 // Appends the head of a response with this status, up to the length of the body.
 fn put_status(out: &mut String, status: StatusCode)
-    requires room { string_len out.old + 136 ≤ string_capacity out.old }
+    requires fits { string_len out.old + 136 ≤ string_capacity out.old }
     requires answered { IsAnswered status }
     ensures bytes { string_bytes out.new ≡ string_bytes out.old ++ head_start status }
     ensures len { string_len out.new ≤ string_len out.old + 136 }
@@ -48,7 +48,7 @@ fn put_status(out: &mut String, status: StatusCode)
 
 #[tactic(auto, unfolding(crate::specs::Response::phrase))]
 fn put_success_head(out: &mut String)
-    requires room { string_len out.old + 136 ≤ string_capacity out.old }
+    requires fits { string_len out.old + 136 ≤ string_capacity out.old }
     ensures bytes { string_bytes out.new ≡ string_bytes out.old ++ head_start 200 }
     ensures len { string_len out.new ≤ string_len out.old + 136 }
     ensures capacity { string_capacity out.old ≤ string_capacity out.new }
@@ -62,7 +62,7 @@ fn put_success_head(out: &mut String)
 // Appends the head up to the length of the body. Almost every status is 200, which has one constant
 // head.
 fn put_start(out: &mut String, status: u16)
-    requires room { string_len out.old + 136 ≤ string_capacity out.old }
+    requires fits { string_len out.old + 136 ≤ string_capacity out.old }
     requires answered { IsAnswered status }
     ensures bytes { string_bytes out.new ≡ string_bytes out.old ++ head_start status }
     ensures len { string_len out.new ≤ string_len out.old + 136 }
@@ -79,7 +79,7 @@ fn put_start(out: &mut String, status: u16)
 
 // Appends the head of a response with this status and a body of `length` bytes.
 fn put_head(out: &mut String, status: u16, length: u64)
-    requires room { string_len out.old + 160 ≤ string_capacity out.old }
+    requires fits { string_len out.old + 160 ≤ string_capacity out.old }
     requires answered { IsAnswered status }
     ensures bytes { string_bytes out.new ≡ string_bytes out.old ++ head status length }
     ensures len { string_len out.new ≤ string_len out.old + 160 }
@@ -99,7 +99,7 @@ impl ResponseBuffer {
     ///
     /// `AllocError` if an allocation fails.
     pub fn new(alloc: Global) -> Result<ResponseBuffer, AllocError>
-        ensures room { IfOk result (HasCapacity 512) }
+        ensures capacity { IfOk result (HasCapacity 512) }
         ensures empty { IfOk result IsEmpty }
     {
         Ok(ResponseBuffer {
@@ -111,7 +111,7 @@ impl ResponseBuffer {
     /// Empties the buffer for the next response.
     pub fn clear(&mut self)
         ensures empty { IsEmpty self.new }
-        ensures room { (n : ℕ) → HasCapacity n self.old → HasCapacity n self.new }
+        ensures capacity { (n : ℕ) → HasCapacity n self.old → HasCapacity n self.new }
     {
         self.body.clear();
         self.text.clear();
@@ -128,7 +128,7 @@ impl ResponseBuffer {
         requires fits { length + 160 < 2 ^ 64 }
         ensures ok { OnOk result (HasCapacity length self.new) }
         ensures empty { IsEmpty self.new }
-        ensures room { (n : ℕ) → HasCapacity n self.old → HasCapacity n self.new }
+        ensures capacity { (n : ℕ) → HasCapacity n self.old → HasCapacity n self.new }
     {
         self.body.reserve(length)?;
         self.text.reserve(length + HEAD_CAPACITY)?;
@@ -144,7 +144,7 @@ impl ResponseBuffer {
         requires empty { string_len self.old.text ≡ 0 }
         ensures ok { OnOk result (IsWritten self.new) }
         ensures body { string_bytes self.new.body ≡ string_bytes self.old.body }
-        ensures room { (n : ℕ) → HasCapacity n self.old → HasCapacity n self.new }
+        ensures capacity { (n : ℕ) → HasCapacity n self.old → HasCapacity n self.new }
     {
         self.text.reserve(self.body.len() + HEAD_CAPACITY)
     }
@@ -155,7 +155,7 @@ impl ResponseBuffer {
         requires written { IsWritten self.old }
         ensures text { string_bytes self.new.text
             ≡ string_bytes self.old.text ++ response status (string_bytes self.old.body) }
-        ensures room { (n : ℕ) → HasCapacity n self.old → HasCapacity n self.new }
+        ensures capacity { (n : ℕ) → HasCapacity n self.old → HasCapacity n self.new }
     {
         put_head(&mut self.text, status, self.body.len() as u64);
         put(&mut self.text, &self.body);

@@ -11,7 +11,7 @@ ghost use Rattle.serde_json.specs.Read.{number_of};
 ghost use Rattle.serde_json.specs.Data.{unsigned};
 ghost use Rattle.json_api.specs.Flat.{flat_data};
 ghost use Rattle.json_api.specs.Forms.{json_of};
-ghost use Rattle.json_api.specs.Scanned.{is_plain as is_plain_byte, IsBehindGap, IsScalarThen, IsMemberThen};
+ghost use Rattle.json_api.specs.Scanned.{is_plain as is_plain_byte, IsAfterGap, IsScalarThen, IsMemberThen};
 
 use crate::flat::{MOST_MEMBERS, Member, Scalar};
 use arrayvec::ArrayVec;
@@ -37,20 +37,20 @@ fn is_plain(byte: u8) -> bool
 }
 
 // Returns the bytes after the leading spaces and line feeds.
-fn behind_gap(bytes: &[u8]) -> &[u8]
-    ensures { IsBehindGap bytes.now result.now }
+fn skip_gap(bytes: &[u8]) -> &[u8]
+    ensures { IsAfterGap bytes.now result.now }
 {
     let mut rest = bytes;
     'gap: loop {
         match rest.split_first() {
-            Some((byte, behind)) if *byte == b' ' || *byte == b'\n' => rest = behind,
+            Some((byte, after)) if *byte == b' ' || *byte == b'\n' => rest = after,
             _ => return rest,
         }
     }
 }
 
 // Returns the bytes after `first`, if they begin with it.
-fn behind(bytes: &[u8], first: u8) -> Option<&[u8]>
+fn strip_byte(bytes: &[u8], first: u8) -> Option<&[u8]>
     ensures { IfSome result (λ rest. bytes.now ≡ first ∷ rest.now) }
 {
     match bytes.split_first() {
@@ -97,9 +97,9 @@ fn text_at(bytes: &[u8]) -> Option<(&str, &[u8])>
     ensures utf8 { IfSome result (λ found. IsUtf8 found.0.now) }
     ensures text { IfSome result (λ found. bytes.now ≡ quoted found.0.now ++ found.1.now) }
 {
-    let inner = behind(bytes, b'"')?;
+    let inner = strip_byte(bytes, b'"')?;
     let (text, rest) = inner.split_at(plain_len(inner));
-    let rest = behind(rest, b'"')?;
+    let rest = strip_byte(rest, b'"')?;
     Some((plain_text(text), rest))
 }
 
@@ -134,8 +134,8 @@ fn scalar_at(bytes: &[u8]) -> Option<(Scalar<'_>, &[u8])>
 fn member_at(bytes: &[u8]) -> Option<(Member<'_>, &[u8])>
     ensures { IfSome result (λ found. IsMemberThen bytes.now found.0 found.1.now) }
 {
-    let (key, rest) = text_at(behind_gap(bytes))?;
-    let (value, rest) = scalar_at(behind_gap(behind(rest, b':')?))?;
+    let (key, rest) = text_at(skip_gap(bytes))?;
+    let (value, rest) = scalar_at(skip_gap(strip_byte(rest, b':')?))?;
     Some((Member { key, value }, rest))
 }
 
@@ -147,16 +147,16 @@ pub(crate) fn read_members<'a>(
     requires { members.old.items ≡ [] }
     ensures { IfSome result (λ _. json_of body.now ≡ Some (flat_data members.new.items)) }
 {
-    let mut rest = behind(body, b'{')?;
+    let mut rest = strip_byte(body, b'{')?;
     'members: loop {
         let (member, after) = member_at(rest)?;
         let Ok(()) = members.try_push(member) else {
             return None;
         };
-        if let Some(behind) = behind(after, b',') {
-            rest = behind;
+        if let Some(next) = strip_byte(after, b',') {
+            rest = next;
         } else {
-            return match behind(behind_gap(after), b'}') {
+            return match strip_byte(skip_gap(after), b'}') {
                 Some([]) => Some(()),
                 _ => None,
             };

@@ -15,11 +15,6 @@ pub mod Copies
 pub mod Content
 pub mod Laws
 pub mod Due
-pub mod Examples
-pub mod ServiceExamples
-pub mod RefusalExamples
-pub mod GreatestWindows
-pub mod WindowExamples
 pub mod Abstraction
 pub mod RefusalNumbers
 pub mod Concerns

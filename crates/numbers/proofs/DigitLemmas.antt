@@ -129,14 +129,14 @@ power_some zero = omega arith
 power_some (suc width) = omega (arith, pow-suc 10 width, power_some width)
 
 -- A 1 before the last `width` digits of a number is decimal for a power of ten plus them.
-pub decimal_behind_one : (width n : ℕ) → width ≤ 18 → decimal (10 ^ width + n % 10 ^ width)
+pub decimal_after_one : (width n : ℕ) → width ≤ 18 → decimal (10 ^ width + n % 10 ^ width)
     ≡ 49 ∷ digits_of width n
 unfolding digits_of
-decimal_behind_one zero n within = ap decimal one ∙ decimal_digit 1 (omega arith)
+decimal_after_one zero n within = ap decimal one ∙ decimal_digit 1 (omega arith)
   where
     one : 10 ^ 0 + n % 10 ^ 0 ≡ 1
     one = omega arith
-decimal_behind_one (suc width) n within =
+decimal_after_one (suc width) n within =
     let power : 10 ^ suc width ≡ 10 ^ width * 10 = pow-suc 10 width in
     let small : 10 ^ suc width ≤ 1000000000000000000 = pow_small (suc width) within in
     let some : 0 < 10 ^ width = power_some width in
@@ -149,4 +149,4 @@ decimal_behind_one (suc width) n within =
     ap (λ k. decimal (k + n % k)) power
     ∙ ap (λ k. decimal (10 ^ width * 10 + k)) rest
     ∙ one_more (10 ^ width) (n / 10 % 10 ^ width) (n % 10) some less last within_ten
-    ∙ ap (λ ds. ds ++ (48 + n % 10) ∷ []) (decimal_behind_one width (n / 10) (omega arith))
+    ∙ ap (λ ds. ds ++ (48 + n % 10) ∷ []) (decimal_after_one width (n / 10) (omega arith))

@@ -26,7 +26,7 @@ pub fn read_digits(text: &str, width: usize) -> Option<u64>
 }
 
 // Formats the last `N` decimal digits of `number` after a 1, which keeps the leading zeros.
-fn behind_one<const N: usize>(number: u64, buffer: &mut Buffer) -> &str
+fn digits_after_one<const N: usize>(number: u64, buffer: &mut Buffer) -> &str
     requires { N ≤ 18 }
     ensures digits { result.now ≡ 49 ∷ digits_of N number }
     ensures ascii { IsAscii result.now }
@@ -50,7 +50,7 @@ pub fn write_digits<const N: usize>(number: u64, out: &mut String) -> Result<(),
     ensures succeeds { string_len out.old + N ≤ string_capacity out.old → IsOk result }
 {
     let mut buffer = Buffer::new();
-    out.push_str(&behind_one::<N>(number, &mut buffer)[1..])
+    out.push_str(&digits_after_one::<N>(number, &mut buffer)[1..])
 }
 
 /// Appends the bytes of a text.

@@ -267,7 +267,7 @@ module _ (st : State) (caller : ℕ) (facts : BlockFacts) where
       refused ≡ release_refusal caller facts
       → refused ≡ refusal st (RequestFrom caller (CommandRequest (Release block)))
   release_refused_in block is refused by_facts =
-      by_facts ∙ sym (release_refused st caller facts block is.are
+      by_facts ∙ sym (release_refused st caller facts block is.facts_match
       ∙ ap (λ b. if b then Some 1 else release_refusal caller facts) is.known)
 
   pub assignment_refused_in : (a : Assignment)
@@ -275,12 +275,12 @@ module _ (st : State) (caller : ℕ) (facts : BlockFacts) where
       refused ≡ assignment_refusal caller facts
       → refused ≡ refusal st (RequestFrom caller (CommandRequest (command_of a)))
   assignment_refused_in a is refused by_facts =
-      by_facts ∙ sym (assignment_refused st caller facts a is.are ∙ ap (λ b. if b then Some 1
-      else assignment_refusal caller facts) is.known)
+      by_facts ∙ sym (assignment_refused st caller facts a is.facts_match
+      ∙ ap (λ b. if b then Some 1 else assignment_refusal caller facts) is.known)
 
   pub donation_refused_in : (d : Donation) → IsBlockCommandIn st caller d.block.number (donated d)
       facts → NumbersMatch st d.block.number facts.numbers.now →
       refusal st (RequestFrom caller (CommandRequest (donated d))) ≡ donation_refusal caller d facts
   donation_refused_in d is numbers =
-      donation_refused st caller facts d is.are numbers ∙ ap (λ b. if b then Some 1
+      donation_refused st caller facts d is.facts_match numbers ∙ ap (λ b. if b then Some 1
       else donation_refusal caller d facts) is.known

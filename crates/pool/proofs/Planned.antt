@@ -84,11 +84,11 @@ answered caller d facts used made versions refusal passed all is many answer =
     ∙ ap (λ n. first_refusal (tests_by (numbers_in used) n facts)) (sym many) ∙ sym answer
 
 -- A returned refusal is the donation's.
-pub handed : {A : Type 0} (result : Result A Refusal) (was : Refusal) (o : Option ℕ)
+pub returned : {A : Type 0} (result : Result A Refusal) (was : Refusal) (o : Option ℕ)
     → IsErrAnd result (λ r. r ≡ was) → o ≡ Some (number_of was) →
     IfErr result (λ r. r ≢ NoMemory → o ≡ Some (number_of r))
-handed (Ok value) was o is e = tt
-handed (Err r) was o is e = λ other. e ∙ ap (λ x. Some (number_of x)) (sym is)
+returned (Ok value) was o is e = tt
+returned (Err r) was o is e = λ other. e ∙ ap (λ x. Some (number_of x)) (sym is)
 
 -- A returned refusal of the state satisfies `IsRefusedAs`.
 pub refused_as : {A : Type 0} (result : Result A Refusal) (was : Refusal) (o : Option ℕ)

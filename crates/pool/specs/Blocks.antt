@@ -42,4 +42,4 @@ pub record IsBlockCommandIn (st : State) (caller block : ℕ) (c : Command)
     (facts : BlockFacts) : Type 0 where
   pub reached : IsReachable st
   pub known : holds_at 1 (own_tests st caller c) ≡ false
-  pub are : BlockFactsMatch st caller block c facts
+  pub facts_match : BlockFactsMatch st caller block c facts

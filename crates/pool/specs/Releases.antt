@@ -30,7 +30,7 @@ release_refusal caller facts = first_refusal (release_tests caller facts)
 
 -- Holds if the block's last version sends a delete.
 abbrev pub IsReleased : WindowSet → (minute : ℕ) → Option VersionImpl → Transition → Type 0
-IsReleased present minute None step = ⊥
-IsReleased present minute (Some v) step = (sends_model step.sends ≡ Some Delete)
+IsReleased present minute None transition = ⊥
+IsReleased present minute (Some v) transition = (sends_model transition.sends ≡ Some Delete)
     × ((all_carriers : List ℕ) → Becomes (next_attempt present Delete all_carriers minute) v
-    step.version)
+    transition.version)

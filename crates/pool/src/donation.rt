@@ -101,7 +101,7 @@ fn is_past_the_last_id(next_id: u64, versions: usize) -> bool
 }
 
 // Returns the used numbers that have no version in force.
-fn unprotected(
+fn unprotected_numbers(
     alloc: Global,
     used: &BTreeSet<Tn>,
     facts: &BlockFacts<'_>,
@@ -148,7 +148,13 @@ impl Donation<'_> {
     }
 
     // Returns the version that protects a used number for its donor, sending its first create.
-    fn protective(&self, donor: Spid, tn: Tn, minute: Minute, present: &WindowSet) -> Version
+    fn protective_version(
+        &self,
+        donor: Spid,
+        tn: Tn,
+        minute: Minute,
+        present: &WindowSet,
+    ) -> Version
         ensures { IsProtective (set_of present.now) donor.number minute.number self.now
             (Number tn.number) result }
     {
@@ -187,7 +193,7 @@ impl Donation<'_> {
         let mut versions = Vec::with_capacity(alloc, numbers.len())?;
         let mut id = first_id;
         for tn in numbers {
-            versions.push((id, self.protective(donor, *tn, minute, present)))?;
+            versions.push((id, self.protective_version(donor, *tn, minute, present)))?;
             id += 1;
         }
         Ok(versions)
@@ -231,7 +237,7 @@ impl Donation<'_> {
     {
         check_donor(caller, facts)?;
         let used = self.used_numbers(alloc)?;
-        let made = unprotected(alloc, &used, facts)?;
+        let made = unprotected_numbers(alloc, &used, facts)?;
         check_block(&used, made.len(), facts)?;
         Ok(Plan {
             versions: self.versions(alloc, caller, &made, facts.next_id, minute, present)?,

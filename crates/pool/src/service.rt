@@ -52,7 +52,7 @@ impl Server {
 }
 
 // Returns the server by the number's block or code.
-fn by_block(facts: &ServingFacts) -> Server
+fn server_by_block(facts: &ServingFacts) -> Server
     ensures { server_of result ≡ served_by_code facts.now }
 {
     if !facts.is_donated {
@@ -75,16 +75,16 @@ pub fn serving(facts: &ServingFacts) -> Server
     ensures state { (st : State) (n : ℕ)
         → ServingFactsMatch st n facts.now → server_of result ≡ serving st n }
 {
-    by_version(facts)
+    server_by_version(facts)
 }
 
 // Returns the server by a version of the number, or by its block or code.
-fn by_version(facts: &ServingFacts) -> Server
+fn server_by_version(facts: &ServingFacts) -> Server
     ensures { server_of result ≡ serving_of facts.now }
 {
     match (&facts.in_force, &facts.opened) {
         (Some(version), _) => Server::Version(version.new_provider),
         (None, Some(version)) if version.is_protective => Server::Version(version.new_provider),
-        _ => by_block(facts),
+        _ => server_by_block(facts),
     }
 }

@@ -13,14 +13,14 @@ use Rattle.settle.specs.declared.rows.NumberedRow.{NumberedRow}
 -- subject has an open version, a modify also whether the routing number is the provider's.
 abbrev pub AreCommandFacts : Content → VersionCommand → Subject → (provider : ℕ) → CommandFacts
     → Type 0
-AreCommandFacts c Activate s provider told = ⊤
-AreCommandFacts c PutInConflict s provider told = ⊤
-AreCommandFacts c RemoveFromConflict s provider told = ⊤
-AreCommandFacts c Cancel s provider told = ⊤
-AreCommandFacts c OldProviderCancellationAcknowledge s provider told = ⊤
-AreCommandFacts c NewProviderCancellationAcknowledge s provider told = ⊤
-AreCommandFacts c (Disconnect release) s provider told = (o : Option NumberedRow) × IsOpen c s o
-    × (told.is_another_open ≡ is_some o)
-AreCommandFacts c (ModifyRouting lrn cic) s provider told =
-    ((o : Option NumberedRow) × IsOpen c s o × (told.is_another_open ≡ is_some o))
-    × (told.is_lrn_good ≡ is_the provider (get c.lrns lrn))
+AreCommandFacts c Activate s provider facts = ⊤
+AreCommandFacts c PutInConflict s provider facts = ⊤
+AreCommandFacts c RemoveFromConflict s provider facts = ⊤
+AreCommandFacts c Cancel s provider facts = ⊤
+AreCommandFacts c OldProviderCancellationAcknowledge s provider facts = ⊤
+AreCommandFacts c NewProviderCancellationAcknowledge s provider facts = ⊤
+AreCommandFacts c (Disconnect release) s provider facts = (o : Option NumberedRow) × IsOpen c s o
+    × (facts.is_another_open ≡ is_some o)
+AreCommandFacts c (ModifyRouting lrn cic) s provider facts =
+    ((o : Option NumberedRow) × IsOpen c s o × (facts.is_another_open ≡ is_some o))
+    × (facts.is_lrn_good ≡ is_the provider (get c.lrns lrn))

@@ -62,9 +62,8 @@ impl BlockRead {
 // Returns the version with this id, if an id is given.
 fn last_made<S: Store>(store: &mut S, id: Option<u64>) -> Result<Option<(u64, Version)>, StoreFault>
     ensures value { S.IsUsable store.new → IfOk result (IsLast (S.content store.old) id) }
-    ensures read_only { IsReadOnly S.IsUsable S.HasHonestDevice S.IsCrashState S.content S.failed
-        store.old store.new
-        (IsAnswer result) (S.IsUsable store.new × IsRowThere (S.content store.old) id
+    ensures read_only { IsReadOnly S.StoreModel store.old store.new (IsAnswer result)
+        (S.IsUsable store.new × IsRowThere (S.content store.old) id
         × (result ≡ Err StoreFault.Storage)) }
 {
     let Some(id) = id else {
@@ -90,9 +89,8 @@ fn last_id(row: Option<BlockRow>) -> Option<u64>
 pub fn read_block<S: Store>(store: &mut S, block: BlockId) -> Result<BlockRead, StoreFault>
     ensures value { S.IsUsable store.new
         → IfOk result (IsBlockRead (S.content store.old) block.number) }
-    ensures read_only { IsReadOnly S.IsUsable S.HasHonestDevice S.IsCrashState S.content S.failed
-        store.old store.new
-        (IsAnswer result) (ReportsStorage (S.IsUsable store.new) (S.content store.old)
+    ensures read_only { IsReadOnly S.StoreModel store.old store.new (IsAnswer result)
+        (ReportsStorage (S.IsUsable store.new) (S.content store.old)
         (result ≡ Err StoreFault.Storage)) }
 {
     let code_holder = store.code(block.code())?;
@@ -129,9 +127,8 @@ pub fn find_block<S: Store>(
         (clock_row_of found.clock) found.read) }
     ensures refused { S.IsUsable store.new → IfErr result (IsBlockLookupRefused is_known) }
     ensures open { OnOk result (S.HasHonestDevice store.new → S.IsUsable store.new) }
-    ensures read_only { IsReadOnly S.IsUsable S.HasHonestDevice S.IsCrashState S.content S.failed
-        store.old store.new
-        (IsAvailable result) (ReportsStorage (S.IsUsable store.new) (S.content store.old)
+    ensures read_only { IsReadOnly S.StoreModel store.old store.new (IsAvailable result)
+        (ReportsStorage (S.IsUsable store.new) (S.content store.old)
         (result ≡ Err Refusal.Storage)) }
 {
     if !is_known {

@@ -35,11 +35,9 @@ fn decide_command<S: Store>(
     requires { changes_of changes.old ≡ no_changes }
     ensures decides { S.IsUsable store.new → Decides (S.content store.old)
         (RequestFrom caller.number (CommandRequest (command_of command.now)))
-        (changes_of changes.new)
-        result }
-    ensures read_only { IsReadOnly S.IsUsable S.HasHonestDevice S.IsCrashState S.content S.failed
-        store.old store.new
-        (IsAvailable result) (ReportsOnceSettled (S.IsUsable store.new) (S.content store.old)
+        (changes_of changes.new) result }
+    ensures read_only { IsReadOnly S.StoreModel store.old store.new (IsAvailable result)
+        (ReportsOnceSettled (S.IsUsable store.new) (S.content store.old)
         (RequestFrom caller.number (CommandRequest (command_of command.now)))
         (result ≡ Err Refusal.Storage)) }
     ensures open { OnOk result (S.HasHonestDevice store.new → S.IsUsable store.new) }
@@ -84,11 +82,9 @@ fn decide<S: Store>(
 ) -> Result<Reply, Refusal>
     requires { changes_of changes.old ≡ no_changes }
     ensures decides { S.IsUsable store.new → Decides (S.content store.old)
-        (RequestFrom caller.number (request_of request.entry)) (changes_of changes.new)
-        result }
-    ensures read_only { IsReadOnly S.IsUsable S.HasHonestDevice S.IsCrashState S.content S.failed
-        store.old store.new
-        (IsAvailable result) (ReportsOnceSettled (S.IsUsable store.new) (S.content store.old)
+        (RequestFrom caller.number (request_of request.entry)) (changes_of changes.new) result }
+    ensures read_only { IsReadOnly S.StoreModel store.old store.new (IsAvailable result)
+        (ReportsOnceSettled (S.IsUsable store.new) (S.content store.old)
         (RequestFrom caller.number (request_of request.entry)) (result ≡ Err Refusal.Storage)) }
     ensures open { OnOk result (S.HasHonestDevice store.new → S.IsUsable store.new) }
 {
@@ -109,10 +105,10 @@ pub fn execute<S: Store>(
     ensures answers { S.IsUsable store.new
         → SimulatesSettledStep (S.content store.old) (S.content store.new)
         (RequestFrom caller.number (request_of request.entry)) (replied reply_of result) }
-    ensures left { AddsOnlyCrashStates S.HasHonestDevice S.IsCrashState store.old store.new
+    ensures left { AddsOnlyCrashStates S.StoreModel store.old store.new
         (λ m. S.IsUsable store.old × TakesSettledStep (S.content store.old)
         (RequestFrom caller.number (request_of request.entry)) m) }
-    ensures preserves { PreservesStore S.IsUsable S.HasHonestDevice S.failed store.old store.new
+    ensures preserves { PreservesStore S.StoreModel store.old store.new
         (IsAvailable result) (ReportsOnceSettled (S.IsUsable store.new) (S.content store.old)
         (RequestFrom caller.number (request_of request.entry)) (result ≡ Err Refusal.Storage)) }
 {

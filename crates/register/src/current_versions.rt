@@ -4,7 +4,7 @@ ghost use Rattle.std.specs.Prelude.{Err, ◌≡◌, ◌≤◌, IfOk, option_map}
 ghost use Rattle.numbers.specs.Digits.{block_of};
 ghost use Rattle.numbers.specs.Subjects.{Number, Block};
 ghost use Rattle.numbers.specs.Abstraction.{subject_of};
-ghost use Rattle.register.specs.Serving.{AreServing, IsVersionInForce, IsOpened, is_released};
+ghost use Rattle.register.specs.Serving.{AreServingFacts, IsVersionInForce, IsOpened, is_released};
 
 use model::Status;
 use numbers::{Subject, Tn};
@@ -24,7 +24,7 @@ pub struct CurrentVersions {
 fn in_force<S: Store>(store: &mut S, subject: Subject) -> Result<Option<Version>, StoreFault>
     ensures value { S.IsUsable store.new
         → IfOk result (IsVersionInForce (S.content store.old) (subject_of subject)) }
-    ensures read_only { IsReadOnly S.IsUsable S.HasHonestDevice S.IsCrashState S.content S.failed
+    ensures read_only { IsReadOnly S.StoreModel
         store.old store.new (IsAnswer result) (result ≡ Err StoreFault.Storage) }
 {
     match store.version_in_force(subject)? {
@@ -36,7 +36,7 @@ fn in_force<S: Store>(store: &mut S, subject: Subject) -> Result<Option<Version>
 fn opened<S: Store>(store: &mut S, subject: Subject) -> Result<Option<(u64, Version)>, StoreFault>
     ensures value { S.IsUsable store.new
         → IfOk result (IsOpened (S.content store.old) (subject_of subject)) }
-    ensures read_only { IsReadOnly S.IsUsable S.HasHonestDevice S.IsCrashState S.content S.failed
+    ensures read_only { IsReadOnly S.StoreModel
         store.old store.new (IsAnswer result) (result ≡ Err StoreFault.Storage) }
 {
     match store.open_version(subject)? {
@@ -49,16 +49,14 @@ impl CurrentVersions {
     /// Reads the current versions of a number and of its block.
     pub fn read<S: Store>(store: &mut S, tn: Tn) -> Result<CurrentVersions, StoreFault>
         ensures in_force { S.IsUsable store.new
-            → IfOk result (λ row. IsVersionInForce (S.content store.old) (Number tn.number)
-            row.in_force) }
+            → IfOk result (λ current. IsVersionInForce (S.content store.old) (Number tn.number)
+            current.in_force) }
         ensures opened { S.IsUsable store.new
-            → IfOk result (λ row. IsOpened (S.content store.old) (Number tn.number) row.opened) }
-        ensures block { S.IsUsable store.new
-            → IfOk result (λ row. IsVersionInForce (S.content store.old)
-            (Block (block_of tn.number))
-            row.block_in_force) }
-        ensures read_only { IsReadOnly S.IsUsable S.HasHonestDevice S.IsCrashState S.content
-            S.failed store.old store.new
+            → IfOk result (λ current. IsOpened (S.content store.old) (Number tn.number) current.opened) }
+        ensures block { S.IsUsable store.new → IfOk result
+            (λ current. IsVersionInForce (S.content store.old) (Block (block_of tn.number))
+            current.block_in_force) }
+        ensures read_only { IsReadOnly S.StoreModel store.old store.new
             (IsAnswer result) (result ≡ Err StoreFault.Storage) }
     {
         Ok(CurrentVersions {
@@ -93,21 +91,21 @@ fn version_of(opened: Option<(u64, Version)>) -> Option<Version>
 pub fn serving_facts<S: Store>(
     store: &mut S,
     tn: Tn,
-    row: &CurrentVersions,
+    current: &CurrentVersions,
 ) -> Result<ServingFacts, StoreFault>
     ensures value { S.IsUsable store.new
-        → IfOk result (AreServing (S.content store.old) tn.number row.now.in_force
-        (option_map (λ e. e.1) row.now.opened) row.now.block_in_force) }
-    ensures read_only { IsReadOnly S.IsUsable S.HasHonestDevice S.IsCrashState S.content S.failed
+        → IfOk result (AreServingFacts (S.content store.old) tn.number current.now.in_force
+        (option_map (λ e. e.1) current.now.opened) current.now.block_in_force) }
+    ensures read_only { IsReadOnly S.StoreModel
         store.old store.new (IsAnswer result) (result ≡ Err StoreFault.Storage) }
 {
     let is_donated = store.block(tn.block())?.is_some();
     let code_holder = store.code(tn.code())?;
     Ok(ServingFacts {
-        in_force: row.in_force,
-        opened: version_of(row.opened),
+        in_force: current.in_force,
+        opened: version_of(current.opened),
         is_donated,
-        block_in_force: row.block_in_force,
+        block_in_force: current.block_in_force,
         code_holder,
     })
 }

@@ -28,15 +28,13 @@ pub struct LookedUp {
 /// `UnknownCarrier` if `is_known` is false: the caller is not known. Then `NotFound` if no version
 /// has the id.
 pub fn look_up<S: Store>(store: &mut S, is_known: bool, id: u64) -> Result<LookedUp, Refusal>
-    ensures found { S.IsUsable store.new
-        → IfOk result
-        (λ found. IsLookedUp (S.content store.old) is_known id (clock_row_of found.clock)
-        found.row (windows_of found.held)) }
+    ensures found { S.IsUsable store.new → IfOk result
+        (λ found. IsLookedUp (S.content store.old) is_known id (clock_row_of found.clock) found.row
+        (windows_of found.held)) }
     ensures refused { S.IsUsable store.new
         → IfErr result (IsLookupRefused (S.content store.old) is_known id) }
-    ensures read_only { IsReadOnly S.IsUsable S.HasHonestDevice S.IsCrashState S.content S.failed
-        store.old store.new
-        (IsAvailable result) (S.IsUsable store.new × HasHeldSet (S.content store.old) id
+    ensures read_only { IsReadOnly S.StoreModel store.old store.new (IsAvailable result)
+        (S.IsUsable store.new × HasHeldSet (S.content store.old) id
         × (result ≡ Err Refusal.Storage)) }
 {
     if !is_known {
@@ -65,9 +63,8 @@ pub fn look_up_for<S: Store>(store: &mut S, carrier: Spid, id: u64) -> Result<Lo
     ensures refused { S.IsUsable store.new
         → IfErr result (IsLookupRefused (S.content store.old)
         (is_some (get (S.content store.old).carriers carrier.number)) id) }
-    ensures read_only { IsReadOnly S.IsUsable S.HasHonestDevice S.IsCrashState S.content S.failed
-        store.old store.new
-        (IsAvailable result) (S.IsUsable store.new × HasHeldSet (S.content store.old) id
+    ensures read_only { IsReadOnly S.StoreModel store.old store.new (IsAvailable result)
+        (S.IsUsable store.new × HasHeldSet (S.content store.old) id
         × (result ≡ Err Refusal.Storage)) }
     // A shut store answers no look-up.
     ensures open { OnOk result (S.HasHonestDevice store.new → S.IsUsable store.new) }
@@ -82,13 +79,11 @@ pub fn held_windows<S: Store>(
     clock: &ClockRow,
     held: u16,
 ) -> Result<Windows, StoreFault>
-    ensures value { S.IsUsable store.new
-        → IfOk result
+    ensures value { S.IsUsable store.new → IfOk result
         (λ windows. AreHeld (S.content store.old) (clock_row_of clock.now) held
         (windows_of windows)) }
-    ensures read_only { IsReadOnly S.IsUsable S.HasHonestDevice S.IsCrashState S.content S.failed
-        store.old store.new (IsAnswer result) (S.IsUsable store.new
-        × HasSet (S.content store.old) (clock_row_of clock.now) held
+    ensures read_only { IsReadOnly S.StoreModel store.old store.new (IsAnswer result)
+        (S.IsUsable store.new × HasSet (S.content store.old) (clock_row_of clock.now) held
         × (result ≡ Err StoreFault.Storage)) }
 {
     if held == clock.present.number {
@@ -102,10 +97,9 @@ pub fn held_windows<S: Store>(
 
 /// Returns whether the routing number is registered and the carrier's.
 pub fn is_lrn_of<S: Store>(store: &mut S, lrn: Lrn, carrier: Spid) -> Result<bool, StoreFault>
-    ensures value { S.IsUsable store.new
-        → IfOk result (λ good. good
-        ≡ is_the carrier.number (get (S.content store.old).lrns lrn.number)) }
-    ensures read_only { IsReadOnly S.IsUsable S.HasHonestDevice S.IsCrashState S.content S.failed
+    ensures value { S.IsUsable store.new → IfOk result
+        (λ good. good ≡ is_the carrier.number (get (S.content store.old).lrns lrn.number)) }
+    ensures read_only { IsReadOnly S.StoreModel
         store.old store.new (IsAnswer result) (result ≡ Err StoreFault.Storage) }
 {
     match store.lrn(lrn)? {

@@ -1,12 +1,12 @@
 //! Decides commands on blocks.
 ghost use Rattle.settle.specs.StoreContract.{IsAnswer, IsAvailable, IsReadOnly, ReportsStorage};
-ghost use Rattle.std.specs.Prelude.{◌≡◌, ◌+◌, ◌≤◌, ◌==◌, ◌||◌, ℕ, Err, Some, IfOk, OnOk, map, length, is_some, vec_len};
-ghost use Rattle.std.specs.FinMap.{get, keys};
+ghost use Rattle.std.specs.Prelude.{◌≡◌, ◌+◌, ◌≤◌, ℕ, Err, Some, IfOk, OnOk, map, length, vec_len};
+ghost use Rattle.std.specs.FinMap.{keys};
 ghost use Rattle.model.specs.Statuses.{Create};
 ghost use Rattle.model.specs.Commands.{Release};
 ghost use Rattle.model.specs.Conditions.{limit};
 ghost use Rattle.model.specs.History.{CommandRequest};
-ghost use Rattle.model.specs.Refusals.{RequestFrom, npac};
+ghost use Rattle.model.specs.Refusals.{RequestFrom};
 ghost use Rattle.version.specs.declared.version.Version.{Version as VersionImpl};
 ghost use Rattle.version.specs.Abstraction.{windows_of};
 ghost use Rattle.pool.specs.Assignments.{command_of as assignment_of};
@@ -19,6 +19,7 @@ ghost use Rattle.register.specs.Pooling.{block_changes};
 
 use crate::blocks::find_block;
 use crate::looking::is_lrn_of;
+use crate::query::is_known;
 use model::{Refusal, Send};
 use numbers::{BlockId, Spid};
 use pool::{Assignment, Donation};
@@ -46,7 +47,7 @@ fn past_ids(clock: &ClockRow, made: &[(u64, Version)]) -> ClockMove
 
 // Stages the rows of versions that begin to send as they are made, the block's row, and the clock's
 // row past their ids.
-fn put_made<S: Store>(
+fn stage_made<S: Store>(
     alloc: Global,
     store: &mut S,
     changes: &mut Changes,
@@ -65,7 +66,7 @@ fn put_made<S: Store>(
           minute = clock.now.minute.number;
           next_id = clock.now.next_id + length made.now;
         })) }
-    ensures read_only { IsReadOnly S.IsUsable S.HasHonestDevice S.IsCrashState S.content S.failed
+    ensures read_only { IsReadOnly S.StoreModel
         store.old store.new (IsAnswer result) (result ≡ Err StoreFault.Storage) }
 {
     let all_carriers = store.carriers()?;
@@ -91,19 +92,6 @@ fn ids_of(alloc: Global, made: &[(u64, Version)]) -> Result<Vec<u64>, AllocError
     made.iter().map(|entry| entry.0).collect(alloc)
 }
 
-// Returns whether the caller of a release is a registered carrier or the administrator.
-fn may_release<S: Store>(store: &mut S, caller: Spid) -> Result<bool, StoreFault>
-    ensures value { S.IsUsable store.new → IfOk result (λ known. known
-        ≡ ((caller.number == npac) || is_some (get (S.content store.old).carriers caller.number))) }
-    ensures read_only { IsReadOnly S.IsUsable S.HasHonestDevice S.IsCrashState S.content S.failed
-        store.old store.new (IsAnswer result) (result ≡ Err StoreFault.Storage) }
-{
-    if caller.number == Spid::NPAC.number {
-        return Ok(true);
-    }
-    store.carrier(caller)
-}
-
 /// Decides a donation: a carrier gives a block to the pool. The reply has the ids of the versions
 /// that protect the used numbers, ordered by number. Stages the changes, and commits nothing.
 #[tactic(auto, using(crate::proofs::EveryCall::Deciding::decides_fault))]
@@ -117,11 +105,9 @@ pub fn donate<S: Store>(
     requires { changes_of changes.old ≡ no_changes }
     ensures decides { S.IsUsable store.new → Decides (S.content store.old)
         (RequestFrom caller.number (CommandRequest (donation_of donation.now)))
-        (changes_of changes.new)
-        result }
-    ensures read_only { IsReadOnly S.IsUsable S.HasHonestDevice S.IsCrashState S.content S.failed
-        store.old store.new
-        (IsAvailable result) (ReportsStorage (S.IsUsable store.new) (S.content store.old)
+        (changes_of changes.new) result }
+    ensures read_only { IsReadOnly S.StoreModel store.old store.new (IsAvailable result)
+        (ReportsStorage (S.IsUsable store.new) (S.content store.old)
         (result ≡ Err Refusal.Storage)) }
     ensures open { OnOk result (S.HasHonestDevice store.new → S.IsUsable store.new) }
 {
@@ -136,7 +122,7 @@ pub fn donate<S: Store>(
         donor: caller,
         last: None,
     };
-    put_made(
+    stage_made(
         alloc,
         store,
         changes,
@@ -163,11 +149,9 @@ pub fn assign<S: Store>(
     requires { changes_of changes.old ≡ no_changes }
     ensures decides { S.IsUsable store.new → Decides (S.content store.old)
         (RequestFrom caller.number (CommandRequest (assignment_of assignment.now)))
-        (changes_of changes.new)
-        result }
-    ensures read_only { IsReadOnly S.IsUsable S.HasHonestDevice S.IsCrashState S.content S.failed
-        store.old store.new
-        (IsAvailable result) (ReportsStorage (S.IsUsable store.new) (S.content store.old)
+        (changes_of changes.new) result }
+    ensures read_only { IsReadOnly S.StoreModel store.old store.new (IsAvailable result)
+        (ReportsStorage (S.IsUsable store.new) (S.content store.old)
         (result ≡ Err Refusal.Storage)) }
     ensures open { OnOk result (S.HasHonestDevice store.new → S.IsUsable store.new) }
 {
@@ -182,7 +166,7 @@ pub fn assign<S: Store>(
         donor: version.old_provider,
         last: Some(id),
     };
-    put_made(
+    stage_made(
         alloc,
         store,
         changes,
@@ -208,21 +192,25 @@ pub fn release<S: Store>(
     ensures decides { S.IsUsable store.new → Decides (S.content store.old)
         (RequestFrom caller.number (CommandRequest (Release block.number))) (changes_of changes.new)
         result }
-    ensures read_only { IsReadOnly S.IsUsable S.HasHonestDevice S.IsCrashState S.content S.failed
-        store.old store.new
-        (IsAvailable result) (ReportsStorage (S.IsUsable store.new) (S.content store.old)
+    ensures read_only { IsReadOnly S.StoreModel store.old store.new (IsAvailable result)
+        (ReportsStorage (S.IsUsable store.new) (S.content store.old)
         (result ≡ Err Refusal.Storage)) }
     ensures open { OnOk result (S.HasHonestDevice store.new → S.IsUsable store.new) }
 {
-    let is_known = may_release(store, caller)?;
+    let is_known = is_known(store, caller)?;
     let found = find_block(store, is_known, block)?;
     let last = found.read.last;
     let clock = &found.clock;
     let facts = found.read.facts(true, clock.next_id);
-    let step = pool::release(caller, &facts, clock.minute, &clock.present)?;
+    let transition = pool::release(caller, &facts, clock.minute, &clock.present)?;
     let Some((id, _)) = last else {
         unreachable!();
     };
-    stage_transition(store, changes, id, &step, clock)?;
-    Ok(Reply::Shown(VersionView::of(id, &step.version, clock.minute, &clock.present.windows)))
+    stage_transition(store, changes, id, &transition, clock)?;
+    Ok(Reply::Shown(VersionView::of(
+        id,
+        &transition.version,
+        clock.minute,
+        &clock.present.windows,
+    )))
 }

@@ -7,18 +7,18 @@ use Rattle.model.specs.declared.refusal.Refusal.{Refusal}
 use Rattle.model.specs.declared.refusal.Refusal.TheVariants.{Storage}
 use Rattle.settle.specs.Faults.{refusal_of}
 use Rattle.settle.specs.StoreContract.{IsAvailable, IsReadOnly, ReportsStorage}
+use Rattle.settle.specs.declared.store_model.StoreModel.{Ghosts}
 use Rattle.settle.specs.declared.store.StoreFault.{StoreFault}
 use Rattle.settle.specs.declared.store.StoreFault.TheVariants.{Storage as StorageFault}
 use Rattle.settle.proofs.Risen.{risen-since}
 use Rattle.settle.proofs.Faults.{fault_is_none, storage_by}
 
-module _ {S : Type 0} {IsUsable HasHonestDevice : S → Type 0} {IsCrashState : S → Content → Type 0}
-    {content : S → Content} {failed : S → ℕ} {a b : S} where
+module _ {S : Type 0} {store : Ghosts S} {a b : S} where
   -- Weakens when the call answers and when it reports storage.
   pub reads_told : {A P Answers Says : Type 0}
-      → IsReadOnly IsUsable HasHonestDevice IsCrashState content failed a b A P → (Answers → A)
+      → IsReadOnly store a b A P → (Answers → A)
       → (Says → P)
-      → IsReadOnly IsUsable HasHonestDevice IsCrashState content failed a b Answers Says
+      → IsReadOnly store a b Answers Says
   reads_told read answers turn = record {
     same = read.same;
     honest = read.honest;
@@ -28,23 +28,22 @@ module _ {S : Type 0} {IsUsable HasHonestDevice : S → Type 0} {IsCrashState : 
     left = read.left;
   }
 
-  pub reads_saying : {A P Says : Type 0} → IsReadOnly IsUsable HasHonestDevice IsCrashState content
-      failed a b A P
-      → (Says → P) → IsReadOnly IsUsable HasHonestDevice IsCrashState content failed a b A Says
+  pub reads_saying : {A P Says : Type 0} → IsReadOnly store a b A P
+      → (Says → P) → IsReadOnly store a b A Says
   reads_saying read turn = reads_told read (λ answered. answered) turn
 
   -- A read-only call that answered, and a result that never reports storage.
   pub reads_refused : {A P Answers Says : Type 0}
-      → IsReadOnly IsUsable HasHonestDevice IsCrashState content failed a b A P → A → (Says → ⊥)
-      → IsReadOnly IsUsable HasHonestDevice IsCrashState content failed a b Answers Says
+      → IsReadOnly store a b A P → A → (Says → ⊥)
+      → IsReadOnly store a b Answers Says
   reads_refused read found never = reads_told read (λ answered. found) (λ says. absurd (never says))
 
   -- Two read-only calls, the first of them answered.
   pub reads_past : {d : S} {A P B Q Answers Says : Type 0} →
-      IsReadOnly IsUsable HasHonestDevice IsCrashState content failed a b A P → A →
-      IsReadOnly IsUsable HasHonestDevice IsCrashState content failed b d B Q → (Answers → B)
+      IsReadOnly store a b A P → A →
+      IsReadOnly store b d B Q → (Answers → B)
       → (Says → Q) →
-      IsReadOnly IsUsable HasHonestDevice IsCrashState content failed a d Answers Says
+      IsReadOnly store a d Answers Says
   reads_past {d = d} first found second answers turn = record {
     same = λ usable. let mid = second.same usable in let start = first.same mid.0 in
         (start.0, mid.1 ∙ start.1);
@@ -52,36 +51,37 @@ module _ {S : Type 0} {IsUsable HasHonestDevice : S → Type 0} {IsCrashState : 
     stays = λ answered usable honest.
         second.stays (answers answered) (first.stays found usable (second.honest honest)) honest;
     rises = le_trans first.rises second.rises;
-    storage = λ says. risen-since (failed a) (failed b) (failed d) first.rises second.rises
+    storage = λ says. risen-since (store.failed a) (store.failed b) (store.failed d) first.rises
+        second.rises
         (second.storage (turn says));
     left = λ honest m may. first.left (second.honest honest) m (second.left honest m may);
   }
 
   -- Two read-only calls, both answered.
   pub reads_on : {d : S} {A P B Q : Type 0}
-      → IsReadOnly IsUsable HasHonestDevice IsCrashState content failed a b A
-      P → A → IsReadOnly IsUsable HasHonestDevice IsCrashState content failed b d B Q → B →
-      IsReadOnly IsUsable HasHonestDevice IsCrashState content failed a d ⊤ ⊥
+      → IsReadOnly store a b A
+      P → A → IsReadOnly store b d B Q → B →
+      IsReadOnly store a d ⊤ ⊥
   reads_on first found second answered =
       reads_past first found second (λ it. answered) (λ never. absurd never)
 
   -- Two read-only calls, and then a fault of the store.
   pub reads_fault : {d : S} {A P B Q : Type 0} {X : Type 0} {c : Content} →
-      IsReadOnly IsUsable HasHonestDevice IsCrashState content failed a b A P → A →
-      IsReadOnly IsUsable HasHonestDevice IsCrashState content failed b d B Q →
+      IsReadOnly store a b A P → A →
+      IsReadOnly store b d B Q →
       (result : Result X Refusal) (fault : StoreFault) → result ≡ Err (refusal_of fault) →
       (fault ≡ StorageFault → Q) →
-      IsReadOnly IsUsable HasHonestDevice IsCrashState content failed a d (IsAvailable result)
-      (ReportsStorage (IsUsable d) c (result ≡ Err Storage))
+      IsReadOnly store a d (IsAvailable result)
+      (ReportsStorage (store.IsUsable d) c (result ≡ Err Storage))
   reads_fault first found second result fault is says = reads_past first found second
       (λ answered. absurd (fault_is_none result fault is answered))
       (λ told. says (storage_by result fault is told.says))
 
   -- Two read-only calls, the first of them answered, with what the second reports weakened.
   pub reads_then : {d : S} {A P B Q Says : Type 0}
-      → IsReadOnly IsUsable HasHonestDevice IsCrashState content failed
-      a b A P → A → IsReadOnly IsUsable HasHonestDevice IsCrashState content failed b d B Q
+      → IsReadOnly store
+      a b A P → A → IsReadOnly store b d B Q
       → (Says → Q) →
-      IsReadOnly IsUsable HasHonestDevice IsCrashState content failed a d B Says
+      IsReadOnly store a d B Says
   reads_then first found second turn =
       reads_past first found second (λ answered. answered) turn

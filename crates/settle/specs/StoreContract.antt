@@ -5,6 +5,7 @@ use Rattle.model.specs.State.{State}
 use Rattle.settle.specs.Reads.{HasDeviceFailed}
 use Rattle.model.specs.declared.refusal.Refusal.{Refusal}
 use Rattle.model.specs.declared.refusal.Refusal.TheVariants.{Storage as RefusedStorage, NoMemory as RefusedMemory}
+use Rattle.settle.specs.declared.store_model.StoreModel.{Ghosts}
 use Rattle.settle.specs.declared.store.StoreFault.{StoreFault}
 use Rattle.settle.specs.declared.store.StoreFault.TheVariants.{Storage, NoMemory}
 
@@ -31,58 +32,64 @@ MoreFaults old new = min (old + 1) (2 ^ 64 - 1) ≤ new
 
 -- Holds if the count of faults does not fall and, over an honest device, only a fault shuts a
 -- store. An allocation failure does not.
-abbrev pub ShutsOnlyOnFault : {S : Type 0} → (IsUsable HasHonestDevice : S → Type 0)
-    → (faults : S → ℕ)
-    → (old new : S) → Type 0
-ShutsOnlyOnFault IsUsable HasHonestDevice faults old new =
-    (faults old ≤ faults new) × (IsUsable old → HasHonestDevice new
-    → IsUsable new ⊎ MoreFaults (faults old) (faults new))
+abbrev pub ShutsOnlyOnFault : {S : Type 0} → Ghosts S → (old new : S) → Type 0
+ShutsOnlyOnFault store old new =
+    (store.faults old ≤ store.faults new) × (store.IsUsable old → store.HasHonestDevice new
+    → store.IsUsable new ⊎ MoreFaults (store.faults old) (store.faults new))
 
 -- Holds if the result is `Ok`, or a refusal that is not the store's fault.
 abbrev pub IsAvailable : {A : Type 0} → Result A Refusal → Type 0
 IsAvailable (Ok a) = ⊤
 IsAvailable (Err refusal) = (refusal ≢ RefusedStorage) × (refusal ≢ RefusedMemory)
 
--- Holds if a call keeps a store's promises: The store was usable, or honest, before the call if it
--- is after. An answer leaves a usable store usable if the store is honest after the call. The count
--- of failures does not fall. If `ReportsOnceSettled` holds, the count rose or was at its greatest
--- value.
-pub record PreservesStore {S : Type 0} (IsUsable HasHonestDevice : S → Type 0) (failed : S
-    → ℕ) (old new : S) (Answers ReportsOnceSettled : Type 0) : Type 0 where
-  pub usable : IsUsable new → IsUsable old
-  pub honest : HasHonestDevice new → HasHonestDevice old
-  pub stays : Answers → IsUsable old → HasHonestDevice new → IsUsable new
-  pub rises : failed old ≤ failed new
-  pub storage : ReportsOnceSettled → HasDeviceFailed (failed old) (failed new)
+-- Holds if a call keeps a store's promises. The store was usable, or honest, before the call if it
+-- is
+-- after. If `Answers` holds, a usable store stays usable over an honest device. The count of
+-- failures
+-- does not fall; if `Reports` holds, it rose or was at its greatest value.
+pub record PreservesStore {S : Type 0} (store : Ghosts S) (old new : S)
+    (Answers Reports : Type 0) : Type 0 where
+  pub usable : store.IsUsable new → store.IsUsable old
+  pub honest : store.HasHonestDevice new → store.HasHonestDevice old
+  pub stays : Answers → store.IsUsable old → store.HasHonestDevice new → store.IsUsable new
+  pub rises : store.failed old ≤ store.failed new
+  pub storage : Reports → HasDeviceFailed (store.failed old) (store.failed new)
 
 -- Holds if, over an honest device, a crash may leave only what it could leave before the call.
-abbrev pub AddsNoCrashState : {S : Type 0} → (HasHonestDevice : S → Type 0)
-    → (IsCrashState : S → Content → Type 0)
-    → (old new : S) → Type 0
-AddsNoCrashState HasHonestDevice IsCrashState old new = HasHonestDevice new → (m : Content)
-    → IsCrashState new m
-    → IsCrashState old m
+abbrev pub AddsNoCrashState : {S : Type 0} → Ghosts S → (old new : S) → Type 0
+AddsNoCrashState store old new = store.HasHonestDevice new → (m : Content)
+    → store.IsCrashState new m
+    → store.IsCrashState old m
 
--- Holds if the call keeps the content and adds no crash state.
-pub record IsReadOnly {S : Type 0} (IsUsable HasHonestDevice : S → Type 0) (IsCrashState : S
-    → Content
-    → Type 0) (content : S → Content) (failed : S
-    → ℕ) (old new : S) (Answers ReportsOnceSettled : Type 0) : Type 0 where
-  pub same : IsUsable new → IsUsable old × (content new ≡ content old)
-  pub honest : HasHonestDevice new → HasHonestDevice old
-  pub stays : Answers → IsUsable old → HasHonestDevice new → IsUsable new
-  pub rises : failed old ≤ failed new
-  pub storage : ReportsOnceSettled → HasDeviceFailed (failed old) (failed new)
-  pub left : AddsNoCrashState HasHonestDevice IsCrashState old new
+-- Holds if a call keeps a store's promises, keeps the content and adds no crash state.
+pub record IsReadOnly {S : Type 0} (store : Ghosts S) (old new : S)
+    (Answers Reports : Type 0) : Type 0 where
+  pub same : store.IsUsable new → store.IsUsable old × (store.content new ≡ store.content old)
+  pub honest : store.HasHonestDevice new → store.HasHonestDevice old
+  pub stays : Answers → store.IsUsable old → store.HasHonestDevice new → store.IsUsable new
+  pub rises : store.failed old ≤ store.failed new
+  pub storage : Reports → HasDeviceFailed (store.failed old) (store.failed new)
+  pub left : AddsNoCrashState store old new
+
+-- Holds if a look-up keeps its promises, besides its value.
+pub record LooksUp {S A : Type 0} (store : Ghosts S) (old new : S)
+    (result : Result A StoreFault) : Type 0 where
+  -- Nothing changes, and `Storage` comes only with a counted failure.
+  pub read_only : IsReadOnly store old new (IsAnswer result) (result ≡ Err Storage)
+  pub counts : CountsFailure result (store.failed old) (store.failed new)
+  -- Whatever else the implementation promises of each call.
+  pub step : store.IsStep old new (reports_storage result)
+  pub shuts : ShutsOnlyOnFault store old new
+  -- A shut store answers no look-up.
+  pub answers : IsAnswer result → store.HasHonestDevice new → store.IsUsable new
 
 -- Holds if, over an honest device, a crash may leave only what it could leave before the call, or a
 -- content with `Made`.
-abbrev pub AddsOnlyCrashStates : {S : Type 0} → (HasHonestDevice : S → Type 0)
-    → (IsCrashState : S → Content → Type 0)
-    → (old new : S) → (Made : Content → Type 0) → Type 0
-AddsOnlyCrashStates HasHonestDevice IsCrashState old new Made = HasHonestDevice new → (m : Content)
-    → IsCrashState new m
-    → IsCrashState old m ⊎ Made m
+abbrev pub AddsOnlyCrashStates : {S : Type 0} → Ghosts S → (old new : S)
+    → (Made : Content → Type 0) → Type 0
+AddsOnlyCrashStates store old new Made = store.HasHonestDevice new → (m : Content)
+    → store.IsCrashState new m
+    → store.IsCrashState old m ⊎ Made m
 
 -- Holds if a usable store reports `Storage`, and the content before the call represents a state and
 -- has a clock's row.

@@ -47,7 +47,7 @@ pub fn stage_transition<S: Store>(
         (sends_model step.now.sends) (subject_of step.now.version.subject)
         (model_with_windows (windows_of clock.now.present.windows) step.now.version)
         (keys (S.content store.old).carriers)) }
-    ensures read_only { IsReadOnly S.IsUsable S.HasHonestDevice S.IsCrashState S.content S.failed
+    ensures read_only { IsReadOnly S.StoreModel
         store.old store.new (IsAnswer result) (result ≡ Err StoreFault.Storage) }
 {
     let version = &step.version;

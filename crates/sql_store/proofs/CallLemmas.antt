@@ -1,5 +1,6 @@
 -- What calls leave of the connection, whatever their results.
 use Rattle.std.proofs.Common.{◌≡◌, ◌⊎◌, inl, inr, ℕ, List, [], Bool, true, false, Option, Some, None, refl, sym, ap, subst, ◌∙◌, IsTrue, true≢false, Result, Ok, Err, arith}
+use Rattle.std.specs.Prelude.{IfOk, IfErr}
 pub use Rattle.sql_store.specs.Store.{clean_if_open}
 use Rattle.model.specs.Content.{Content}
 use Rattle.sqlite.specs.Effect.{Database}
@@ -178,6 +179,21 @@ looked_ours old new answered ours looked up =
           ap (λ (d : Database). d.schema) (same.now ∙ settled old our ∙ sym same.committed);
       same_trees = ap (λ (d : Database). d.trees) (same.now ∙ settled old our ∙ sym same.committed);
     }
+
+-- Whether a query answers or fails, the tables are still the store's.
+pub queried_ours : {A : Type 0} (query : Query) (params : Row) (old new : State)
+    → (ours : IsTrue old.is_open → HasStoreTables old) → (result : Result A Error)
+    → (rows : A → List Row) → (IsTrue new.is_open → HasCleanDisk new)
+    → (HasCleanDisk new
+    → IfOk result (λ a. Shown (query_text query) params old new (rows a)))
+    → (HasCleanDisk new → IfErr result (FailsToQuery (query_text query) params old new))
+    → Survives old new (CommitsShowing (query_text query) params old)
+    → IsTrue new.is_open → HasStoreTables new
+queried_ours query params old new ours (Ok a) rows clean shown fails survives =
+    looked_ours old new true ours (looked_ok query params old new ours (rows a) clean shown
+    survives)
+queried_ours query params old new ours (Err e) rows clean shown fails survives =
+    looked_ours old new false ours (looked_err query params old new ours e clean fails survives)
 
 -- Two reads in order are a read.
 pub looked_then : (a b d : State) (answered : Bool) → HasQueried a b true → HasQueried b d answered

@@ -7,12 +7,13 @@ ghost use Rattle.settle.specs.Abstraction.{block_of};
 ghost use Rattle.sql_store.specs.Blocks.{AreNumbers, is_listed, number_by, number_in_use, number_of_tn, query_by};
 ghost use Rattle.sql_store.specs.Store.{HasStoreTables, HasQueried, content_at};
 
+use crate::database::Database;
 use crate::order::put_in_order;
 use crate::select::find_all;
 use numbers::{BlockId, Subject, Tn};
 use settle::{NumberedRow, VersionRow};
 use sql_rows::{Fault, Query, number};
-use sqlite::{Alter, Connection};
+use sqlite::Alter;
 use std::alloc::Global;
 use version::NumberInUse;
 
@@ -47,13 +48,13 @@ impl Role {
     }
 }
 
-fn numbers_of(alloc: Global, standing: Role, found: &[NumberedRow]) -> Result<Vec<Tn>, Fault>
+fn numbers_of(alloc: Global, role: Role, found: &[NumberedRow]) -> Result<Vec<Tn>, Fault>
     ensures { IfOk result (λ tns.
-        map number_of_tn tns.items ≡ filter_map (λ v. number_by standing v.row) found.now) }
+        map number_of_tn tns.items ≡ filter_map (λ v. number_by role v.row) found.now) }
 {
     let mut tns = Vec::new(alloc);
     for version in found {
-        if let Some(tn) = standing.number(&version.row) {
+        if let Some(tn) = role.number(&version.row) {
             tns.push(tn)?;
         }
     }
@@ -61,24 +62,16 @@ fn numbers_of(alloc: Global, standing: Role, found: &[NumberedRow]) -> Result<Ve
 }
 
 // Returns the numbers of the block that have a version in this role.
-fn numbers<S: Alter>(
-    conn: &mut Connection<S>,
-    standing: Role,
-    block: BlockId,
-) -> Result<Vec<Tn>, Fault>
-    requires ours { IsTrue (state S.Store conn.old).is_open
-        → HasStoreTables (state S.Store conn.old) }
-    requires idle { conn.old.in_transaction ≡ false }
-    ensures value { IsTrue (state S.Store conn.new).is_open
-        → IfOk result (λ tns. AreNumbers (content_at (state S.Store conn.old)) standing
+fn numbers<S: Alter>(db: &mut Database<S>, role: Role, block: BlockId) -> Result<Vec<Tn>, Fault>
+    ensures value { IsTrue (state S.Store db.new.conn).is_open
+        → IfOk result (λ tns. AreNumbers (content_at (state S.Store db.old.conn)) role
         (block_of block) tns.items) }
-    ensures queried { HasQueried (state S.Store conn.old) (state S.Store conn.new) (is_ok result) }
-    ensures idle { conn.new.in_transaction ≡ false }
+    ensures queried { HasQueried (state S.Store db.old.conn) (state S.Store db.new.conn) (is_ok result) }
 {
     let first = u64::from(block.number) * 1000;
     let params = [number(first), number(first + 999)];
-    let found: Vec<NumberedRow> = find_all(conn, standing.query(), &params)?;
-    let tns = numbers_of(*found.allocator(), standing, found.as_slice())?;
+    let found: Vec<NumberedRow> = find_all(db, role.query(), &params)?;
+    let tns = numbers_of(*found.allocator(), role, found.as_slice())?;
     Ok(tns)
 }
 
@@ -120,20 +113,16 @@ fn in_use(
 /// Returns the numbers of `block` that have a version in force or an open one, ascending, and which
 /// of the two each has. There are at most a thousand.
 pub(crate) fn in_block<S: Alter>(
-    conn: &mut Connection<S>,
+    db: &mut Database<S>,
     block: BlockId,
 ) -> Result<Vec<NumberInUse>, Fault>
-    requires ours { IsTrue (state S.Store conn.old).is_open
-        → HasStoreTables (state S.Store conn.old) }
-    requires idle { conn.old.in_transaction ≡ false }
-    ensures value { IsTrue (state S.Store conn.new).is_open
-        → IfOk result (λ numbers. AreInBlock (content_at (state S.Store conn.old))
+    ensures value { IsTrue (state S.Store db.new.conn).is_open
+        → IfOk result (λ numbers. AreInBlock (content_at (state S.Store db.old.conn))
         (block_of block) numbers.items) }
-    ensures queried { HasQueried (state S.Store conn.old) (state S.Store conn.new) (is_ok result) }
-    ensures idle { conn.new.in_transaction ≡ false }
+    ensures queried { HasQueried (state S.Store db.old.conn) (state S.Store db.new.conn) (is_ok result) }
 {
-    let in_force = numbers(conn, Role::InForce, block)?;
-    let opened = numbers(conn, Role::Open, block)?;
+    let in_force = numbers(db, Role::InForce, block)?;
+    let opened = numbers(db, Role::Open, block)?;
     let alloc = *in_force.allocator();
     let mut tns = both(alloc, in_force.as_slice(), opened.as_slice())?;
     put_in_order(&mut tns);

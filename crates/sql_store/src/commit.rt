@@ -7,6 +7,7 @@ ghost use Rattle.settle.specs.Changes.{changes_of, AppliesChanges};
 ghost use Rattle.sql_store.specs.Store.{CommitLeaves, HasStoreTables, AppliesInTransaction, HasCommitted};
 ghost use Rattle.sql_store.specs.Changes.{singles, lists, with_changes, all_made, if_some, with_carrier, with_lrn, with_code, with_block, clock_made, IsChangedOver, with_version, without_version, with_broadcast, without_broadcast, with_wait, without_wait};
 
+use crate::database::Database;
 use crate::lookups::clock;
 use crate::rows::{
     delete_broadcast, delete_version, delete_wait, put_block, put_broadcast, put_carrier,
@@ -280,16 +281,12 @@ fn commit_over<S: Alter>(
 
 /// Applies all changes in one transaction, or none. Reads the clock's row first: a shut connection
 /// fails there, and nothing is written to it.
-pub(crate) fn commit<S: Alter>(conn: &mut Connection<S>, changes: &Changes) -> Result<(), Fault>
-    requires ours { IsTrue (state S.Store conn.old).is_open
-        → HasStoreTables (state S.Store conn.old) }
-    requires idle { conn.old.in_transaction ≡ false }
-    ensures committed { HasCommitted (state S.Store conn.old) (state S.Store conn.new)
+pub(crate) fn commit<S: Alter>(db: &mut Database<S>, changes: &Changes) -> Result<(), Fault>
+    ensures committed { HasCommitted (state S.Store db.old.conn) (state S.Store db.new.conn)
         (is_ok result) (AppliesChanges (changes_of changes.now)) }
-    ensures left { CommitLeaves (state S.Store conn.old) (state S.Store conn.new)
+    ensures left { CommitLeaves (state S.Store db.old.conn) (state S.Store db.new.conn)
         (AppliesChanges (changes_of changes.now)) }
-    ensures idle { conn.new.in_transaction ≡ false }
 {
-    let row = clock(conn)?;
-    commit_over(conn, changes, row)
+    let row = clock(db)?;
+    commit_over(&mut db.conn, changes, row)
 }

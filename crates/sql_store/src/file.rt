@@ -57,16 +57,16 @@ impl<S: Start> SqlStore<FileStore<FileFrom<S>>> {
         start: S,
         windows: &Windows,
     ) -> Result<StoreAt<S>, (FileFault, UnopenedAt<S>)>
-        ensures open { IfOk result (λ s. HasCleanDisk (file_state s.conn) → IsTrue (file_state
-            s.conn).is_open) }
+        ensures open { IfOk result (λ s. HasCleanDisk (file_state s.db.conn) → IsTrue (file_state
+            s.db.conn).is_open) }
         // This holds of an empty file.
-        ensures new { IfOk result (λ s. HasCleanDisk (file_state s.conn)
+        ensures new { IfOk result (λ s. HasCleanDisk (file_state s.db.conn)
             → (image_at S.Start).db ≡ []
-            → content_in (file_state s.conn).now.trees ≡ empty_content) }
+            → content_in (file_state s.db.conn).now.trees ≡ empty_content) }
         // This holds of a file with a database, by the tables that it lists.
-        ensures taken { IfOk result (λ s. HasCleanDisk (file_state s.conn) → (db : Trees)
+        ensures taken { IfOk result (λ s. HasCleanDisk (file_state s.db.conn) → (db : Trees)
             → HoldsDatabase (image_at S.Start) db
-            → IsTakenAs (windows_of windows.now) db (file_state s.conn).now.trees) }
+            → IsTakenAs (windows_of windows.now) db (file_state s.db.conn).now.trees) }
         ensures none { IfOk result (λ s. s.failures ≡ 0) }
         // Nothing of the database is lost, and only a file with other windows is refused for them.
         ensures refused { IfErr result (λ e. (db : Trees) → HoldsDatabase (image_at S.Start) db
@@ -93,10 +93,10 @@ impl<D: Disk + Drop> SqlStore<FileStore<D>> {
     pub fn close_files(self) -> Result<Files<D>, (StoreFault, FileStore<D>)>
         // The file by itself holds the last commit, now and after a crash.
         ensures copied { IfOk result (λ files. AreClean D.Disk files.log files.db
-            → IsCopied self.conn files) }
+            → IsCopied self.db.conn files) }
         ensures usable { IfOk result (λ files. IsTrue (D.Disk.is_usable files.log)
             × IsTrue (D.Disk.is_usable files.db)) }
-        ensures err { IfErr result (λ e. IsClosed self.conn e.1) }
+        ensures err { IfErr result (λ e. IsClosed self.db.conn e.1) }
     {
         match self.release().close_files() {
             Ok(files) => Ok(files),

@@ -4,6 +4,7 @@
 mod blocks;
 mod change;
 mod commit;
+mod database;
 mod file;
 mod file_fault;
 mod lists;

@@ -11,6 +11,7 @@ ghost use Rattle.settle.specs.Reads.{AreWaitingSubjects, AreCarriers, AreOpenBro
 ghost use Rattle.sql_store.specs.Lists.{download_of, is_waiting, pair_of};
 ghost use Rattle.sql_store.specs.Store.{HasStoreTables, HasQueried, content_at};
 
+use crate::database::Database;
 use crate::order::put_in_order;
 use crate::select::find_all;
 use delivery::{Broadcast, DownloadKey};
@@ -19,21 +20,17 @@ use settle::{BroadcastKey, Few, WaitKey};
 use sql_rows::{
     Fault, KeyedBroadcast, KeyedWait, Query, Table, broadcast_key, spid_bytes, subject, text, truth,
 };
-use sqlite::{Alter, Connection};
+use sqlite::Alter;
 use std::alloc::Global;
 
 /// Returns all registered carriers, ascending.
-pub(crate) fn carriers<S: Alter>(conn: &mut Connection<S>) -> Result<Vec<Spid>, Fault>
-    requires ours { IsTrue (state S.Store conn.old).is_open
-        → HasStoreTables (state S.Store conn.old) }
-    requires idle { conn.old.in_transaction ≡ false }
-    ensures value { IsTrue (state S.Store conn.new).is_open
-        → IfOk result (λ carriers. AreCarriers (content_at (state S.Store conn.old))
+pub(crate) fn carriers<S: Alter>(db: &mut Database<S>) -> Result<Vec<Spid>, Fault>
+    ensures value { IsTrue (state S.Store db.new.conn).is_open
+        → IfOk result (λ carriers. AreCarriers (content_at (state S.Store db.old.conn))
         carriers.items) }
-    ensures queried { HasQueried (state S.Store conn.old) (state S.Store conn.new) (is_ok result) }
-    ensures idle { conn.new.in_transaction ≡ false }
+    ensures queried { HasQueried (state S.Store db.old.conn) (state S.Store db.new.conn) (is_ok result) }
 {
-    let mut carriers: Vec<Spid> = find_all(conn, Query::All(Table::Carrier), &[])?;
+    let mut carriers: Vec<Spid> = find_all(db, Query::All(Table::Carrier), &[])?;
     put_in_order(&mut carriers);
     Ok(carriers)
 }
@@ -64,41 +61,33 @@ fn subjects_of(alloc: Global, waits: &[KeyedWait]) -> Result<Vec<Subject>, Fault
 
 /// Returns the downloads of `of` that are pending for `spid`, earliest first.
 pub(crate) fn waits_about<S: Alter>(
-    conn: &mut Connection<S>,
+    db: &mut Database<S>,
     spid: Spid,
     of: Subject,
 ) -> Result<Few<DownloadKey>, Fault>
-    requires ours { IsTrue (state S.Store conn.old).is_open
-        → HasStoreTables (state S.Store conn.old) }
-    requires idle { conn.old.in_transaction ≡ false }
-    ensures value { IsTrue (state S.Store conn.new).is_open
-        → IfOk result (λ downloads. AreWaitsAbout (content_at (state S.Store conn.old))
+    ensures value { IsTrue (state S.Store db.new.conn).is_open
+        → IfOk result (λ downloads. AreWaitsAbout (content_at (state S.Store db.old.conn))
         (spid_of spid) (subject_of of) (items_of downloads)) }
-    ensures queried { HasQueried (state S.Store conn.old) (state S.Store conn.new) (is_ok result) }
-    ensures idle { conn.new.in_transaction ≡ false }
+    ensures queried { HasQueried (state S.Store db.old.conn) (state S.Store db.new.conn) (is_ok result) }
 {
     let bytes = spid_bytes(spid.number);
     let params = [subject(of), text(&bytes)];
-    let waits: Vec<KeyedWait> = find_all(conn, Query::WaitsAbout, &params)?;
+    let waits: Vec<KeyedWait> = find_all(db, Query::WaitsAbout, &params)?;
     let mut downloads = downloads_of(*waits.allocator(), waits.as_slice())?;
     put_in_order(&mut downloads);
     Ok(Few::Many(downloads))
 }
 
 /// Returns the subjects with downloads pending for `spid`, ascending, without duplicates.
-pub(crate) fn waits<S: Alter>(conn: &mut Connection<S>, spid: Spid) -> Result<Vec<Subject>, Fault>
-    requires ours { IsTrue (state S.Store conn.old).is_open
-        → HasStoreTables (state S.Store conn.old) }
-    requires idle { conn.old.in_transaction ≡ false }
-    ensures value { IsTrue (state S.Store conn.new).is_open
-        → IfOk result (λ subjects. AreWaitingSubjects (content_at (state S.Store conn.old))
+pub(crate) fn waits<S: Alter>(db: &mut Database<S>, spid: Spid) -> Result<Vec<Subject>, Fault>
+    ensures value { IsTrue (state S.Store db.new.conn).is_open
+        → IfOk result (λ subjects. AreWaitingSubjects (content_at (state S.Store db.old.conn))
         (spid_of spid)
         subjects.items) }
-    ensures queried { HasQueried (state S.Store conn.old) (state S.Store conn.new) (is_ok result) }
-    ensures idle { conn.new.in_transaction ≡ false }
+    ensures queried { HasQueried (state S.Store db.old.conn) (state S.Store db.new.conn) (is_ok result) }
 {
     let bytes = spid_bytes(spid.number);
-    let waits: Vec<KeyedWait> = find_all(conn, Query::WaitsFor, &[text(&bytes)])?;
+    let waits: Vec<KeyedWait> = find_all(db, Query::WaitsFor, &[text(&bytes)])?;
     let mut subjects = subjects_of(*waits.allocator(), waits.as_slice())?;
     put_in_order(&mut subjects);
     Ok(subjects)
@@ -131,25 +120,21 @@ fn waiting_among(
 /// Returns the registered carriers for which the broadcast `key`, sent at `minute`, is pending,
 /// ascending.
 pub(crate) fn waiters<S: Alter>(
-    conn: &mut Connection<S>,
+    db: &mut Database<S>,
     minute: Minute,
     key: BroadcastKey,
 ) -> Result<Vec<Spid>, Fault>
-    requires ours { IsTrue (state S.Store conn.old).is_open
-        → HasStoreTables (state S.Store conn.old) }
-    requires idle { conn.old.in_transaction ≡ false }
-    ensures value { IsTrue (state S.Store conn.new).is_open
-        → IfOk result (λ carriers. AreWaiters (content_at (state S.Store conn.old)) minute.number
+    ensures value { IsTrue (state S.Store db.new.conn).is_open
+        → IfOk result (λ carriers. AreWaiters (content_at (state S.Store db.old.conn)) minute.number
         key.id key.attempt carriers.items) }
-    ensures queried { HasQueried (state S.Store conn.old) (state S.Store conn.new) (is_ok result) }
-    ensures idle { conn.new.in_transaction ≡ false }
+    ensures queried { HasQueried (state S.Store db.old.conn) (state S.Store db.new.conn) (is_ok result) }
 {
-    let carriers = carriers(conn)?;
+    let carriers = carriers(db)?;
     let alloc = *carriers.allocator();
     if key.id >= 9_223_372_036_854_775_808 || key.attempt >= 9_223_372_036_854_775_808 {
         return Ok(Vec::new(alloc));
     }
-    let waits: Vec<KeyedWait> = find_all(conn, Query::WaitsOf, &broadcast_key(key))?;
+    let waits: Vec<KeyedWait> = find_all(db, Query::WaitsOf, &broadcast_key(key))?;
     let waiters = waiting_among(alloc, carriers.as_slice(), waits.as_slice(), minute)?;
     Ok(waiters)
 }
@@ -162,21 +147,17 @@ fn are_all(carriers: &[Spid], carrier: Spid) -> bool
 
 /// Returns whether `wait` is the last pending download of its broadcast: no other registered
 /// carrier has one.
-pub(crate) fn is_last_wait<S: Alter>(conn: &mut Connection<S>, wait: WaitKey) -> Result<bool, Fault>
-    requires ours { IsTrue (state S.Store conn.old).is_open
-        → HasStoreTables (state S.Store conn.old) }
-    requires idle { conn.old.in_transaction ≡ false }
-    ensures value { IsTrue (state S.Store conn.new).is_open
-        → IfOk result (λ last. last ≡ is_last_wait (content_at (state S.Store conn.old))
+pub(crate) fn is_last_wait<S: Alter>(db: &mut Database<S>, wait: WaitKey) -> Result<bool, Fault>
+    ensures value { IsTrue (state S.Store db.new.conn).is_open
+        → IfOk result (λ last. last ≡ is_last_wait (content_at (state S.Store db.old.conn))
         (wait_key_of wait)) }
-    ensures queried { HasQueried (state S.Store conn.old) (state S.Store conn.new) (is_ok result) }
-    ensures idle { conn.new.in_transaction ≡ false }
+    ensures queried { HasQueried (state S.Store db.old.conn) (state S.Store db.new.conn) (is_ok result) }
 {
     let key = BroadcastKey {
         id: wait.id,
         attempt: wait.attempt,
     };
-    let waiters = waiters(conn, wait.minute, key)?;
+    let waiters = waiters(db, wait.minute, key)?;
     Ok(are_all(waiters.as_slice(), wait.carrier))
 }
 
@@ -215,18 +196,14 @@ fn put_in_order_by_key(broadcasts: &mut Vec<(BroadcastKey, Broadcast)>)
 
 /// Returns all open broadcasts, ordered by key.
 pub(crate) fn open_broadcasts<S: Alter>(
-    conn: &mut Connection<S>,
+    db: &mut Database<S>,
 ) -> Result<Vec<(BroadcastKey, Broadcast)>, Fault>
-    requires ours { IsTrue (state S.Store conn.old).is_open
-        → HasStoreTables (state S.Store conn.old) }
-    requires idle { conn.old.in_transaction ≡ false }
-    ensures value { IsTrue (state S.Store conn.new).is_open
-        → IfOk result (λ broadcasts. AreOpenBroadcasts (content_at (state S.Store conn.old))
+    ensures value { IsTrue (state S.Store db.new.conn).is_open
+        → IfOk result (λ broadcasts. AreOpenBroadcasts (content_at (state S.Store db.old.conn))
         broadcasts.items) }
-    ensures queried { HasQueried (state S.Store conn.old) (state S.Store conn.new) (is_ok result) }
-    ensures idle { conn.new.in_transaction ≡ false }
+    ensures queried { HasQueried (state S.Store db.old.conn) (state S.Store db.new.conn) (is_ok result) }
 {
-    let found: Vec<KeyedBroadcast> = find_all(conn, Query::BroadcastsByOpen, &[truth(true)])?;
+    let found: Vec<KeyedBroadcast> = find_all(db, Query::BroadcastsByOpen, &[truth(true)])?;
     let mut broadcasts = pairs_of(*found.allocator(), found.as_slice())?;
     put_in_order_by_key(&mut broadcasts);
     if !rise(broadcasts.as_slice()) {

@@ -15,6 +15,7 @@ ghost use Rattle.settle.specs.Abstraction.{spid_of, lrn_of, code_of, block_of, b
 ghost use Rattle.settle.specs.Reads.{IsInForce, IsOpen, IsLeastDue};
 ghost use Rattle.sql_store.specs.Store.{HasStoreTables, HasQueried, content_at};
 
+use crate::database::Database;
 use crate::select::find;
 use delivery::Broadcast;
 use model::{Send, Status};
@@ -24,39 +25,31 @@ use sql_rows::{
     Fault, KeyedBlock, KeyedBroadcast, KeyedClock, KeyedCode, KeyedLrn, KeyedRouting, KeyedSet,
     Query, StoredClock, minute, number, spid_bytes, subject, text,
 };
+use sqlite::Alter;
 use sqlite::types::ValueRef;
-use sqlite::{Alter, Connection};
 use version::Version;
 use windows::{WindowSet, Windows};
 
 /// Returns whether `spid` is a registered carrier.
-pub(crate) fn carrier<S: Alter>(conn: &mut Connection<S>, spid: Spid) -> Result<bool, Fault>
-    requires ours { IsTrue (state S.Store conn.old).is_open
-        → HasStoreTables (state S.Store conn.old) }
-    requires idle { conn.old.in_transaction ≡ false }
-    ensures value { IsTrue (state S.Store conn.new).is_open
+pub(crate) fn carrier<S: Alter>(db: &mut Database<S>, spid: Spid) -> Result<bool, Fault>
+    ensures value { IsTrue (state S.Store db.new.conn).is_open
         → IfOk result (λ found. found ≡ is_some (get (content_at (state S.Store
-        conn.old)).carriers (spid_of spid))) }
-    ensures queried { HasQueried (state S.Store conn.old) (state S.Store conn.new) (is_ok result) }
-    ensures idle { conn.new.in_transaction ≡ false }
+        db.old.conn)).carriers (spid_of spid))) }
+    ensures queried { HasQueried (state S.Store db.old.conn) (state S.Store db.new.conn) (is_ok result) }
 {
     let bytes = spid_bytes(spid.number);
-    let found: Option<Spid> = find(conn, Query::CarrierNamed, &[text(&bytes)])?;
+    let found: Option<Spid> = find(db, Query::CarrierNamed, &[text(&bytes)])?;
     Ok(found.is_some())
 }
 
 /// Returns the carrier that registered `lrn`, if one did.
-pub(crate) fn lrn<S: Alter>(conn: &mut Connection<S>, lrn: Lrn) -> Result<Option<Spid>, Fault>
-    requires ours { IsTrue (state S.Store conn.old).is_open
-        → HasStoreTables (state S.Store conn.old) }
-    requires idle { conn.old.in_transaction ≡ false }
-    ensures value { IsTrue (state S.Store conn.new).is_open
-        → IfOk result (λ o. option_map spid_of o ≡ get (content_at (state S.Store conn.old)).lrns
+pub(crate) fn lrn<S: Alter>(db: &mut Database<S>, lrn: Lrn) -> Result<Option<Spid>, Fault>
+    ensures value { IsTrue (state S.Store db.new.conn).is_open
+        → IfOk result (λ o. option_map spid_of o ≡ get (content_at (state S.Store db.old.conn)).lrns
         (lrn_of lrn)) }
-    ensures queried { HasQueried (state S.Store conn.old) (state S.Store conn.new) (is_ok result) }
-    ensures idle { conn.new.in_transaction ≡ false }
+    ensures queried { HasQueried (state S.Store db.old.conn) (state S.Store db.new.conn) (is_ok result) }
 {
-    let found: Option<KeyedLrn> = find(conn, Query::LrnNumbered, &[number(lrn.number)])?;
+    let found: Option<KeyedLrn> = find(db, Query::LrnNumbered, &[number(lrn.number)])?;
     match found {
         Some(found) => Ok(Some(found.owner)),
         None => Ok(None),
@@ -64,18 +57,14 @@ pub(crate) fn lrn<S: Alter>(conn: &mut Connection<S>, lrn: Lrn) -> Result<Option
 }
 
 /// Returns the carrier for which `code` was opened, if it was.
-pub(crate) fn code<S: Alter>(conn: &mut Connection<S>, code: CodeId) -> Result<Option<Spid>, Fault>
-    requires ours { IsTrue (state S.Store conn.old).is_open
-        → HasStoreTables (state S.Store conn.old) }
-    requires idle { conn.old.in_transaction ≡ false }
-    ensures value { IsTrue (state S.Store conn.new).is_open
-        → IfOk result (λ o. option_map spid_of o ≡ get (content_at (state S.Store conn.old)).codes
+pub(crate) fn code<S: Alter>(db: &mut Database<S>, code: CodeId) -> Result<Option<Spid>, Fault>
+    ensures value { IsTrue (state S.Store db.new.conn).is_open
+        → IfOk result (λ o. option_map spid_of o ≡ get (content_at (state S.Store db.old.conn)).codes
         (code_of code)) }
-    ensures queried { HasQueried (state S.Store conn.old) (state S.Store conn.new) (is_ok result) }
-    ensures idle { conn.new.in_transaction ≡ false }
+    ensures queried { HasQueried (state S.Store db.old.conn) (state S.Store db.new.conn) (is_ok result) }
 {
     let found: Option<KeyedCode> = find(
-        conn,
+        db,
         Query::CodeNumbered,
         &[number(u64::from(code.number))],
     )?;
@@ -87,20 +76,16 @@ pub(crate) fn code<S: Alter>(conn: &mut Connection<S>, code: CodeId) -> Result<O
 
 /// Returns the row of `block`, if the block has been donated.
 pub(crate) fn block<S: Alter>(
-    conn: &mut Connection<S>,
+    db: &mut Database<S>,
     block: BlockId,
 ) -> Result<Option<BlockRow>, Fault>
-    requires ours { IsTrue (state S.Store conn.old).is_open
-        → HasStoreTables (state S.Store conn.old) }
-    requires idle { conn.old.in_transaction ≡ false }
-    ensures value { IsTrue (state S.Store conn.new).is_open
+    ensures value { IsTrue (state S.Store db.new.conn).is_open
         → IfOk result (λ o. option_map block_row_of o ≡ get (content_at (state S.Store
-        conn.old)).blocks (block_of block)) }
-    ensures queried { HasQueried (state S.Store conn.old) (state S.Store conn.new) (is_ok result) }
-    ensures idle { conn.new.in_transaction ≡ false }
+        db.old.conn)).blocks (block_of block)) }
+    ensures queried { HasQueried (state S.Store db.old.conn) (state S.Store db.new.conn) (is_ok result) }
 {
     let found: Option<KeyedBlock> = find(
-        conn,
+        db,
         Query::BlockNumbered,
         &[number(u64::from(block.number))],
     )?;
@@ -111,21 +96,14 @@ pub(crate) fn block<S: Alter>(
 }
 
 /// Returns the windows of set `of`, if there is one.
-pub(crate) fn window_set<S: Alter>(
-    conn: &mut Connection<S>,
-    of: u16,
-) -> Result<Option<Windows>, Fault>
-    requires ours { IsTrue (state S.Store conn.old).is_open
-        → HasStoreTables (state S.Store conn.old) }
-    requires idle { conn.old.in_transaction ≡ false }
-    ensures value { IsTrue (state S.Store conn.new).is_open
+pub(crate) fn window_set<S: Alter>(db: &mut Database<S>, of: u16) -> Result<Option<Windows>, Fault>
+    ensures value { IsTrue (state S.Store db.new.conn).is_open
         → IfOk result (λ o. option_map windows_of o ≡ get (content_at (state S.Store
-        conn.old)).sets of) }
-    ensures queried { HasQueried (state S.Store conn.old) (state S.Store conn.new) (is_ok result) }
-    ensures idle { conn.new.in_transaction ≡ false }
+        db.old.conn)).sets of) }
+    ensures queried { HasQueried (state S.Store db.old.conn) (state S.Store db.new.conn) (is_ok result) }
 {
     let params = [number(u64::from(of))];
-    let found: Option<KeyedSet> = find(conn, Query::WindowSetNumbered, &params)?;
+    let found: Option<KeyedSet> = find(db, Query::WindowSetNumbered, &params)?;
     match found {
         Some(found) => Ok(Some(found.set.windows)),
         None => Ok(None),
@@ -133,17 +111,13 @@ pub(crate) fn window_set<S: Alter>(
 }
 
 // Returns the clock's row as stored.
-fn stored_clock<S: Alter>(conn: &mut Connection<S>) -> Result<Option<StoredClock>, Fault>
-    requires ours { IsTrue (state S.Store conn.old).is_open
-        → HasStoreTables (state S.Store conn.old) }
-    requires idle { conn.old.in_transaction ≡ false }
-    ensures value { IsTrue (state S.Store conn.new).is_open
+fn stored_clock<S: Alter>(db: &mut Database<S>) -> Result<Option<StoredClock>, Fault>
+    ensures value { IsTrue (state S.Store db.new.conn).is_open
         → IfOk result (λ o. option_map clock_of o
-        ≡ get (clocks_in ((state S.Store conn.old).now.trees 21)) 0) }
-    ensures queried { HasQueried (state S.Store conn.old) (state S.Store conn.new) (is_ok result) }
-    ensures idle { conn.new.in_transaction ≡ false }
+        ≡ get (clocks_in ((state S.Store db.old.conn).now.trees 21)) 0) }
+    ensures queried { HasQueried (state S.Store db.old.conn) (state S.Store db.new.conn) (is_ok result) }
 {
-    let found: Option<KeyedClock> = find(conn, Query::ClockNumbered, &[number(0)])?;
+    let found: Option<KeyedClock> = find(db, Query::ClockNumbered, &[number(0)])?;
     match found {
         Some(found) => Ok(Some(found.row)),
         None => Ok(None),
@@ -151,21 +125,17 @@ fn stored_clock<S: Alter>(conn: &mut Connection<S>) -> Result<Option<StoredClock
 }
 
 /// Returns the clock's row, if it has been written, with the windows of the set that it names.
-pub(crate) fn clock<S: Alter>(conn: &mut Connection<S>) -> Result<Option<ClockRow>, Fault>
-    requires ours { IsTrue (state S.Store conn.old).is_open
-        → HasStoreTables (state S.Store conn.old) }
-    requires idle { conn.old.in_transaction ≡ false }
-    ensures value { IsTrue (state S.Store conn.new).is_open
+pub(crate) fn clock<S: Alter>(db: &mut Database<S>) -> Result<Option<ClockRow>, Fault>
+    ensures value { IsTrue (state S.Store db.new.conn).is_open
         → IfOk result (λ o. option_map clock_row_of o ≡ (content_at (state S.Store
-        conn.old)).clock) }
-    ensures queried { HasQueried (state S.Store conn.old) (state S.Store conn.new) (is_ok result) }
-    ensures idle { conn.new.in_transaction ≡ false }
+        db.old.conn)).clock) }
+    ensures queried { HasQueried (state S.Store db.old.conn) (state S.Store db.new.conn) (is_ok result) }
 {
-    let stored = stored_clock(conn)?;
+    let stored = stored_clock(db)?;
     let Some(row) = stored else {
         return Ok(None);
     };
-    let found = window_set(conn, row.present)?;
+    let found = window_set(db, row.present)?;
     match found {
         Some(windows) => Ok(Some(ClockRow {
             minute: row.minute,
@@ -180,22 +150,18 @@ pub(crate) fn clock<S: Alter>(conn: &mut Connection<S>) -> Result<Option<ClockRo
 }
 
 // Returns the routing that the version with this id sends, if it sends one.
-fn next_routing<S: Alter>(conn: &mut Connection<S>, id: u64) -> Result<Option<Routing>, Fault>
-    requires ours { IsTrue (state S.Store conn.old).is_open
-        → HasStoreTables (state S.Store conn.old) }
-    requires idle { conn.old.in_transaction ≡ false }
-    ensures value { IsTrue (state S.Store conn.new).is_open
+fn next_routing<S: Alter>(db: &mut Database<S>, id: u64) -> Result<Option<Routing>, Fault>
+    ensures value { IsTrue (state S.Store db.new.conn).is_open
         → IfOk result (λ o. option_map routing_of o
-        ≡ get (nexts_in ((state S.Store conn.old).now.trees 16)) id) }
-    ensures queried { HasQueried (state S.Store conn.old) (state S.Store conn.new) (is_ok result) }
-    ensures idle { conn.new.in_transaction ≡ false }
+        ≡ get (nexts_in ((state S.Store db.old.conn).now.trees 16)) id) }
+    ensures queried { HasQueried (state S.Store db.old.conn) (state S.Store db.new.conn) (is_ok result) }
 {
     if id >= 9_223_372_036_854_775_808 {
         // No row has such an id, but only a look-up detects a shut connection.
-        clock(conn)?;
+        clock(db)?;
         return Ok(None);
     }
-    let found: Option<KeyedRouting> = find(conn, Query::NextRoutingNumbered, &[number(id)])?;
+    let found: Option<KeyedRouting> = find(db, Query::NextRoutingNumbered, &[number(id)])?;
     match found {
         Some(found) => Ok(Some(found.routing)),
         None => Ok(None),
@@ -223,21 +189,17 @@ fn modified_to(row: &VersionRow, routing: Routing) -> VersionRow
 }
 
 // Returns the row with the routing that its version sends, which is in a table of its own.
-fn whole<S: Alter>(conn: &mut Connection<S>, found: NumberedRow) -> Result<NumberedRow, Fault>
-    requires ours { IsTrue (state S.Store conn.old).is_open
-        → HasStoreTables (state S.Store conn.old) }
-    requires idle { conn.old.in_transaction ≡ false }
-    requires open { HasCleanDisk (state S.Store conn.old)
-        → IsTrue (state S.Store conn.old).is_open }
-    ensures value { IsTrue (state S.Store conn.new).is_open
-        → IfOk result (IsRoutedAs (state S.Store conn.old).now.trees found) }
-    ensures queried { HasQueried (state S.Store conn.old) (state S.Store conn.new) (is_ok result) }
-    ensures idle { conn.new.in_transaction ≡ false }
+fn whole<S: Alter>(db: &mut Database<S>, found: NumberedRow) -> Result<NumberedRow, Fault>
+    requires open { HasCleanDisk (state S.Store db.old.conn)
+        → IsTrue (state S.Store db.old.conn).is_open }
+    ensures value { IsTrue (state S.Store db.new.conn).is_open
+        → IfOk result (IsRoutedAs (state S.Store db.old.conn).now.trees found) }
+    ensures queried { HasQueried (state S.Store db.old.conn) (state S.Store db.new.conn) (is_ok result) }
 {
     if !is_modified(found.row.version.status) {
         return Ok(found);
     }
-    let next = next_routing(conn, found.id)?;
+    let next = next_routing(db, found.id)?;
     match next {
         Some(routing) => Ok(NumberedRow {
             id: found.id,
@@ -249,23 +211,19 @@ fn whole<S: Alter>(conn: &mut Connection<S>, found: NumberedRow) -> Result<Numbe
 
 // Returns the only version that answers a query, if there is one, with the routing that it sends.
 fn find_whole<S: Alter>(
-    conn: &mut Connection<S>,
+    db: &mut Database<S>,
     query: Query,
     params: &[ValueRef<'_>],
 ) -> Result<Option<NumberedRow>, Fault>
-    requires ours { IsTrue (state S.Store conn.old).is_open
-        → HasStoreTables (state S.Store conn.old) }
-    requires idle { conn.old.in_transaction ≡ false }
-    ensures value { IsTrue (state S.Store conn.new).is_open
-        → IfOk result (IsVersionFound query (state S.Store conn.old).now.trees
+    ensures value { IsTrue (state S.Store db.new.conn).is_open
+        → IfOk result (IsVersionFound query (state S.Store db.old.conn).now.trees
         (bound params.now)) }
-    ensures queried { HasQueried (state S.Store conn.old) (state S.Store conn.new) (is_ok result) }
-    ensures idle { conn.new.in_transaction ≡ false }
+    ensures queried { HasQueried (state S.Store db.old.conn) (state S.Store db.new.conn) (is_ok result) }
 {
-    let found: Option<NumberedRow> = find(conn, query, params)?;
+    let found: Option<NumberedRow> = find(db, query, params)?;
     match found {
         Some(bare) => {
-            let row = whole(conn, bare)?;
+            let row = whole(db, bare)?;
             Ok(Some(row))
         }
         None => Ok(None),
@@ -273,24 +231,17 @@ fn find_whole<S: Alter>(
 }
 
 /// Returns the version with this id, if there is one.
-pub(crate) fn version<S: Alter>(
-    conn: &mut Connection<S>,
-    id: u64,
-) -> Result<Option<VersionRow>, Fault>
-    requires ours { IsTrue (state S.Store conn.old).is_open
-        → HasStoreTables (state S.Store conn.old) }
-    requires idle { conn.old.in_transaction ≡ false }
-    ensures value { IsTrue (state S.Store conn.new).is_open
-        → IfOk result (λ o. o ≡ get (content_at (state S.Store conn.old)).versions id) }
-    ensures queried { HasQueried (state S.Store conn.old) (state S.Store conn.new) (is_ok result) }
-    ensures idle { conn.new.in_transaction ≡ false }
+pub(crate) fn version<S: Alter>(db: &mut Database<S>, id: u64) -> Result<Option<VersionRow>, Fault>
+    ensures value { IsTrue (state S.Store db.new.conn).is_open
+        → IfOk result (λ o. o ≡ get (content_at (state S.Store db.old.conn)).versions id) }
+    ensures queried { HasQueried (state S.Store db.old.conn) (state S.Store db.new.conn) (is_ok result) }
 {
     if id >= 9_223_372_036_854_775_808 {
         // No row has such an id, but only a look-up detects a shut connection.
-        clock(conn)?;
+        clock(db)?;
         return Ok(None);
     }
-    let found = find_whole(conn, Query::VersionNumbered, &[number(id)])?;
+    let found = find_whole(db, Query::VersionNumbered, &[number(id)])?;
     match found {
         Some(found) => Ok(Some(found.row)),
         None => Ok(None),
@@ -299,76 +250,60 @@ pub(crate) fn version<S: Alter>(
 
 /// Returns the version of `of` that is in force, if there is one.
 pub(crate) fn version_in_force<S: Alter>(
-    conn: &mut Connection<S>,
+    db: &mut Database<S>,
     of: Subject,
 ) -> Result<Option<NumberedRow>, Fault>
-    requires ours { IsTrue (state S.Store conn.old).is_open
-        → HasStoreTables (state S.Store conn.old) }
-    requires idle { conn.old.in_transaction ≡ false }
-    ensures value { IsTrue (state S.Store conn.new).is_open
-        → IfOk result (IsInForce (content_at (state S.Store conn.old)) (subject_of of)) }
-    ensures queried { HasQueried (state S.Store conn.old) (state S.Store conn.new) (is_ok result) }
-    ensures idle { conn.new.in_transaction ≡ false }
+    ensures value { IsTrue (state S.Store db.new.conn).is_open
+        → IfOk result (IsInForce (content_at (state S.Store db.old.conn)) (subject_of of)) }
+    ensures queried { HasQueried (state S.Store db.old.conn) (state S.Store db.new.conn) (is_ok result) }
 {
-    let found = find_whole(conn, Query::VersionInForce, &[subject(of)])?;
+    let found = find_whole(db, Query::VersionInForce, &[subject(of)])?;
     Ok(found)
 }
 
 /// Returns the open version of `of`, if there is one.
 pub(crate) fn open_version<S: Alter>(
-    conn: &mut Connection<S>,
+    db: &mut Database<S>,
     of: Subject,
 ) -> Result<Option<NumberedRow>, Fault>
-    requires ours { IsTrue (state S.Store conn.old).is_open
-        → HasStoreTables (state S.Store conn.old) }
-    requires idle { conn.old.in_transaction ≡ false }
-    ensures value { IsTrue (state S.Store conn.new).is_open
-        → IfOk result (IsOpen (content_at (state S.Store conn.old)) (subject_of of)) }
-    ensures queried { HasQueried (state S.Store conn.old) (state S.Store conn.new) (is_ok result) }
-    ensures idle { conn.new.in_transaction ≡ false }
+    ensures value { IsTrue (state S.Store db.new.conn).is_open
+        → IfOk result (IsOpen (content_at (state S.Store db.old.conn)) (subject_of of)) }
+    ensures queried { HasQueried (state S.Store db.old.conn) (state S.Store db.new.conn) (is_ok result) }
 {
-    let found = find_whole(conn, Query::VersionOpen, &[subject(of)])?;
+    let found = find_whole(db, Query::VersionOpen, &[subject(of)])?;
     Ok(found)
 }
 
 /// Returns the version with the earliest deadline, if that minute is not after `now`.
 pub(crate) fn least_due<S: Alter>(
-    conn: &mut Connection<S>,
+    db: &mut Database<S>,
     now: Minute,
 ) -> Result<Option<NumberedRow>, Fault>
-    requires ours { IsTrue (state S.Store conn.old).is_open
-        → HasStoreTables (state S.Store conn.old) }
-    requires idle { conn.old.in_transaction ≡ false }
-    ensures value { IsTrue (state S.Store conn.new).is_open
-        → IfOk result (IsLeastDue (content_at (state S.Store conn.old)) now.number) }
-    ensures queried { HasQueried (state S.Store conn.old) (state S.Store conn.new) (is_ok result) }
-    ensures idle { conn.new.in_transaction ≡ false }
+    ensures value { IsTrue (state S.Store db.new.conn).is_open
+        → IfOk result (IsLeastDue (content_at (state S.Store db.old.conn)) now.number) }
+    ensures queried { HasQueried (state S.Store db.old.conn) (state S.Store db.new.conn) (is_ok result) }
 {
-    let found = find_whole(conn, Query::VersionDue, &[minute(now)])?;
+    let found = find_whole(db, Query::VersionDue, &[minute(now)])?;
     Ok(found)
 }
 
 /// Returns the broadcast `key`, if it is open or still pending for some carrier.
 pub(crate) fn broadcast<S: Alter>(
-    conn: &mut Connection<S>,
+    db: &mut Database<S>,
     key: BroadcastKey,
 ) -> Result<Option<Broadcast>, Fault>
-    requires ours { IsTrue (state S.Store conn.old).is_open
-        → HasStoreTables (state S.Store conn.old) }
-    requires idle { conn.old.in_transaction ≡ false }
-    ensures value { IsTrue (state S.Store conn.new).is_open
+    ensures value { IsTrue (state S.Store db.new.conn).is_open
         → IfOk result (λ o. option_map broadcast_row_of o ≡ get (content_at (state S.Store
-        conn.old)).broadcasts (broadcast_key_of key)) }
-    ensures queried { HasQueried (state S.Store conn.old) (state S.Store conn.new) (is_ok result) }
-    ensures idle { conn.new.in_transaction ≡ false }
+        db.old.conn)).broadcasts (broadcast_key_of key)) }
+    ensures queried { HasQueried (state S.Store db.old.conn) (state S.Store db.new.conn) (is_ok result) }
 {
     if key.id >= 9_223_372_036_854_775_808 || key.attempt >= 9_223_372_036_854_775_808 {
         // No row has such a key, but only a look-up detects a shut connection.
-        clock(conn)?;
+        clock(db)?;
         return Ok(None);
     }
     let params = [number(key.id), number(key.attempt)];
-    let found: Option<KeyedBroadcast> = find(conn, Query::BroadcastKeyed, &params)?;
+    let found: Option<KeyedBroadcast> = find(db, Query::BroadcastKeyed, &params)?;
     match found {
         Some(found) => Ok(Some(found.broadcast)),
         None => Ok(None),

@@ -78,13 +78,16 @@ fn make_all_tables<S: Alter>(tx: &mut Transaction<'_, S>) -> Result<(), Fault>
 }
 
 // Creates the tables that an earlier schema lacks.
-fn create_tables<S: Alter>(tx: &mut Transaction<'_, S>, form: SchemaVersion) -> Result<(), Fault>
+fn create_tables<S: Alter>(
+    tx: &mut Transaction<'_, S>,
+    schema_version: SchemaVersion,
+) -> Result<(), Fault>
     ensures same_reference { tx.new.conn.ghost_name ≡ tx.old.conn.ghost_name }
-    ensures alters { MigratesInTransaction (IsBegun (schema_of form))
+    ensures alters { MigratesInTransaction (IsBegun (schema_of schema_version))
         (state S.Store tx.old.conn.now)
-        (state S.Store tx.new.conn.now) (is_ok result) (AreTablesCreated form) }
+        (state S.Store tx.new.conn.now) (is_ok result) (AreTablesCreated schema_version) }
 {
-    match form {
+    match schema_version {
         SchemaVersion::First => make_all_tables(tx),
         SchemaVersion::Modify => make_set_tables(tx),
     }
@@ -225,15 +228,16 @@ fn copy_rows<S: Alter>(
 
 fn migrate_tables<S: Alter>(
     tx: &mut Transaction<'_, S>,
-    form: SchemaVersion,
+    schema_version: SchemaVersion,
     ids: &[u64],
     clock: Option<OldClock>,
 ) -> Result<(), Fault>
     ensures same_reference { tx.new.conn.ghost_name ≡ tx.old.conn.ghost_name }
-    ensures alters { MigratesInTransaction (IsBegunAs form) (state S.Store tx.old.conn.now)
-        (state S.Store tx.new.conn.now) (is_ok result) (IsMigrated form ids.now clock) }
+    ensures alters { MigratesInTransaction (IsBegunAs schema_version) (state S.Store
+        tx.old.conn.now)
+        (state S.Store tx.new.conn.now) (is_ok result) (IsMigrated schema_version ids.now clock) }
 {
-    create_tables(tx, form)?;
+    create_tables(tx, schema_version)?;
     copy_rows(tx, ids, clock)?;
     Ok(())
 }
@@ -242,19 +246,19 @@ fn migrate_tables<S: Alter>(
 // these ids and the clock's row, and empties the tables of the earlier schema.
 fn move_rows<S: Alter>(
     conn: &mut Connection<S>,
-    form: SchemaVersion,
+    schema_version: SchemaVersion,
     ids: &[u64],
     clock: Option<OldClock>,
 ) -> Result<(), Fault>
     requires old { IsTrue (state S.Store conn.old).is_open
-        → HasSchemaVersion form (state S.Store conn.old) }
+        → HasSchemaVersion schema_version (state S.Store conn.old) }
     requires idle { conn.old.in_transaction ≡ false }
-    ensures moves { HasMigrated (AreTreesMigrated form ids.now clock) (state S.Store conn.old)
-        (state S.Store conn.new) (is_ok result) }
+    ensures moves { HasMigrated (AreTreesMigrated schema_version ids.now clock)
+        (state S.Store conn.old) (state S.Store conn.new) (is_ok result) }
     ensures idle { conn.new.in_transaction ≡ false }
 {
     let mut tx = conn.transaction();
-    migrate_tables(&mut tx, form, ids, clock)?;
+    migrate_tables(&mut tx, schema_version, ids, clock)?;
     tx.commit()?;
     Ok(())
 }
@@ -262,12 +266,12 @@ fn move_rows<S: Alter>(
 // Returns the rows of a table in a file with this schema.
 fn select_old<S: Alter>(
     conn: &mut Connection<S>,
-    form: SchemaVersion,
+    schema_version: SchemaVersion,
     table: Table,
 ) -> Result<Vec<Row>, Fault>
-    requires has { IsTableOf table form }
+    requires has { IsTableOf table schema_version }
     requires old { IsTrue (state S.Store conn.old).is_open
-        → HasSchemaVersion form (state S.Store conn.old) }
+        → HasSchemaVersion schema_version (state S.Store conn.old) }
     requires idle { conn.old.in_transaction ≡ false }
     ensures value { IsTrue (state S.Store conn.new).is_open
         → IfOk result (λ rows. IsAnswer (query_of (Query.All table))
@@ -282,12 +286,12 @@ fn select_old<S: Alter>(
 // Like `select_old`, and reads each row. A row that cannot be read is a fault of the device.
 fn read_old<T: FromRow + Drop, S: Alter>(
     conn: &mut Connection<S>,
-    form: SchemaVersion,
+    schema_version: SchemaVersion,
     table: Table,
 ) -> Result<Vec<T>, Fault>
-    requires has { IsTableOf table form }
+    requires has { IsTableOf table schema_version }
     requires old { IsTrue (state S.Store conn.old).is_open
-        → HasSchemaVersion form (state S.Store conn.old) }
+        → HasSchemaVersion schema_version (state S.Store conn.old) }
     requires idle { conn.old.in_transaction ≡ false }
     ensures value { IsTrue (state S.Store conn.new).is_open
         → IfOk result (λ items. IsListAnswer (Query.All table) T.seen_in
@@ -295,7 +299,7 @@ fn read_old<T: FromRow + Drop, S: Alter>(
     ensures queried { HasQueried (state S.Store conn.old) (state S.Store conn.new) (is_ok result) }
     ensures idle { conn.new.in_transaction ≡ false }
 {
-    let rows = select_old(conn, form, table)?;
+    let rows = select_old(conn, schema_version, table)?;
     let items = all(*rows.allocator(), rows.as_slice())?;
     Ok(items)
 }
@@ -331,10 +335,10 @@ fn ids_among<S: Alter>(alloc: Global, rows: &mut Rows<'_, S>) -> Result<Vec<u64>
 fn ids_of<S: Alter>(
     alloc: Global,
     conn: &mut Connection<S>,
-    form: SchemaVersion,
+    schema_version: SchemaVersion,
 ) -> Result<Vec<u64>, Fault>
     requires old { IsTrue (state S.Store conn.old).is_open
-        → HasSchemaVersion form (state S.Store conn.old) }
+        → HasSchemaVersion schema_version (state S.Store conn.old) }
     requires idle { conn.old.in_transaction ≡ false }
     ensures value { IsTrue (state S.Store conn.new).is_open → IfOk result (λ ids.
         HasIds ids.items (state S.Store conn.old).now.trees) }
@@ -350,12 +354,12 @@ fn ids_of<S: Alter>(
 // Reads a table that is not migrated.
 fn see<T: FromRow + Drop, S: Alter>(
     conn: &mut Connection<S>,
-    form: SchemaVersion,
+    schema_version: SchemaVersion,
     table: Table,
 ) -> Result<(), Fault>
-    requires has { IsTableOf table form }
+    requires has { IsTableOf table schema_version }
     requires old { IsTrue (state S.Store conn.old).is_open
-        → HasSchemaVersion form (state S.Store conn.old) }
+        → HasSchemaVersion schema_version (state S.Store conn.old) }
     requires idle { conn.old.in_transaction ≡ false }
     ensures value { IsTrue (state S.Store conn.new).is_open
         → OnOk result (IsRead table T.seen_in (state S.Store conn.old).now.trees false) }
@@ -368,37 +372,40 @@ fn see<T: FromRow + Drop, S: Alter>(
 
 // Reads carriers, routing numbers, codes and blocks.
 #[tactic(auto, using(crate::proofs::MigrationLemmas::old_still))]
-fn see_registry<S: Alter>(conn: &mut Connection<S>, form: SchemaVersion) -> Result<(), Fault>
+fn see_registry<S: Alter>(
+    conn: &mut Connection<S>,
+    schema_version: SchemaVersion,
+) -> Result<(), Fault>
     requires old { IsTrue (state S.Store conn.old).is_open
-        → HasSchemaVersion form (state S.Store conn.old) }
+        → HasSchemaVersion schema_version (state S.Store conn.old) }
     requires idle { conn.old.in_transaction ≡ false }
     ensures value { IsTrue (state S.Store conn.new).is_open
         → OnOk result (AreRegistryRead (state S.Store conn.old).now.trees) }
     ensures queried { HasQueried (state S.Store conn.old) (state S.Store conn.new) (is_ok result) }
     ensures idle { conn.new.in_transaction ≡ false }
 {
-    see::<Spid, S>(conn, form, Table::Carrier)?;
-    see::<KeyedLrn, S>(conn, form, Table::Lrn)?;
-    see::<KeyedCode, S>(conn, form, Table::Code)?;
-    see::<KeyedBlock, S>(conn, form, Table::Block)?;
+    see::<Spid, S>(conn, schema_version, Table::Carrier)?;
+    see::<KeyedLrn, S>(conn, schema_version, Table::Lrn)?;
+    see::<KeyedCode, S>(conn, schema_version, Table::Code)?;
+    see::<KeyedBlock, S>(conn, schema_version, Table::Block)?;
     Ok(())
 }
 
 // Reads what is sent: the broadcasts, the pending downloads, and the routings that versions send,
 // if the schema has a table of those.
 #[tactic(auto, using(crate::proofs::MigrationLemmas::old_still))]
-fn see_sent<S: Alter>(conn: &mut Connection<S>, form: SchemaVersion) -> Result<(), Fault>
+fn see_sent<S: Alter>(conn: &mut Connection<S>, schema_version: SchemaVersion) -> Result<(), Fault>
     requires old { IsTrue (state S.Store conn.old).is_open
-        → HasSchemaVersion form (state S.Store conn.old) }
+        → HasSchemaVersion schema_version (state S.Store conn.old) }
     requires idle { conn.old.in_transaction ≡ false }
     ensures value { IsTrue (state S.Store conn.new).is_open
-        → OnOk result (IsSentRead form (state S.Store conn.old).now.trees) }
+        → OnOk result (IsSentRead schema_version (state S.Store conn.old).now.trees) }
     ensures queried { HasQueried (state S.Store conn.old) (state S.Store conn.new) (is_ok result) }
     ensures idle { conn.new.in_transaction ≡ false }
 {
-    see::<KeyedBroadcast, S>(conn, form, Table::Broadcast)?;
-    see::<KeyedWait, S>(conn, form, Table::Wait)?;
-    let SchemaVersion::Modify = form else {
+    see::<KeyedBroadcast, S>(conn, schema_version, Table::Broadcast)?;
+    see::<KeyedWait, S>(conn, schema_version, Table::Wait)?;
+    let SchemaVersion::Modify = schema_version else {
         return Ok(());
     };
     see::<KeyedRouting, S>(conn, SchemaVersion::Modify, Table::NextRouting)?;
@@ -407,17 +414,20 @@ fn see_sent<S: Alter>(conn: &mut Connection<S>, form: SchemaVersion) -> Result<(
 
 // Reads the tables that are not migrated. A row that cannot be read is a fault of the device.
 #[tactic(auto, using(crate::proofs::MigrationLemmas::old_still))]
-fn see_staying<S: Alter>(conn: &mut Connection<S>, form: SchemaVersion) -> Result<(), Fault>
+fn see_staying<S: Alter>(
+    conn: &mut Connection<S>,
+    schema_version: SchemaVersion,
+) -> Result<(), Fault>
     requires old { IsTrue (state S.Store conn.old).is_open
-        → HasSchemaVersion form (state S.Store conn.old) }
+        → HasSchemaVersion schema_version (state S.Store conn.old) }
     requires idle { conn.old.in_transaction ≡ false }
     ensures value { IsTrue (state S.Store conn.new).is_open
-        → OnOk result (AreStayingRead form (state S.Store conn.old).now.trees) }
+        → OnOk result (AreStayingRead schema_version (state S.Store conn.old).now.trees) }
     ensures queried { HasQueried (state S.Store conn.old) (state S.Store conn.new) (is_ok result) }
     ensures idle { conn.new.in_transaction ≡ false }
 {
-    see_registry(conn, form)?;
-    see_sent(conn, form)?;
+    see_registry(conn, schema_version)?;
+    see_sent(conn, schema_version)?;
     Ok(())
 }
 
@@ -426,11 +436,11 @@ fn see_staying<S: Alter>(conn: &mut Connection<S>, form: SchemaVersion) -> Resul
 // Returns whether these windows are the file's, if it has a clock.
 fn has_windows<S: Alter>(
     conn: &mut Connection<S>,
-    form: SchemaVersion,
+    schema_version: SchemaVersion,
     windows: &Windows,
 ) -> Result<bool, Fault>
     requires old { IsTrue (state S.Store conn.old).is_open
-        → HasSchemaVersion form (state S.Store conn.old) }
+        → HasSchemaVersion schema_version (state S.Store conn.old) }
     requires idle { conn.old.in_transaction ≡ false }
     ensures own { IsTrue (state S.Store conn.new).is_open → IfOk result (λ are_own. IsTrue are_own
         → WereItsWindows (windows_of windows.now) (state S.Store conn.old).now.trees) }
@@ -440,7 +450,7 @@ fn has_windows<S: Alter>(
     ensures queried { HasQueried (state S.Store conn.old) (state S.Store conn.new) (is_ok result) }
     ensures idle { conn.new.in_transaction ≡ false }
 {
-    let clocks: Vec<OldClock> = read_old(conn, form, Table::OldClock)?;
+    let clocks: Vec<OldClock> = read_old(conn, schema_version, Table::OldClock)?;
     match clocks.as_slice() {
         [] => Ok(true),
         [clock] => Ok(clock.windows == *windows),
@@ -453,20 +463,20 @@ fn has_windows<S: Alter>(
 fn carry_over<S: Alter>(
     alloc: Global,
     conn: &mut Connection<S>,
-    form: SchemaVersion,
+    schema_version: SchemaVersion,
 ) -> Result<(), Fault>
     requires old { IsTrue (state S.Store conn.old).is_open
-        → HasSchemaVersion form (state S.Store conn.old) }
+        → HasSchemaVersion schema_version (state S.Store conn.old) }
     requires idle { conn.old.in_transaction ≡ false }
-    ensures moves { HasMigrated (IsCarried form) (state S.Store conn.old)
+    ensures moves { HasMigrated (IsCarried schema_version) (state S.Store conn.old)
         (state S.Store conn.new) (is_ok result) }
     ensures idle { conn.new.in_transaction ≡ false }
 {
-    let ids = ids_of(alloc, conn, form)?;
-    let clocks: Vec<OldClock> = read_old(conn, form, Table::OldClock)?;
+    let ids = ids_of(alloc, conn, schema_version)?;
+    let clocks: Vec<OldClock> = read_old(conn, schema_version, Table::OldClock)?;
     match clocks.as_slice() {
-        [] => move_rows(conn, form, ids.as_slice(), None),
-        [clock] => move_rows(conn, form, ids.as_slice(), Some(*clock)),
+        [] => move_rows(conn, schema_version, ids.as_slice(), None),
+        [clock] => move_rows(conn, schema_version, ids.as_slice(), Some(*clock)),
         _ => Err(Fault::Device),
     }
 }
@@ -479,23 +489,22 @@ fn carry_over<S: Alter>(
 pub(crate) fn migrate<S: Alter>(
     alloc: Global,
     conn: &mut Connection<S>,
-    form: SchemaVersion,
+    schema_version: SchemaVersion,
     windows: &Windows,
 ) -> Result<(), FileFault>
     requires old { IsTrue (state S.Store conn.old).is_open
-        → HasSchemaVersion form (state S.Store conn.old) }
+        → HasSchemaVersion schema_version (state S.Store conn.old) }
     requires idle { conn.old.in_transaction ≡ false }
-    ensures moves { HasMigrated (IsMovedFrom form (windows_of windows.now)) (state S.Store conn.old)
-        (state S.Store conn.new) (is_ok result) }
-    ensures differ { result ≡ Err FileFault.WindowsDiffer
-        → IsTrue (state S.Store conn.new).is_open
+    ensures moves { HasMigrated (IsMovedFrom schema_version (windows_of windows.now))
+        (state S.Store conn.old) (state S.Store conn.new) (is_ok result) }
+    ensures differ { result ≡ Err FileFault.WindowsDiffer → IsTrue (state S.Store conn.new).is_open
         → WereOtherWindows (windows_of windows.now) (state S.Store conn.old).now.trees }
     ensures idle { conn.new.in_transaction ≡ false }
 {
-    see_staying(conn, form)?;
-    if !has_windows(conn, form, windows)? {
+    see_staying(conn, schema_version)?;
+    if !has_windows(conn, schema_version, windows)? {
         return Err(FileFault::WindowsDiffer);
     }
-    carry_over(alloc, conn, form)?;
+    carry_over(alloc, conn, schema_version)?;
     Ok(())
 }

@@ -18,6 +18,7 @@ ghost use Rattle.version.specs.Abstraction.{windows_of};
 ghost use Rattle.sql_store.specs.Whole.{IsWhole, ReadsAll};
 
 use crate::SqlStore;
+use crate::database::Database;
 use crate::file_fault::FileFault;
 use crate::migration::migrate;
 use crate::refused::Refused;
@@ -121,17 +122,25 @@ impl<S: Alter + Drop> SqlStore<S> {
         }
     }
 
+    fn of(db: Database<S>) -> SqlStore<S>
+        ensures db { result.db ≡ db }
+        ensures none { result.failures ≡ 0 }
+    {
+        SqlStore { db, failures: 0 }
+    }
+
     // Takes a newly opened connection, if its tables are the schema's.
     fn with_tables(conn: Connection<S>) -> Result<SqlStore<S>, Connection<S>>
         requires opened { HasCleanDisk (state S.Store conn) → WasOpened (state S.Store conn) }
         requires fresh { IsNew conn }
-        ensures same { IfOk result (λ s. s.conn ≡ conn) }
+        ensures same { IfOk result (λ s. s.db.conn ≡ conn) }
         ensures ours { IfOk result (λ s. (state S.Store conn).now.schema ≡ the_schema) }
         ensures none { IfOk result (λ s. s.failures ≡ 0) }
         ensures err { IfErr result (λ e. e ≡ conn) }
     {
         if is_ours(conn.schema()) {
-            Ok(SqlStore { conn, failures: 0 })
+            let db = Database { conn };
+            Ok(SqlStore::of(db))
         } else {
             Err(conn)
         }
@@ -140,23 +149,23 @@ impl<S: Alter + Drop> SqlStore<S> {
     // Reads every row once. Returns whether the database has no row. Refuses a row that cannot be
     // read, and returns the database with that fault.
     fn read(mut self) -> Result<(SqlStore<S>, bool), (StoreFault, S)>
-        ensures open { IfOk result (λ e. HasCleanDisk (state S.Store e.0.conn) → IsTrue (state
-            S.Store self.conn).is_open → IsTrue (state S.Store e.0.conn).is_open) }
-        ensures now { IfOk result (λ e. IsTrue (state S.Store e.0.conn).is_open → (state S.Store
-            e.0.conn).now.trees ≡ (state S.Store self.conn).now.trees) }
-        ensures reads { IfOk result (λ e. IsTrue (state S.Store e.0.conn).is_open → ReadsAll (state
-            S.Store e.0.conn).now.trees e.1) }
+        ensures open { IfOk result (λ e. HasCleanDisk (state S.Store e.0.db.conn) → IsTrue (state
+            S.Store self.db.conn).is_open → IsTrue (state S.Store e.0.db.conn).is_open) }
+        ensures now { IfOk result (λ e. IsTrue (state S.Store e.0.db.conn).is_open → (state S.Store
+            e.0.db.conn).now.trees ≡ (state S.Store self.db.conn).now.trees) }
+        ensures reads { IfOk result (λ e. IsTrue (state S.Store e.0.db.conn).is_open → ReadsAll (state
+            S.Store e.0.db.conn).now.trees e.1) }
         ensures none { IfOk result (λ e. e.0.failures ≡ self.failures) }
-        ensures clean { IfOk result (λ e. doubt (state S.Store self.conn).is_clean ≤ doubt (state
-            S.Store e.0.conn).is_clean) }
-        ensures err_clean { IfErr result (λ e. doubt (state S.Store self.conn).is_clean ≤ doubt
+        ensures clean { IfOk result (λ e. doubt (state S.Store self.db.conn).is_clean ≤ doubt (state
+            S.Store e.0.db.conn).is_clean) }
+        ensures err_clean { IfErr result (λ e. doubt (state S.Store self.db.conn).is_clean ≤ doubt
             (S.Store.view e.1).is_clean) }
         ensures err { IfErr result (λ e. IsClean (S.Store.view e.1) → IsTrue (S.Store.view
-            e.1).is_open → (S.Store.view e.1).trees ≡ (state S.Store self.conn).now.trees) }
+            e.1).is_open → (S.Store.view e.1).trees ≡ (state S.Store self.db.conn).now.trees) }
         ensures crash { IfErr result (λ e. IsClean (S.Store.view e.1) → (db : Trees)
-            → S.Store.recovers e.1 db → (state S.Store self.conn).may_leave db) }
+            → S.Store.recovers e.1 db → (state S.Store self.db.conn).may_leave db) }
     {
-        match read_all(&mut self.conn) {
+        match read_all(&mut self.db) {
             Ok(blank) => Ok((self, blank)),
             Err(fault) => Err((StoreFault::from(fault), self.release().into_store())),
         }
@@ -164,14 +173,14 @@ impl<S: Alter + Drop> SqlStore<S> {
 
     // Creates the tables in one transaction, and takes the connection as an empty store.
     fn create(alloc: Global, mut conn: Connection<S>) -> Result<SqlStore<S>, (StoreFault, S)>
-        ensures open { IfOk result (λ s. HasCleanDisk (state S.Store s.conn) → IsTrue (state
-            S.Store s.conn).is_open) }
-        ensures content { IfOk result (λ s. HasCleanDisk (state S.Store s.conn) → content_in
-            (state S.Store s.conn).now.trees ≡ empty_content) }
-        ensures whole { IfOk result (λ s. HasCleanDisk (state S.Store s.conn)
-            → IsWhole (state S.Store s.conn).now.trees) }
+        ensures open { IfOk result (λ s. HasCleanDisk (state S.Store s.db.conn) → IsTrue (state
+            S.Store s.db.conn).is_open) }
+        ensures content { IfOk result (λ s. HasCleanDisk (state S.Store s.db.conn) → content_in
+            (state S.Store s.db.conn).now.trees ≡ empty_content) }
+        ensures whole { IfOk result (λ s. HasCleanDisk (state S.Store s.db.conn)
+            → IsWhole (state S.Store s.db.conn).now.trees) }
         ensures none { IfOk result (λ s. s.failures ≡ 0) }
-        ensures honest { IfOk result (λ s. HasCleanDisk (state S.Store s.conn)
+        ensures honest { IfOk result (λ s. HasCleanDisk (state S.Store s.db.conn)
             → HasCleanDisk (state S.Store conn)) }
         ensures err_honest { IfErr result (λ e. IsClean (S.Store.view e.1)
             → HasCleanDisk (state S.Store conn)) }
@@ -194,19 +203,19 @@ impl<S: Alter + Drop> SqlStore<S> {
     fn moved(
         alloc: Global,
         mut conn: Connection<S>,
-        form: SchemaVersion,
+        schema_version: SchemaVersion,
         windows: &Windows,
     ) -> Result<SqlStore<S>, (FileFault, S)>
         requires opened { HasCleanDisk (state S.Store conn) → WasOpened (state S.Store conn) }
         requires fresh { IsNew conn }
-        requires form { (state S.Store conn).now.schema ≡ schema_of form }
-        ensures open { IfOk result (λ s. HasCleanDisk (state S.Store s.conn) → IsTrue (state
-            S.Store s.conn).is_open) }
-        ensures moved { IfOk result (λ s. IsTrue (state S.Store s.conn).is_open
-            → IsMovedFrom form (windows_of windows.now) (state S.Store conn).now.trees
-            (state S.Store s.conn).now.trees) }
+        requires form { (state S.Store conn).now.schema ≡ schema_of schema_version }
+        ensures open { IfOk result (λ s. HasCleanDisk (state S.Store s.db.conn) → IsTrue (state
+            S.Store s.db.conn).is_open) }
+        ensures moved { IfOk result (λ s. IsTrue (state S.Store s.db.conn).is_open
+            → IsMovedFrom schema_version (windows_of windows.now) (state S.Store conn).now.trees
+            (state S.Store s.db.conn).now.trees) }
         ensures none { IfOk result (λ s. s.failures ≡ 0) }
-        ensures honest { IfOk result (λ s. HasCleanDisk (state S.Store s.conn)
+        ensures honest { IfOk result (λ s. HasCleanDisk (state S.Store s.db.conn)
             → HasCleanDisk (state S.Store conn)) }
         ensures err_honest { IfErr result (λ e. IsClean (S.Store.view e.1)
             → HasCleanDisk (state S.Store conn)) }
@@ -214,13 +223,16 @@ impl<S: Alter + Drop> SqlStore<S> {
             e.1).is_open → (S.Store.view e.1).trees ≡ (state S.Store conn).now.trees) }
         ensures crash { IfErr result (λ e. IsClean (S.Store.view e.1) → (db : Trees)
             → S.Store.recovers e.1 db → (state S.Store conn).may_leave db
-            ⊎ IsMovedFrom form (windows_of windows.now) (state S.Store conn).now.trees db) }
+            ⊎ IsMovedFrom schema_version (windows_of windows.now) (state S.Store conn).now.trees db) }
         ensures differ { IfErr result (λ e. e.0 ≡ FileFault.WindowsDiffer
             → IsClean (S.Store.view e.1) → IsTrue (S.Store.view e.1).is_open
             → WereOtherWindows (windows_of windows.now) (state S.Store conn).now.trees) }
     {
-        match migrate(alloc, &mut conn, form, windows) {
-            Ok(()) => Ok(SqlStore { conn, failures: 0 }),
+        match migrate(alloc, &mut conn, schema_version, windows) {
+            Ok(()) => {
+                let db = Database { conn };
+                Ok(SqlStore::of(db))
+            }
             Err(fault) => Err((fault, conn.into_store())),
         }
     }
@@ -229,15 +241,15 @@ impl<S: Alter + Drop> SqlStore<S> {
     fn found(conn: Connection<S>) -> Result<SqlStore<S>, (StoreFault, Refused<S>)>
         requires opened { HasCleanDisk (state S.Store conn) → WasOpened (state S.Store conn) }
         requires fresh { IsNew conn }
-        ensures open { IfOk result (λ s. HasCleanDisk (state S.Store s.conn) → IsTrue (state
-            S.Store s.conn).is_open) }
+        ensures open { IfOk result (λ s. HasCleanDisk (state S.Store s.db.conn) → IsTrue (state
+            S.Store s.db.conn).is_open) }
         ensures ours { IfOk result (λ s. (state S.Store conn).now.schema ≡ the_schema) }
-        ensures now { IfOk result (λ s. HasCleanDisk (state S.Store s.conn)
-            → (state S.Store s.conn).now.trees ≡ (state S.Store conn).now.trees) }
-        ensures whole { IfOk result (λ s. HasCleanDisk (state S.Store s.conn)
-            → IsWhole (state S.Store s.conn).now.trees) }
+        ensures now { IfOk result (λ s. HasCleanDisk (state S.Store s.db.conn)
+            → (state S.Store s.db.conn).now.trees ≡ (state S.Store conn).now.trees) }
+        ensures whole { IfOk result (λ s. HasCleanDisk (state S.Store s.db.conn)
+            → IsWhole (state S.Store s.db.conn).now.trees) }
         ensures none { IfOk result (λ s. s.failures ≡ 0) }
-        ensures honest { IfOk result (λ s. HasCleanDisk (state S.Store s.conn)
+        ensures honest { IfOk result (λ s. HasCleanDisk (state S.Store s.db.conn)
             → HasCleanDisk (state S.Store conn)) }
         ensures err_honest { IfErr result (λ e. IsCleanYet S.Store e.1
             → HasCleanDisk (state S.Store conn)) }
@@ -263,13 +275,13 @@ impl<S: Alter + Drop> SqlStore<S> {
     ) -> Result<SqlStore<S>, (FileFault, Refused<S>)>
         requires opened { HasCleanDisk (state S.Store conn) → WasOpened (state S.Store conn) }
         requires fresh { IsNew conn }
-        ensures open { IfOk result (λ s. HasCleanDisk (state S.Store s.conn) → IsTrue (state
-            S.Store s.conn).is_open) }
-        ensures taken { IfOk result (λ s. HasCleanDisk (state S.Store s.conn)
+        ensures open { IfOk result (λ s. HasCleanDisk (state S.Store s.db.conn) → IsTrue (state
+            S.Store s.db.conn).is_open) }
+        ensures taken { IfOk result (λ s. HasCleanDisk (state S.Store s.db.conn)
             → IsTakenAs (windows_of windows.now) (state S.Store conn).now.trees
-            (state S.Store s.conn).now.trees) }
+            (state S.Store s.db.conn).now.trees) }
         ensures none { IfOk result (λ s. s.failures ≡ 0) }
-        ensures honest { IfOk result (λ s. HasCleanDisk (state S.Store s.conn)
+        ensures honest { IfOk result (λ s. HasCleanDisk (state S.Store s.db.conn)
             → HasCleanDisk (state S.Store conn)) }
         ensures err_honest { IfErr result (λ e. IsCleanYet S.Store e.1
             → HasCleanDisk (state S.Store conn)) }
@@ -277,8 +289,8 @@ impl<S: Alter + Drop> SqlStore<S> {
             → IsRefusedAs S.Store (windows_of windows.now) (state S.Store conn).now.trees
             e.0 e.1) }
     {
-        if let Some(form) = schema_version_of(conn.schema()) {
-            return match SqlStore::moved(alloc, conn, form, windows) {
+        if let Some(schema_version) = schema_version_of(conn.schema()) {
+            return match SqlStore::moved(alloc, conn, schema_version, windows) {
                 Ok(it) => Ok(it),
                 Err((fault, store)) => Err((fault, Refused::Store(store))),
             };
@@ -312,15 +324,15 @@ impl<S: Alter + Drop> SqlStore<S> {
         conn: Connection<S>,
         windows: &Windows,
     ) -> Result<SqlStore<S>, (FileFault, Refused<S>)>
-        ensures open { IfOk result (λ s. HasCleanDisk (state S.Store s.conn) → IsTrue (state
-            S.Store s.conn).is_open) }
+        ensures open { IfOk result (λ s. HasCleanDisk (state S.Store s.db.conn) → IsTrue (state
+            S.Store s.db.conn).is_open) }
         // This holds by the tables of the last commit, because what is not committed is rolled
         // back.
-        ensures taken { IfOk result (λ s. HasCleanDisk (state S.Store s.conn)
+        ensures taken { IfOk result (λ s. HasCleanDisk (state S.Store s.db.conn)
             → IsTakenAs (windows_of windows.now) (state S.Store conn).committed.trees
-            (state S.Store s.conn).now.trees) }
+            (state S.Store s.db.conn).now.trees) }
         ensures none { IfOk result (λ s. s.failures ≡ 0) }
-        ensures honest { IfOk result (λ s. HasCleanDisk (state S.Store s.conn)
+        ensures honest { IfOk result (λ s. HasCleanDisk (state S.Store s.db.conn)
             → HasCleanDisk (state S.Store conn)) }
         ensures err_honest { IfErr result (λ e. IsCleanYet S.Store e.1
             → HasCleanDisk (state S.Store conn)) }
@@ -349,9 +361,12 @@ impl<S: Alter + Drop> SqlStore<S> {
 
     /// Returns the connection, for other uses of the database.
     pub fn release(self) -> Connection<S>
-        ensures { result ≡ self.conn }
+        ensures { result ≡ self.db.conn }
     {
-        let SqlStore { conn, failures: _ } = self;
+        let SqlStore {
+            db: Database { conn },
+            failures: _,
+        } = self;
         conn
     }
 }
@@ -363,8 +378,8 @@ impl SqlStore<MemStore> {
     ///
     /// `NoMemory` if an allocation fails.
     pub fn in_memory(alloc: Global) -> Result<SqlStore<MemStore>, StoreFault>
-        ensures open { IfOk result (λ s. IsTrue (state over_memory s.conn).is_open) }
-        ensures content { IfOk result (λ s. content_in (state over_memory s.conn).now.trees
+        ensures open { IfOk result (λ s. IsTrue (state over_memory s.db.conn).is_open) }
+        ensures content { IfOk result (λ s. content_in (state over_memory s.db.conn).now.trees
             ≡ empty_content) }
         ensures none { IfOk result (λ s. s.failures ≡ 0) }
     {

@@ -7,6 +7,7 @@ ghost use Rattle.settle.specs.Abstraction.{spid_of};
 ghost use Rattle.sql_store.specs.Queues.{AreFirstTold, AreQueued, IsNext};
 ghost use Rattle.sql_store.specs.Store.{HasStoreTables, HasQueried, content_at};
 
+use crate::database::Database;
 use crate::lists::downloads_of;
 use crate::lookups::broadcast;
 use crate::order::put_in_order;
@@ -15,22 +16,18 @@ use delivery::{Download, DownloadKey};
 use numbers::Spid;
 use settle::BroadcastKey;
 use sql_rows::{Fault, KeyedWait, Query, number, spid_bytes, text};
-use sqlite::{Alter, Connection};
+use sqlite::Alter;
 use std::alloc::Global;
 
 // Returns all downloads pending for a carrier, in the order of its queue.
-fn queue<S: Alter>(conn: &mut Connection<S>, spid: Spid) -> Result<Vec<DownloadKey>, Fault>
-    requires ours { IsTrue (state S.Store conn.old).is_open
-        → HasStoreTables (state S.Store conn.old) }
-    requires idle { conn.old.in_transaction ≡ false }
-    ensures value { IsTrue (state S.Store conn.new).is_open
-        → IfOk result (λ waits. AreQueued (content_at (state S.Store conn.old)) (spid_of spid) ⊥
+fn queue<S: Alter>(db: &mut Database<S>, spid: Spid) -> Result<Vec<DownloadKey>, Fault>
+    ensures value { IsTrue (state S.Store db.new.conn).is_open
+        → IfOk result (λ waits. AreQueued (content_at (state S.Store db.old.conn)) (spid_of spid) ⊥
         waits.items) }
-    ensures queried { HasQueried (state S.Store conn.old) (state S.Store conn.new) (is_ok result) }
-    ensures idle { conn.new.in_transaction ≡ false }
+    ensures queried { HasQueried (state S.Store db.old.conn) (state S.Store db.new.conn) (is_ok result) }
 {
     let bytes = spid_bytes(spid.number);
-    let found: Vec<KeyedWait> = find_all(conn, Query::WaitsFor, &[text(&bytes)])?;
+    let found: Vec<KeyedWait> = find_all(db, Query::WaitsFor, &[text(&bytes)])?;
     let mut waits = downloads_of(*found.allocator(), found.as_slice())?;
     put_in_order(&mut waits);
     Ok(waits)
@@ -38,23 +35,19 @@ fn queue<S: Alter>(conn: &mut Connection<S>, spid: Spid) -> Result<Vec<DownloadK
 
 // Returns the first `many` rows of a carrier's queue, in order, and whether these are all.
 fn page<S: Alter>(
-    conn: &mut Connection<S>,
+    db: &mut Database<S>,
     spid: Spid,
     many: u64,
 ) -> Result<(Vec<DownloadKey>, bool), Fault>
-    requires ours { IsTrue (state S.Store conn.old).is_open
-        → HasStoreTables (state S.Store conn.old) }
-    requires idle { conn.old.in_transaction ≡ false }
     requires few { many < 9223372036854775808 }
-    ensures value { IsTrue (state S.Store conn.new).is_open
-        → IfOk result (λ page. AreQueued (content_at (state S.Store conn.old)) (spid_of spid)
+    ensures value { IsTrue (state S.Store db.new.conn).is_open
+        → IfOk result (λ page. AreQueued (content_at (state S.Store db.old.conn)) (spid_of spid)
         (page.1 ≡ false) page.0.items) }
-    ensures queried { HasQueried (state S.Store conn.old) (state S.Store conn.new) (is_ok result) }
-    ensures idle { conn.new.in_transaction ≡ false }
+    ensures queried { HasQueried (state S.Store db.old.conn) (state S.Store db.new.conn) (is_ok result) }
 {
     let bytes = spid_bytes(spid.number);
     let params = [text(&bytes), number(many)];
-    let found: Vec<KeyedWait> = find_all(conn, Query::WaitsFirst, &params)?;
+    let found: Vec<KeyedWait> = find_all(db, Query::WaitsFirst, &params)?;
     let is_all = (found.len() as u64) < many;
     let mut waits = downloads_of(*found.allocator(), found.as_slice())?;
     put_in_order(&mut waits);
@@ -63,20 +56,16 @@ fn page<S: Alter>(
 
 // Returns the pending download as its broadcast's row describes it, or `None` if it has no
 // broadcast.
-fn next<S: Alter>(conn: &mut Connection<S>, wait: DownloadKey) -> Result<Option<Download>, Fault>
-    requires ours { IsTrue (state S.Store conn.old).is_open
-        → HasStoreTables (state S.Store conn.old) }
-    requires idle { conn.old.in_transaction ≡ false }
-    ensures value { IsTrue (state S.Store conn.new).is_open
-        → IfOk result (IsNext (content_at (state S.Store conn.old)) wait) }
-    ensures queried { HasQueried (state S.Store conn.old) (state S.Store conn.new) (is_ok result) }
-    ensures idle { conn.new.in_transaction ≡ false }
+fn next<S: Alter>(db: &mut Database<S>, wait: DownloadKey) -> Result<Option<Download>, Fault>
+    ensures value { IsTrue (state S.Store db.new.conn).is_open
+        → IfOk result (IsNext (content_at (state S.Store db.old.conn)) wait) }
+    ensures queried { HasQueried (state S.Store db.old.conn) (state S.Store db.new.conn) (is_ok result) }
 {
     let key = BroadcastKey {
         id: wait.id,
         attempt: wait.attempt,
     };
-    let found = broadcast(conn, key)?;
+    let found = broadcast(db, key)?;
     match found {
         Some(row) => Ok(Some(Download {
             id: wait.id,
@@ -91,8 +80,7 @@ fn next<S: Alter>(conn: &mut Connection<S>, wait: DownloadKey) -> Result<Option<
 }
 
 fn put_behind(downloads: &mut Vec<Download>, download: Option<Download>) -> Result<(), Fault>
-    ensures { OnOk result
-        (downloads.new.items ≡ downloads.old.items ++ option_to_list download) }
+    ensures { OnOk result (downloads.new.items ≡ downloads.old.items ++ option_to_list download) }
 {
     if let Some(download) = download {
         downloads.push(download)?;
@@ -103,27 +91,23 @@ fn put_behind(downloads: &mut Vec<Download>, download: Option<Download>) -> Resu
 // Returns the first `many` pending downloads that have a broadcast, or all if there are fewer.
 fn first_told<S: Alter>(
     alloc: Global,
-    conn: &mut Connection<S>,
+    db: &mut Database<S>,
     waits: &[DownloadKey],
     many: usize,
 ) -> Result<Vec<Download>, Fault>
-    requires ours { IsTrue (state S.Store conn.old).is_open
-        → HasStoreTables (state S.Store conn.old) }
-    requires open { HasCleanDisk (state S.Store conn.old)
-        → IsTrue (state S.Store conn.old).is_open }
-    requires idle { conn.old.in_transaction ≡ false }
-    ensures value { IsTrue (state S.Store conn.new).is_open
-        → IfOk result (λ downloads. AreFirstTold (content_at (state S.Store conn.old)) many
+    requires open { HasCleanDisk (state S.Store db.old.conn)
+        → IsTrue (state S.Store db.old.conn).is_open }
+    ensures value { IsTrue (state S.Store db.new.conn).is_open
+        → IfOk result (λ downloads. AreFirstTold (content_at (state S.Store db.old.conn)) many
         waits.now downloads.items) }
-    ensures queried { HasQueried (state S.Store conn.old) (state S.Store conn.new) (is_ok result) }
-    ensures idle { conn.new.in_transaction ≡ false }
+    ensures queried { HasQueried (state S.Store db.old.conn) (state S.Store db.new.conn) (is_ok result) }
 {
     let mut downloads = Vec::new(alloc);
     for wait in waits {
         if downloads.len() >= many {
             return Ok(downloads);
         }
-        let download = next(conn, *wait)?;
+        let download = next(db, *wait)?;
         put_behind(&mut downloads, download)?;
     }
     Ok(downloads)
@@ -132,22 +116,18 @@ fn first_told<S: Alter>(
 // Returns the first downloads by the first rows of the queue. Returns `None` if some of these have
 // no broadcast and there may be more rows.
 fn first_page<S: Alter>(
-    conn: &mut Connection<S>,
+    db: &mut Database<S>,
     spid: Spid,
     many: usize,
 ) -> Result<Option<Vec<Download>>, Fault>
-    requires ours { IsTrue (state S.Store conn.old).is_open
-        → HasStoreTables (state S.Store conn.old) }
-    requires idle { conn.old.in_transaction ≡ false }
     requires few { many < 9223372036854775808 }
-    ensures value { IsTrue (state S.Store conn.new).is_open
+    ensures value { IsTrue (state S.Store db.new.conn).is_open
         → IfOk result (λ found. IfSome found (λ downloads. AreFirst (content_at (state S.Store
-        conn.old)) (spid_of spid) many downloads.items)) }
-    ensures queried { HasQueried (state S.Store conn.old) (state S.Store conn.new) (is_ok result) }
-    ensures idle { conn.new.in_transaction ≡ false }
+        db.old.conn)) (spid_of spid) many downloads.items)) }
+    ensures queried { HasQueried (state S.Store db.old.conn) (state S.Store db.new.conn) (is_ok result) }
 {
-    let (waits, is_all) = page(conn, spid, many as u64)?;
-    let downloads = first_told(*waits.allocator(), conn, waits.as_slice(), many)?;
+    let (waits, is_all) = page(db, spid, many as u64)?;
+    let downloads = first_told(*waits.allocator(), db, waits.as_slice(), many)?;
     if is_all || downloads.len() >= many {
         Ok(Some(downloads))
     } else {
@@ -157,21 +137,17 @@ fn first_page<S: Alter>(
 
 // Returns the first downloads by all rows of the queue.
 fn first_of_all<S: Alter>(
-    conn: &mut Connection<S>,
+    db: &mut Database<S>,
     spid: Spid,
     many: usize,
 ) -> Result<Vec<Download>, Fault>
-    requires ours { IsTrue (state S.Store conn.old).is_open
-        → HasStoreTables (state S.Store conn.old) }
-    requires idle { conn.old.in_transaction ≡ false }
-    ensures value { IsTrue (state S.Store conn.new).is_open
-        → IfOk result (λ downloads. AreFirst (content_at (state S.Store conn.old)) (spid_of spid)
+    ensures value { IsTrue (state S.Store db.new.conn).is_open
+        → IfOk result (λ downloads. AreFirst (content_at (state S.Store db.old.conn)) (spid_of spid)
         many downloads.items) }
-    ensures queried { HasQueried (state S.Store conn.old) (state S.Store conn.new) (is_ok result) }
-    ensures idle { conn.new.in_transaction ≡ false }
+    ensures queried { HasQueried (state S.Store db.old.conn) (state S.Store db.new.conn) (is_ok result) }
 {
-    let waits = queue(conn, spid)?;
-    let downloads = first_told(*waits.allocator(), conn, waits.as_slice(), many)?;
+    let waits = queue(db, spid)?;
+    let downloads = first_told(*waits.allocator(), db, waits.as_slice(), many)?;
     Ok(downloads)
 }
 
@@ -180,24 +156,20 @@ fn first_of_all<S: Alter>(
 /// Reads `many` rows of the queue, each with its broadcast. Reads the whole queue only if one of
 /// these rows has no broadcast, which never holds in a register's file.
 pub(crate) fn front<S: Alter>(
-    conn: &mut Connection<S>,
+    db: &mut Database<S>,
     spid: Spid,
     many: usize,
 ) -> Result<Vec<Download>, Fault>
-    requires ours { IsTrue (state S.Store conn.old).is_open
-        → HasStoreTables (state S.Store conn.old) }
-    requires idle { conn.old.in_transaction ≡ false }
-    ensures value { IsTrue (state S.Store conn.new).is_open
-        → IfOk result (λ downloads. AreFirst (content_at (state S.Store conn.old)) (spid_of spid)
+    ensures value { IsTrue (state S.Store db.new.conn).is_open
+        → IfOk result (λ downloads. AreFirst (content_at (state S.Store db.old.conn)) (spid_of spid)
         many downloads.items) }
-    ensures queried { HasQueried (state S.Store conn.old) (state S.Store conn.new) (is_ok result) }
-    ensures idle { conn.new.in_transaction ≡ false }
+    ensures queried { HasQueried (state S.Store db.old.conn) (state S.Store db.new.conn) (is_ok result) }
 {
     if many >= 9_223_372_036_854_775_808 {
-        return first_of_all(conn, spid, many);
+        return first_of_all(db, spid, many);
     }
-    match first_page(conn, spid, many)? {
+    match first_page(db, spid, many)? {
         Some(downloads) => Ok(downloads),
-        None => first_of_all(conn, spid, many),
+        None => first_of_all(db, spid, many),
     }
 }

@@ -9,11 +9,12 @@ ghost use Rattle.settle.specs.Reads.{AreInForce};
 ghost use Rattle.sql_store.specs.Routed.{routed_in, routed_model};
 ghost use Rattle.sql_store.specs.Store.{HasStoreTables, HasQueried, content_at};
 
+use crate::database::Database;
 use crate::select::find_all;
 use delivery::RoutedRow;
 use settle::{NumberedRow, VersionRow};
 use sql_rows::{Fault, Query, number};
-use sqlite::{Alter, Connection};
+use sqlite::Alter;
 use std::alloc::Global;
 
 // The greatest number that a column holds; above the number of each subject.
@@ -49,8 +50,7 @@ fn put_in_order_by_subject(rows: &mut Vec<RoutedRow>)
 }
 
 fn rise(rows: &[RoutedRow]) -> bool
-    ensures { IsTrue result
-        → IsStrictlySortedBy (on (λ r. key_of r.subject) nat_cmp) rows.now }
+    ensures { IsTrue result → IsStrictlySortedBy (on (λ r. key_of r.subject) nat_cmp) rows.now }
 {
     let mut at = 1;
     while at < rows.len() {
@@ -63,17 +63,13 @@ fn rise(rows: &[RoutedRow]) -> bool
 }
 
 /// Returns every version in force that has a routing, ordered by subject.
-pub(crate) fn in_force<S: Alter>(conn: &mut Connection<S>) -> Result<Vec<RoutedRow>, Fault>
-    requires ours { IsTrue (state S.Store conn.old).is_open
-        → HasStoreTables (state S.Store conn.old) }
-    requires idle { conn.old.in_transaction ≡ false }
-    ensures value { IsTrue (state S.Store conn.new).is_open
-        → IfOk result (λ rows. AreInForce (content_at (state S.Store conn.old)) rows.items) }
-    ensures queried { HasQueried (state S.Store conn.old) (state S.Store conn.new) (is_ok result) }
-    ensures idle { conn.new.in_transaction ≡ false }
+pub(crate) fn in_force<S: Alter>(db: &mut Database<S>) -> Result<Vec<RoutedRow>, Fault>
+    ensures value { IsTrue (state S.Store db.new.conn).is_open
+        → IfOk result (λ rows. AreInForce (content_at (state S.Store db.old.conn)) rows.items) }
+    ensures queried { HasQueried (state S.Store db.old.conn) (state S.Store db.new.conn) (is_ok result) }
 {
     let params = [number(0), number(HIGHEST)];
-    let found: Vec<NumberedRow> = find_all(conn, Query::InForceAmong, &params)?;
+    let found: Vec<NumberedRow> = find_all(db, Query::InForceAmong, &params)?;
     let mut rows = routed_rows(*found.allocator(), found.as_slice())?;
     put_in_order_by_subject(&mut rows);
     if !rise(rows.as_slice()) {

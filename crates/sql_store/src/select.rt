@@ -9,48 +9,41 @@ ghost use Rattle.sql_store.specs.Store.{HasStoreTables, HasQueried};
 ghost use Rattle.sql_rows.specs.Found.{IsListAnswer, IsSoleAnswer};
 ghost use Rattle.sql_rows.specs.Once.{HasUniqueKeys};
 
+use crate::database::Database;
 use crate::once::keys_are_unique;
 use sql_rows::{Fault, FromRow, Query, all, sole};
 use sqlite::types::ValueRef;
-use sqlite::{Alter, Connection, Row};
+use sqlite::{Alter, Row};
 
 /// Returns the rows that answer a query.
 pub(crate) fn select<S: Alter>(
-    conn: &mut Connection<S>,
+    db: &mut Database<S>,
     query: Query,
     params: &[ValueRef<'_>],
 ) -> Result<Vec<Row>, Fault>
-    requires ours { IsTrue (state S.Store conn.old).is_open
-        → HasStoreTables (state S.Store conn.old) }
-    requires idle { conn.old.in_transaction ≡ false }
-    ensures value { IsTrue (state S.Store conn.new).is_open
+    ensures value { IsTrue (state S.Store db.new.conn).is_open
         → IfOk result (λ rows.
-        IsAnswer (query_of query) (overlay (state S.Store conn.old).now.trees []) (bound params.now)
+        IsAnswer (query_of query) (overlay (state S.Store db.old.conn).now.trees []) (bound params.now)
         rows.items) }
-    ensures queried { HasQueried (state S.Store conn.old) (state S.Store conn.new) (is_ok result) }
-    ensures idle { conn.new.in_transaction ≡ false }
+    ensures queried { HasQueried (state S.Store db.old.conn) (state S.Store db.new.conn) (is_ok result) }
 {
-    let rows = conn.query_all(query.text(), params)?;
+    let rows = db.conn.query_all(query.text(), params)?;
     Ok(rows)
 }
 
 /// Returns the only row that answers a query, if there is one.
 pub(crate) fn find<T: FromRow, S: Alter>(
-    conn: &mut Connection<S>,
+    db: &mut Database<S>,
     query: Query,
     params: &[ValueRef<'_>],
 ) -> Result<Option<T>, Fault>
-    requires ours { IsTrue (state S.Store conn.old).is_open
-        → HasStoreTables (state S.Store conn.old) }
-    requires idle { conn.old.in_transaction ≡ false }
-    ensures value { IsTrue (state S.Store conn.new).is_open
+    ensures value { IsTrue (state S.Store db.new.conn).is_open
         → IfOk result (λ o.
-        IsSoleAnswer query T.seen_in (state S.Store conn.old).now.trees (bound params.now)
+        IsSoleAnswer query T.seen_in (state S.Store db.old.conn).now.trees (bound params.now)
         (option_map T.seen o)) }
-    ensures queried { HasQueried (state S.Store conn.old) (state S.Store conn.new) (is_ok result) }
-    ensures idle { conn.new.in_transaction ≡ false }
+    ensures queried { HasQueried (state S.Store db.old.conn) (state S.Store db.new.conn) (is_ok result) }
 {
-    let rows = select(conn, query, params)?;
+    let rows = select(db, query, params)?;
     let found = sole(rows.as_slice())?;
     Ok(found)
 }
@@ -58,24 +51,20 @@ pub(crate) fn find<T: FromRow, S: Alter>(
 /// Returns the rows that answer a query, each read. A row that cannot be read is a fault of the
 /// device.
 pub(crate) fn find_all<T: FromRow + Drop, S: Alter>(
-    conn: &mut Connection<S>,
+    db: &mut Database<S>,
     query: Query,
     params: &[ValueRef<'_>],
 ) -> Result<Vec<T>, Fault>
-    requires ours { IsTrue (state S.Store conn.old).is_open
-        → HasStoreTables (state S.Store conn.old) }
-    requires idle { conn.old.in_transaction ≡ false }
-    ensures value { IsTrue (state S.Store conn.new).is_open
+    ensures value { IsTrue (state S.Store db.new.conn).is_open
         → IfOk result (λ items.
-        IsListAnswer query T.seen_in (state S.Store conn.old).now.trees (bound params.now)
+        IsListAnswer query T.seen_in (state S.Store db.old.conn).now.trees (bound params.now)
         (map T.seen items.items)) }
-    ensures once { IsTrue (state S.Store conn.new).is_open
-        → HasUniqueKeys (state S.Store conn.old).now.trees }
-    ensures queried { HasQueried (state S.Store conn.old) (state S.Store conn.new) (is_ok result) }
-    ensures idle { conn.new.in_transaction ≡ false }
+    ensures once { IsTrue (state S.Store db.new.conn).is_open
+        → HasUniqueKeys (state S.Store db.old.conn).now.trees }
+    ensures queried { HasQueried (state S.Store db.old.conn) (state S.Store db.new.conn) (is_ok result) }
 {
-    keys_are_unique(conn);
-    let rows = select(conn, query, params)?;
+    keys_are_unique(&db.conn);
+    let rows = select(db, query, params)?;
     let items = all(*rows.allocator(), rows.as_slice())?;
     Ok(items)
 }

@@ -3,17 +3,17 @@ ghost use Rattle.std.specs.Prelude.{◌≡◌, ◌≤◌, false, Err, IfOk, IsTr
 ghost use Rattle.sqlite.specs.Held.{state};
 ghost use Rattle.settle.specs.StoreContract.{CountsFailure};
 ghost use Rattle.settle.specs.Reads.{HasDeviceFailed};
-ghost use Rattle.sql_store.specs.Store.{HasStoreTables, ours_if_open};
 
+use crate::database::Database;
 use crate::{blocks, commit, lists, lookups, queue, routed};
 use delivery::{Broadcast, Download, DownloadKey, RoutedRow};
 use numbers::{BlockId, CodeId, Lrn, Minute, Spid, Subject};
 use settle::{
-    BlockRow, BroadcastKey, Changes, ClockRow, Few, NumberedRow, Store, StoreFault, VersionRow,
-    WaitKey,
+    BlockRow, BroadcastKey, Changes, ClockRow, Few, NumberedRow, Store, StoreFault, StoreModel,
+    VersionRow, WaitKey,
 };
 use sql_rows::Fault;
-use sqlite::{Alter, Connection};
+use sqlite::Alter;
 use version::NumberInUse;
 use windows::Windows;
 
@@ -23,10 +23,8 @@ use windows::Windows;
 /// The count of failures rises by one with each result of the database that is neither success nor
 /// a failed allocation. It also rises with each stored value that is not of its column's type.
 pub struct SqlStore<S: Alter> {
-    pub(crate) conn: Connection<S>,
+    pub(crate) db: Database<S>,
     pub(crate) failures: u64,
-    ghost ours: { IsTrue (state S.Store conn).is_open → HasStoreTables (state S.Store conn) } by { ours_if_open _ },
-    ghost idle: { conn.in_transaction ≡ false },
 }
 
 // Returns the result as the store reports it, and counts each failure of the device.
@@ -49,76 +47,80 @@ fn counted<A>(failures: &mut u64, answer: Result<A, Fault>) -> Result<A, StoreFa
     }
 }
 
-impl<S: Alter> Store for SqlStore<S> {
+impl<S: Alter> StoreModel for SqlStore<S> {
     ghost use Rattle.sqlite.specs.State.{HasCleanDisk};
-    ghost use Rattle.sql_store.specs.Store.{left_by, left_one, clean_if_open};
+    ghost use Rattle.sql_store.specs.Store.{left_by};
     ghost use Rattle.sql_rows.specs.Content.{content_in};
     ghost use Rattle.sqlite.specs.Held.{state};
     ghost use Rattle.std.specs.Prelude.{IsTrue};
 
-    ghost content = { λ s. content_in (state S.Store s.conn).now.trees };
+    ghost content = { λ s. content_in (state S.Store s.db.conn).now.trees };
 
-    ghost IsUsable = { λ s. IsTrue (state S.Store s.conn).is_open };
+    ghost IsUsable = { λ s. IsTrue (state S.Store s.db.conn).is_open };
 
-    ghost HasHonestDevice = { λ s. HasCleanDisk (state S.Store s.conn) };
+    ghost HasHonestDevice = { λ s. HasCleanDisk (state S.Store s.db.conn) };
 
-    ghost IsCrashState = { λ s. left_by S.Store s.conn };
+    ghost IsCrashState = { λ s. left_by S.Store s.db.conn };
 
     ghost failed = { λ s. s.failures };
 
-    ghost faults = { λ s. (state S.Store s.conn).faults };
+    ghost faults = { λ s. (state S.Store s.db.conn).faults };
+}
+
+impl<S: Alter> Store for SqlStore<S> {
+    ghost use Rattle.sql_store.specs.Store.{left_one, clean_if_open};
 
     fn clock(&mut self) -> Result<Option<ClockRow>, StoreFault> {
-        counted(&mut self.failures, lookups::clock(&mut self.conn))
+        counted(&mut self.failures, lookups::clock(&mut self.db))
     }
 
     fn carrier(&mut self, spid: Spid) -> Result<bool, StoreFault> {
-        counted(&mut self.failures, lookups::carrier(&mut self.conn, spid))
+        counted(&mut self.failures, lookups::carrier(&mut self.db, spid))
     }
 
     fn lrn(&mut self, lrn: Lrn) -> Result<Option<Spid>, StoreFault> {
-        counted(&mut self.failures, lookups::lrn(&mut self.conn, lrn))
+        counted(&mut self.failures, lookups::lrn(&mut self.db, lrn))
     }
 
     fn code(&mut self, code: CodeId) -> Result<Option<Spid>, StoreFault> {
-        counted(&mut self.failures, lookups::code(&mut self.conn, code))
+        counted(&mut self.failures, lookups::code(&mut self.db, code))
     }
 
     fn block(&mut self, block: BlockId) -> Result<Option<BlockRow>, StoreFault> {
-        counted(&mut self.failures, lookups::block(&mut self.conn, block))
+        counted(&mut self.failures, lookups::block(&mut self.db, block))
     }
 
     fn window_set(&mut self, number: u16) -> Result<Option<Windows>, StoreFault> {
         counted(
             &mut self.failures,
-            lookups::window_set(&mut self.conn, number),
+            lookups::window_set(&mut self.db, number),
         )
     }
 
     fn version(&mut self, id: u64) -> Result<Option<VersionRow>, StoreFault> {
-        counted(&mut self.failures, lookups::version(&mut self.conn, id))
+        counted(&mut self.failures, lookups::version(&mut self.db, id))
     }
 
     fn version_in_force(&mut self, subject: Subject) -> Result<Option<NumberedRow>, StoreFault> {
         counted(
             &mut self.failures,
-            lookups::version_in_force(&mut self.conn, subject),
+            lookups::version_in_force(&mut self.db, subject),
         )
     }
 
     fn open_version(&mut self, subject: Subject) -> Result<Option<NumberedRow>, StoreFault> {
         counted(
             &mut self.failures,
-            lookups::open_version(&mut self.conn, subject),
+            lookups::open_version(&mut self.db, subject),
         )
     }
 
     fn least_due(&mut self, now: Minute) -> Result<Option<NumberedRow>, StoreFault> {
-        counted(&mut self.failures, lookups::least_due(&mut self.conn, now))
+        counted(&mut self.failures, lookups::least_due(&mut self.db, now))
     }
 
     fn broadcast(&mut self, key: BroadcastKey) -> Result<Option<Broadcast>, StoreFault> {
-        counted(&mut self.failures, lookups::broadcast(&mut self.conn, key))
+        counted(&mut self.failures, lookups::broadcast(&mut self.db, key))
     }
 
     fn waits_about(
@@ -128,58 +130,55 @@ impl<S: Alter> Store for SqlStore<S> {
     ) -> Result<Few<DownloadKey>, StoreFault> {
         counted(
             &mut self.failures,
-            lists::waits_about(&mut self.conn, spid, subject),
+            lists::waits_about(&mut self.db, spid, subject),
         )
     }
 
     fn waits(&mut self, spid: Spid) -> Result<Vec<Subject>, StoreFault> {
-        counted(&mut self.failures, lists::waits(&mut self.conn, spid))
+        counted(&mut self.failures, lists::waits(&mut self.db, spid))
     }
 
     fn front(&mut self, spid: Spid, many: usize) -> Result<Vec<Download>, StoreFault> {
-        counted(&mut self.failures, queue::front(&mut self.conn, spid, many))
+        counted(&mut self.failures, queue::front(&mut self.db, spid, many))
     }
 
     fn waiters(&mut self, minute: Minute, key: BroadcastKey) -> Result<Vec<Spid>, StoreFault> {
         counted(
             &mut self.failures,
-            lists::waiters(&mut self.conn, minute, key),
+            lists::waiters(&mut self.db, minute, key),
         )
     }
 
     fn is_last_wait(&mut self, wait: WaitKey) -> Result<bool, StoreFault> {
-        counted(
-            &mut self.failures,
-            lists::is_last_wait(&mut self.conn, wait),
-        )
+        counted(&mut self.failures, lists::is_last_wait(&mut self.db, wait))
     }
 
     fn carriers(&mut self) -> Result<Vec<Spid>, StoreFault> {
-        counted(&mut self.failures, lists::carriers(&mut self.conn))
+        counted(&mut self.failures, lists::carriers(&mut self.db))
     }
 
     fn open_broadcasts(&mut self) -> Result<Vec<(BroadcastKey, Broadcast)>, StoreFault> {
-        counted(&mut self.failures, lists::open_broadcasts(&mut self.conn))
+        counted(&mut self.failures, lists::open_broadcasts(&mut self.db))
     }
 
     fn in_force(&mut self) -> Result<Vec<RoutedRow>, StoreFault> {
-        counted(&mut self.failures, routed::in_force(&mut self.conn))
+        counted(&mut self.failures, routed::in_force(&mut self.db))
     }
 
     fn in_block(&mut self, block: BlockId) -> Result<Vec<NumberInUse>, StoreFault> {
-        counted(&mut self.failures, blocks::in_block(&mut self.conn, block))
+        counted(&mut self.failures, blocks::in_block(&mut self.db, block))
     }
 
     fn commit(&mut self, changes: &Changes) -> Result<(), StoreFault> {
-        counted(&mut self.failures, commit::commit(&mut self.conn, changes))
+        counted(&mut self.failures, commit::commit(&mut self.db, changes))
     }
 
     fn failures(&self) -> u64 {
         self.failures
     }
 
-    ghost leaves_content = { λ s m up left. left_one m left.0 _ _ left.2 (S.settled s.conn.store
-        left.0 up left.1) (s.ours up).same_trees };
+    ghost leaves_content = { λ s m up left. left_one m left.0 _ _ left.2 (S.settled s.db.conn.store
+        left.0 up left.1) (s.db.ours up).same_trees };
 
-    ghost usable_is_honest = { λ s up. clean_if_open _ _ (S.shut_if_dirty s.conn.store) up };
+    ghost usable_is_honest = { λ s up. clean_if_open _ _ (S.shut_if_dirty s.db.conn.store) up };
 }

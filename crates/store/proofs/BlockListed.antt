@@ -21,7 +21,7 @@ use Rattle.version.specs.declared.in_use.NumberInUse.{NumberInUse}
 use Rattle.settle.specs.Reads.{HasRowInForce, HasOpenRow, Reflects, IsInBlock, AreInBlock}
 use Rattle.store.specs.Maps.{set, IsSet}
 use Rattle.store.specs.Tables.{content_of, AreIndexed, AreVersionsIndexed, HasVersion, SubjectVersion, subject_version, subject_version_of, subject_version_cmp}
-use Rattle.store.specs.BlockRows.{lowest, highest, tn_of, own_number, number_of, number_at, has_held, has_opened, only_held, and_open, with_number, marked, standings_of, AreStandings, number_told}
+use Rattle.store.specs.BlockRows.{lowest, highest, tn_of, own_number, number_of, number_at, marked_in_force, marked_open, only_in_force, and_open, with_number, marked, marks_of, AreMarks, number_in_use}
 use Rattle.store.specs.declared.blocks.Marks.{Marks}
 use Rattle.store.specs.declared.tables.Tables.{Tables}
 use Rattle.store.specs.declared.keys.SubjectVersion.{SubjectVersion as SubjectVersionImpl}
@@ -226,9 +226,9 @@ module _ (block : ℕ) (lo hi : SubjectVersionImpl) (low : subject_version_of lo
         among-met part e.0 inside here
 
     -- A number is met if and only if it is of the block and a row has it in the column.
-    told : (b : Bool) → b ≡ list_any is_met part → Reflects b ((block_of n ≡ block) × Has)
-    told true is = met-from part (sym is)
-    told false is = λ p. let f : false ≡ true = is ∙ has-met p.0 p.1 in cc
+    reflects : (b : Bool) → b ≡ list_any is_met part → Reflects b ((block_of n ≡ block) × Has)
+    reflects true is = met-from part (sym is)
+    reflects false is = λ p. let f : false ≡ true = is ∙ has-met p.0 p.1 in cc
 
 -- ---- the marks of all numbers
 
@@ -237,73 +237,76 @@ module _ (t : Tables) (block : ℕ) (indexed : AreIndexed t)
     (is_high : subject_version_of high ≡ highest block)
     (first last : SubjectVersionImpl) (is_first : subject_version_of first ≡ lowest block)
     (is_last : subject_version_of last ≡ highest block)
-    (held opened : List (SubjectVersionImpl × Unit {0}))
-    (are_held : held ≡ entries_between (on subject_version_of subject_version_cmp) (Included low)
+    (in_force opened : List (SubjectVersionImpl × Unit {0}))
+    (are_held : in_force ≡ entries_between (on subject_version_of subject_version_cmp)
+    (Included low)
     (Included high) t.holds.entries)
     (are_opened : opened ≡ entries_between (on subject_version_of subject_version_cmp)
     (Included first) (Included last) t.opens.entries) where
   abbrev before : FinMap nat_cmp Marks
-  before = marked only_held (λ row. row.holds) block t.versions held empty
+  before = marked only_in_force (λ row. row.holds) block t.versions in_force empty
 
   abbrev after : FinMap nat_cmp Marks
   after = marked and_open (λ row. row.opens) block t.versions opened before
 
   abbrev any_held : ℕ → Bool
-  any_held n = list_any (names only_held (λ row. row.holds) block t.versions n) held
+  any_held n = list_any (names only_in_force (λ row. row.holds) block t.versions n) in_force
 
   abbrev any_opened : ℕ → Bool
   any_opened n = list_any (names and_open (λ row. row.opens) block t.versions n) opened
 
-  first-held : (n : ℕ) (see : Option Marks → Bool)
-      → ((o : Option Marks) → see (Some (only_held o)) ≡ true) → see None ≡ false
+  first-in_force : (n : ℕ) (see : Option Marks → Bool)
+      → ((o : Option Marks) → see (Some (only_in_force o)) ≡ true) → see None ≡ false
       → see (get before n) ≡ any_held n
-  first-held n see says none =
-      met only_held (λ row. row.holds) block t.versions n see says held empty
+  first-in_force n see says none =
+      met only_in_force (λ row. row.holds) block t.versions n see says in_force empty
       ∙ ap (λ b. b || any_held n) (ap see (get-empty nat_cmp n) ∙ none)
 
-  has-held : (n : ℕ) → has_held (get after n) ≡ any_held n
-  has-held n = kept and_open (λ row. row.opens) block t.versions n has_held (λ o. refl) opened
-      before ∙ first-held n has_held (λ o. refl) refl
+  has-in_force : (n : ℕ) → marked_in_force (get after n) ≡ any_held n
+  has-in_force n = kept and_open (λ row. row.opens) block t.versions n marked_in_force (λ o. refl)
+      opened
+      before ∙ first-in_force n marked_in_force (λ o. refl) refl
 
-  has-opened : (n : ℕ) → has_opened (get after n) ≡ any_opened n
+  has-opened : (n : ℕ) → marked_open (get after n) ≡ any_opened n
   has-opened n =
-      met and_open (λ row. row.opens) block t.versions n has_opened (λ o. refl) opened before
-      ∙ ap (λ b. b || any_opened n) (never only_held (λ row. row.holds) block t.versions n
-      has_opened (λ o. refl) held empty (ap has_opened (get-empty nat_cmp n)))
+      met and_open (λ row. row.opens) block t.versions n marked_open (λ o. refl) opened before
+      ∙ ap (λ b. b || any_opened n) (never only_in_force (λ row. row.holds) block t.versions n
+      marked_open (λ o. refl) in_force empty (ap marked_open (get-empty nat_cmp n)))
 
   has-some : (n : ℕ) → is_some (get after n) ≡ (any_held n || any_opened n)
   has-some n =
       met and_open (λ row. row.opens) block t.versions n is_some (λ o. refl) opened before
-      ∙ ap (λ b. b || any_opened n) (first-held n is_some (λ o. refl) refl)
+      ∙ ap (λ b. b || any_opened n) (first-in_force n is_some (λ o. refl) refl)
 
-  pub standings-are : (m : FinMap nat_cmp Marks) → m ≡ after
-      → AreStandings (content_of t) block m
-  standings-are m is = subst (AreStandings (content_of t) block) (sym is) record {
-    held = λ n. told block low high is_low is_high (λ row. row.holds) t.versions t.holds indexed.0
-        held are_held n (has_held (get after n)) (has-held n);
-    opened = λ n. told block first last is_first is_last (λ row. row.opens) t.versions t.opens
-        indexed.1 opened are_opened n (has_opened (get after n)) (has-opened n);
-    in_use = λ n. has-some n ∙ (λ i. sym (has-held n) i || sym (has-opened n) i);
+  pub marks-are : (m : FinMap nat_cmp Marks) → m ≡ after
+      → AreMarks (content_of t) block m
+  marks-are m is = subst (AreMarks (content_of t) block) (sym is) record {
+    in_force = λ n. reflects block low high is_low is_high (λ row. row.holds) t.versions t.holds
+        indexed.0
+        in_force are_held n (marked_in_force (get after n)) (has-in_force n);
+    opened = λ n. reflects block first last is_first is_last (λ row. row.opens) t.versions t.opens
+        indexed.1 opened are_opened n (marked_open (get after n)) (has-opened n);
+    in_use = λ n. has-some n ∙ (λ i. sym (has-in_force n) i || sym (has-opened n) i);
   }
 
 -- A loop step marks the number of its key.
 pub marked-step : (mark : Option Marks → Marks) (column : VersionRow
     → Option Subject) (block : ℕ) (versions : FinMap nat_cmp VersionRow) (e : SubjectVersionImpl
     × Unit {0}) (rest : List (SubjectVersionImpl × Unit {0})) (old new : BTreeMap Tn Marks)
-    (tn : Tn) (standing : Marks) →
+    (tn : Tn) (new_marks : Marks) →
     Some (tn_of tn) ≡ number_at column block (get versions e.0.id)
-    → standing ≡ mark (tree.get (on tn_of nat_cmp) old tn)
-    → IsSet (on tn_of nat_cmp) old new tn (Some standing) →
-    marked mark column block versions rest (standings_of new) ≡ marked mark column block versions
-    (e ∷ rest) (standings_of old)
-marked-step mark column block versions e rest old new tn standing is marks written =
+    → new_marks ≡ mark (tree.get (on tn_of nat_cmp) old tn)
+    → IsSet (on tn_of nat_cmp) old new tn (Some new_marks) →
+    marked mark column block versions rest (marks_of new) ≡ marked mark column block versions
+    (e ∷ rest) (marks_of old)
+marked-step mark column block versions e rest old new tn new_marks is marks written =
     ap (marked mark column block versions rest)
     (set_map_of tn_of (λ (s : Marks). s) nat_cmp_total nat_cmp-IsAntisymmetric old new tn
-    (Some standing) written
-    ∙ ap (λ s. set (standings_of old) (tn_of tn) (Some s)) (marks
+    (Some new_marks) written
+    ∙ ap (λ s. set (marks_of old) (tn_of tn) (Some s)) (marks
     ∙ ap mark (seen (tree.get (on tn_of nat_cmp) old tn)
     ∙ sym (get-map_of tn_of (λ (s : Marks). s) nat_cmp_total nat_cmp-IsAntisymmetric old tn))))
-    ∙ ap (λ o. marked mark column block versions rest (with_number mark o (standings_of old))) is
+    ∙ ap (λ o. marked mark column block versions rest (with_number mark o (marks_of old))) is
   where
     seen : (o : Option Marks) → o ≡ option_map (λ (s : Marks). s) o
     seen None = refl
@@ -325,23 +328,23 @@ own-of P Q R true b e one other = one.0
 own-of P Q R false true e one other = other.0
 own-of P Q R false false e one other = let f : false ≡ true = e in cc
 
-among-told : (e : Tn × Marks) (es : List (Tn × Marks)) → Among e es
-    → Among (number_told e) (map number_told es)
+among-in_use : (e : Tn × Marks) (es : List (Tn × Marks)) → Among e es
+    → Among (number_in_use e) (map number_in_use es)
 unfolding Among
-among-told e [] is = absurd is
-among-told e (x ∷ xs) (inl same) = inl (ap number_told same)
-among-told e (x ∷ xs) (inr there) = inr (among-told e xs there)
+among-in_use e [] is = absurd is
+among-in_use e (x ∷ xs) (inl same) = inl (ap number_in_use same)
+among-in_use e (x ∷ xs) (inr there) = inr (among-in_use e xs there)
 
 -- The list is in the order of the entries' keys.
-sorted-told : (es : List (Tn × Marks)) → IsStrictlySortedBy (on tn_of nat_cmp) (keys_of es)
-    → IsStrictlySortedBy (on (λ (x : NumberInUse). x.tn.number) nat_cmp) (map number_told es)
+sorted-in_use : (es : List (Tn × Marks)) → IsStrictlySortedBy (on tn_of nat_cmp) (keys_of es)
+    → IsStrictlySortedBy (on (λ (x : NumberInUse). x.tn.number) nat_cmp) (map number_in_use es)
 unfolding IsStrictlySortedBy
-sorted-told [] sorted = tt
-sorted-told (e ∷ es) sorted = (above es sorted.0, sorted-told es sorted.1)
+sorted-in_use [] sorted = tt
+sorted-in_use (e ∷ es) sorted = (above es sorted.0, sorted-in_use es sorted.1)
   where
     above : (xs : List (Tn × Marks)) → AllByRecursion (λ k. nat_cmp (tn_of e.0) (tn_of k) ≡ Less)
         (keys_of xs) → AllByRecursion (λ (x : NumberInUse). nat_cmp (tn_of e.0) x.tn.number ≡ Less)
-        (map number_told xs)
+        (map number_in_use xs)
     above [] all = tt
     above (x ∷ xs) all = (all.0, above xs all.1)
 
@@ -374,15 +377,15 @@ own-value (x ∷ xs) e sorted (inr there) =
 
 module _ (c : Content) (block : ℕ) (numbers : BTreeMap Tn Marks)
     (ordered : tree.IsOrdered (on tn_of nat_cmp) numbers)
-    (known : AreStandings c block (standings_of numbers)) where
+    (known : AreMarks c block (marks_of numbers)) where
   abbrev at : ℕ → Option Marks
-  at n = get (standings_of numbers) n
+  at n = get (marks_of numbers) n
 
-  in-block-is : (e : Tn × Marks) → Among e numbers.entries → IsInBlock c block (number_told e)
+  in-block-is : (e : Tn × Marks) → Among e numbers.entries → IsInBlock c block (number_in_use e)
   in-block-is e there = record {
     own = own;
     is_in_force = narrowed (block_of (tn_of e.0) ≡ block) (HasRowInForce c (Number (tn_of e.0)))
-        e.1.is_in_force held own;
+        e.1.is_in_force in_force own;
     is_open = narrowed (block_of (tn_of e.0) ≡ block) (HasOpenRow c (Number (tn_of e.0)))
         e.1.is_open
         opened own;
@@ -393,25 +396,25 @@ module _ (c : Content) (block : ℕ) (numbers : BTreeMap Tn Marks)
       found = get-map_of tn_of (λ (s : Marks). s) nat_cmp_total nat_cmp-IsAntisymmetric numbers
           e.0 ∙ ap (option_map (λ (s : Marks). s)) (own-value numbers.entries e ordered there)
 
-      held : Reflects e.1.is_in_force ((block_of (tn_of e.0) ≡ block)
+      in_force : Reflects e.1.is_in_force ((block_of (tn_of e.0) ≡ block)
           × HasRowInForce c (Number (tn_of e.0)))
-      held = subst (λ o. Reflects (has_held o) ((block_of (tn_of e.0) ≡ block)
-          × HasRowInForce c (Number (tn_of e.0)))) found (known.held (tn_of e.0))
+      in_force = subst (λ o. Reflects (marked_in_force o) ((block_of (tn_of e.0) ≡ block)
+          × HasRowInForce c (Number (tn_of e.0)))) found (known.in_force (tn_of e.0))
 
       opened : Reflects e.1.is_open ((block_of (tn_of e.0) ≡ block)
           × HasOpenRow c (Number (tn_of e.0)))
-      opened = subst (λ o. Reflects (has_opened o) ((block_of (tn_of e.0) ≡ block)
+      opened = subst (λ o. Reflects (marked_open o) ((block_of (tn_of e.0) ≡ block)
           × HasOpenRow c (Number (tn_of e.0)))) found (known.opened (tn_of e.0))
 
       in_use : (e.1.is_in_force || e.1.is_open) ≡ true
-      in_use = sym (subst (λ o. is_some o ≡ (has_held o || has_opened o)) found
+      in_use = sym (subst (λ o. is_some o ≡ (marked_in_force o || marked_open o)) found
           (known.in_use (tn_of e.0)))
 
       own : block_of (tn_of e.0) ≡ block
       own = own-of (block_of (tn_of e.0) ≡ block) (HasRowInForce c (Number (tn_of e.0)))
-          (HasOpenRow c (Number (tn_of e.0))) e.1.is_in_force e.1.is_open in_use held opened
+          (HasOpenRow c (Number (tn_of e.0))) e.1.is_in_force e.1.is_open in_use in_force opened
 
-  pub in-block-are : (found : List NumberInUse) → found ≡ map number_told numbers.entries
+  pub in-block-are : (found : List NumberInUse) → found ≡ map number_in_use numbers.entries
       → AreInBlock c block found
   in-block-are found is = record {
     each = λ n own used.
@@ -421,23 +424,25 @@ module _ (c : Content) (block : ℕ) (numbers : BTreeMap Tn Marks)
         let e = found-entry (is_at (on tn_of nat_cmp q.0)) numbers.entries q.2 in
         let same : tn_of e.0.0 ≡ n =
         sym (nat_cmp-IsAntisymmetric (tn_of q.0) (tn_of e.0.0) (tied _ e.2)) ∙ q.1 in (
-          number_told e.0,
-          contained (number_told e.0) found (subst (Among (number_told e.0)) (sym is)
-              (among-told e.0 numbers.entries e.1)),
+          number_in_use e.0,
+          contained (number_in_use e.0) found (subst (Among (number_in_use e.0)) (sym is)
+              (among-in_use e.0 numbers.entries e.1)),
           same,
         );
     only = all-places (IsInBlock c block) found (all-of (IsInBlock c block) found (λ x there.
-        let e = among-mapped number_told x numbers.entries (subst (Among x) is there) in
+        let e = among-mapped number_in_use x numbers.entries (subst (Among x) is there) in
         subst (IsInBlock c block) e.2 (in-block-is e.0 e.1)));
     rises = subst (IsStrictlySortedBy (on (λ (x : NumberInUse). x.tn.number) nat_cmp)) (sym is)
-        (sorted-told numbers.entries ordered);
+        (sorted-in_use numbers.entries ordered);
   }
     where
       stands : (n : ℕ) → block_of n ≡ block → HasRowInForce c (Number n) ⊎ HasOpenRow c (Number n)
-          → (has_held (at n) || has_opened (at n)) ≡ true
+          → (marked_in_force (at n) || marked_open (at n)) ≡ true
       stands n own (inl holds) =
-          ap (λ b. b || has_opened (at n)) (sure ((block_of n ≡ block) × HasRowInForce c (Number n))
-          (has_held (at n)) (known.held n) (own, holds))
+          ap (λ b. b || marked_open (at n)) (sure ((block_of n ≡ block)
+          × HasRowInForce c (Number n))
+          (marked_in_force (at n)) (known.in_force n) (own, holds))
       stands n own (inr opens) =
-          ap (λ b. has_held (at n) || b) (sure ((block_of n ≡ block) × HasOpenRow c (Number n))
-          (has_opened (at n)) (known.opened n) (own, opens)) ∙ or_true (has_held (at n))
+          ap (λ b. marked_in_force (at n) || b) (sure ((block_of n ≡ block)
+          × HasOpenRow c (Number n))
+          (marked_open (at n)) (known.opened n) (own, opens)) ∙ or_true (marked_in_force (at n))

@@ -24,7 +24,7 @@ use Rattle.settle.specs.declared.rows.BroadcastKey.{BroadcastKey as BroadcastKey
 use Rattle.settle.specs.declared.rows.WaitKey.{WaitKey as WaitKeyImpl}
 use Rattle.store.specs.Maps.{map_of}
 use Rattle.store.specs.WaitRows.{IsDownload}
-use Rattle.store.specs.QueueRows.{AreOrdered, order_of, lowest, highest, download_at, download_told, broadcast_of}
+use Rattle.store.specs.QueueRows.{AreOrdered, order_of, lowest, highest, download_at, download_from, broadcast_of}
 use Rattle.store.proofs.Maps.{get-map_of, entry-of}
 use Rattle.model.proofs.KeyOrders.{wait_total, wait_exact, broadcast_total, broadcast_exact}
 use Rattle.store.proofs.Listed.{Among, contained, all-places, filter_map-filter, listed-sorted, found-listed, equal_cmp}
@@ -130,34 +130,34 @@ module _ (waits : FinMap wait_cmp Subject) (order : BTreeMap WaitKeyImpl (Unit {
 
   download_at-is : (k : WaitKeyImpl) (d : Download) → download_at broadcasts k ≡ Some d →
       (b : Broadcast) × (get content.broadcasts (record { id = k.id; attempt = k.attempt })
-      ≡ Some (broadcast_row_of b)) × (download_told k b ≡ d)
+      ≡ Some (broadcast_row_of b)) × (download_from k b ≡ d)
   download_at-is k d e =
       by_cases (tree.get (on broadcast_key_of broadcast_cmp) broadcasts (broadcast_of k)) refl
       e
     where
       by_cases : (o : Option Broadcast) → tree.get (on broadcast_key_of broadcast_cmp) broadcasts
-          (broadcast_of k) ≡ o → option_map (download_told k) o ≡ Some d →
+          (broadcast_of k) ≡ o → option_map (download_from k) o ≡ Some d →
           (b : Broadcast) × (get content.broadcasts (record { id = k.id; attempt = k.attempt })
-          ≡ Some (broadcast_row_of b)) × (download_told k b ≡ d)
+          ≡ Some (broadcast_row_of b)) × (download_from k b ≡ d)
       by_cases None at f = let no : None ≡ Some d = f in cc
       by_cases (Some b) at f = (
         b,
         row-of k ∙ ap (option_map broadcast_row_of) at,
-        (let g : Some (download_told k b) ≡ Some d = f in cc),
+        (let g : Some (download_from k b) ≡ Some d = f in cc),
       )
 
   is-download_at : (k : WaitKeyImpl) (row : BroadcastRow)
       → get content.broadcasts (record { id = k.id; attempt = k.attempt }) ≡ Some row
-      → (b : Broadcast) × (download_at broadcasts k ≡ Some (download_told k b))
+      → (b : Broadcast) × (download_at broadcasts k ≡ Some (download_from k b))
   is-download_at k row e =
       by_cases (tree.get (on broadcast_key_of broadcast_cmp) broadcasts (broadcast_of k))
       refl (sym (row-of k) ∙ e)
     where
       by_cases : (o : Option Broadcast) → tree.get (on broadcast_key_of broadcast_cmp) broadcasts
           (broadcast_of k) ≡ o → option_map broadcast_row_of o ≡ Some row →
-          (b : Broadcast) × (download_at broadcasts k ≡ Some (download_told k b))
+          (b : Broadcast) × (download_at broadcasts k ≡ Some (download_from k b))
       by_cases None at f = let no : None ≡ Some row = f in cc
-      by_cases (Some b) at f = (b, ap (option_map (download_told k)) at)
+      by_cases (Some b) at f = (b, ap (option_map (download_from k)) at)
 
   module _ (lo hi : WaitKeyImpl) (low : wait_key_of lo ≡ lowest carrier.number)
       (high : wait_key_of hi ≡ highest carrier.number)
@@ -209,7 +209,7 @@ module _ (waits : FinMap wait_cmp Subject) (order : BTreeMap WaitKeyImpl (Unit {
         (sym (carrier-is carrier.number lo hi low high x px.0) ∙ carrier-is carrier.number lo hi low
         high y py.0) in
         (λ i. queue_cmp (sym tx.2 i) (sym ty.2 i))
-        ∙ sym (λ i. ordering_then (c i) (queue_cmp (download_told x tx.0) (download_told y ty.0)))
+        ∙ sym (λ i. ordering_then (c i) (queue_cmp (download_from x tx.0) (download_from y ty.0)))
         ∙ less
 
     module _ (found later : List Download) (all : found ++ later
@@ -241,7 +241,7 @@ module _ (waits : FinMap wait_cmp Subject) (order : BTreeMap WaitKeyImpl (Unit {
             attempt =
                 (same i).attempt;
           })) ∙ is.1) in (
-            download_told k t.0,
+            download_from k t.0,
             ap (λ b. cond b (download_at broadcasts k) None) (within carrier.number lo hi low high k
                 minute
                 id attempt same small.0 small.1 small.2) ∙ t.1,

@@ -103,18 +103,18 @@ sole-content old mid id row versions same put =
 -- After the stale keys of the row before are deleted, the tables are indexed and have no new stale
 -- key.
 pub sole-taken : (old put new : Tables) (versions : FinMap nat_cmp VersionRow) (hints : Hints)
-    (id : ℕ) (row : VersionRow) (standing keys taken : VersionKeys) → id < 18446744073709551616
-    → ((r : VersionRow) → get (content_of old).versions id ≡ Some r → AreKeysOf id r standing)
-    → (get (content_of old).versions id ≡ None → AreNoKeys standing) → AreKeysOf id row keys
-    → AreUnneeded standing keys taken → content_of put ≡ content_of old → KeepIndexes old put
+    (id : ℕ) (row : VersionRow) (present_keys keys taken : VersionKeys) → id < 18446744073709551616
+    → ((r : VersionRow) → get (content_of old).versions id ≡ Some r → AreKeysOf id r present_keys)
+    → (get (content_of old).versions id ≡ None → AreNoKeys present_keys) → AreKeysOf id row keys
+    → AreUnneeded present_keys keys taken → content_of put ≡ content_of old → KeepIndexes old put
     → KeepOtherVersions keys put old → versions ≡ set (content_of put).versions id (Some row)
     → HaveKeys keys put → AreIndexed old
     → AreKeysTaken taken (record put { versions = versions; hints = hints }) new
     → AreIndexed new × AddNoStale old new
-sole-taken old put new versions hints id row standing keys taken small own without of left same
+sole-taken old put new versions hints id row present_keys keys taken small own without of left same
     keeps adds written there indexed is =
     let mid = record put { versions = versions; hints = hints } in
-    let by = left-by old mid id row standing keys taken own without of left adds
+    let by = left-by old mid id row present_keys keys taken own without of left adds
     (sole-content old put id row versions same written) in (
       indexed-beside mid new taken is by.unneeded
           (sole-indexed old put id row keys versions small same keeps written of there indexed),

@@ -40,27 +40,27 @@ abbrev pub number_at : (VersionRow → Option Subject) → ℕ → Option Versio
 number_at column block None = None
 number_at column block (Some row) = number_of block (column row)
 
-abbrev pub held_number : ℕ → Option VersionRow → Option ℕ
-held_number = number_at (λ row. row.holds)
+abbrev pub number_in_force : ℕ → Option VersionRow → Option ℕ
+number_in_force = number_at (λ row. row.holds)
 
-abbrev pub opened_number : ℕ → Option VersionRow → Option ℕ
-opened_number = number_at (λ row. row.opens)
+abbrev pub open_number : ℕ → Option VersionRow → Option ℕ
+open_number = number_at (λ row. row.opens)
 
 -- ---- the marks of a number
 
-abbrev pub has_held : Option Marks → Bool
-has_held None = false
-has_held (Some s) = s.is_in_force
+abbrev pub marked_in_force : Option Marks → Bool
+marked_in_force None = false
+marked_in_force (Some s) = s.is_in_force
 
-abbrev pub has_opened : Option Marks → Bool
-has_opened None = false
-has_opened (Some s) = s.is_open
+abbrev pub marked_open : Option Marks → Bool
+marked_open None = false
+marked_open (Some s) = s.is_open
 
-abbrev pub only_held : Option Marks → Marks
-only_held known = record { is_in_force = true; is_open = false }
+abbrev pub only_in_force : Option Marks → Marks
+only_in_force known = record { is_in_force = true; is_open = false }
 
 abbrev pub and_open : Option Marks → Marks
-and_open known = record { is_in_force = has_held known; is_open = true }
+and_open known = record { is_in_force = marked_in_force known; is_open = true }
 
 -- ---- the marks of all numbers
 
@@ -79,19 +79,19 @@ marked mark column block versions (e ∷ es) m =
     marked mark column block versions es
     (with_number mark (number_at column block (get versions e.0.id)) m)
 
-abbrev pub standings_of : BTreeMap Tn Marks → FinMap nat_cmp Marks
-standings_of m = map_of tn_of (λ s. s) m
+abbrev pub marks_of : BTreeMap Tn Marks → FinMap nat_cmp Marks
+marks_of m = map_of tn_of (λ s. s) m
 
 -- Holds if each number is marked as in force and as open exactly if it is so and is of the block,
 -- and no other number is in the map.
-pub record AreStandings (c : Content) (block : ℕ)
-    (standings : FinMap nat_cmp Marks) : Type 0 where
-  pub held : (n : ℕ) → Reflects (has_held (get standings n)) ((block_of n ≡ block)
+pub record AreMarks (c : Content) (block : ℕ)
+    (marks : FinMap nat_cmp Marks) : Type 0 where
+  pub in_force : (n : ℕ) → Reflects (marked_in_force (get marks n)) ((block_of n ≡ block)
       × HasRowInForce c (Number n))
-  pub opened : (n : ℕ) → Reflects (has_opened (get standings n)) ((block_of n ≡ block)
+  pub opened : (n : ℕ) → Reflects (marked_open (get marks n)) ((block_of n ≡ block)
       × HasOpenRow c (Number n))
   pub in_use : (n : ℕ)
-      → is_some (get standings n) ≡ (has_held (get standings n) || has_opened (get standings n))
+      → is_some (get marks n) ≡ (marked_in_force (get marks n) || marked_open (get marks n))
 
-abbrev pub number_told : Tn × Marks → NumberInUse
-number_told e = record { tn = e.0; is_in_force = e.1.is_in_force; is_open = e.1.is_open }
+abbrev pub number_in_use : Tn × Marks → NumberInUse
+number_in_use e = record { tn = e.0; is_in_force = e.1.is_in_force; is_open = e.1.is_open }

@@ -40,8 +40,8 @@ highest carrier = record {
 abbrev pub broadcast_of : WaitKeyImpl → BroadcastKeyImpl
 broadcast_of k = record { id = k.id; attempt = k.attempt }
 
-abbrev pub download_told : WaitKeyImpl → Broadcast → Download
-download_told k b = record {
+abbrev pub download_from : WaitKeyImpl → Broadcast → Download
+download_from k b = record {
   id = k.id;
   attempt = k.attempt;
   minute = k.minute;
@@ -53,7 +53,7 @@ download_told k b = record {
 -- The download with what its broadcast says of it, if the broadcast is there.
 abbrev pub download_at : BTreeMap BroadcastKeyImpl Broadcast → WaitKeyImpl → Option Download
 download_at broadcasts k =
-    option_map (download_told k) (tree.get (on broadcast_key_of broadcast_cmp) broadcasts
+    option_map (download_from k) (tree.get (on broadcast_key_of broadcast_cmp) broadcasts
     (broadcast_of k))
 
 -- ---- subjects

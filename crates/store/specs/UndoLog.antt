@@ -22,18 +22,18 @@ use Rattle.store.specs.Maps.{set}
 use Rattle.store.specs.TableLenses.{IsPutAt, carriers, lrns, codes, blocks, broadcasts}
 use Rattle.store.specs.Tables.{content_of, AreIndexed, IsKept, IsKeptBelow, IsVersionPut, AddNoStale}
 use Rattle.store.specs.declared.commit.UndoEntry.{UndoEntry}
-use Rattle.store.specs.declared.commit.UndoEntry.TheVariants as step
+use Rattle.store.specs.declared.commit.UndoEntry.TheVariants as entry
 use Rattle.store.specs.declared.tables.Tables.{Tables}
 
 -- Holds if the entry's row is written between `old` and `new`.
 abbrev pub IsPut : UndoEntry → Tables → Tables → Type 0
-IsPut (step.Carrier key before) old new = IsPutAt carriers key before old new
-IsPut (step.Lrn key before) old new = IsPutAt lrns key before old new
-IsPut (step.Code key before) old new = IsPutAt codes key before old new
-IsPut (step.Block key before) old new = IsPutAt blocks key before old new
-IsPut (step.Version id put) old new = (row : VersionRow) × IsVersionPut id row put old new
-IsPut (step.Broadcast key before) old new = IsPutAt broadcasts key before old new
-IsPut (step.Wait key) old new = (subject : Subject) × (new ≡ record old {
+IsPut (entry.Carrier key before) old new = IsPutAt carriers key before old new
+IsPut (entry.Lrn key before) old new = IsPutAt lrns key before old new
+IsPut (entry.Code key before) old new = IsPutAt codes key before old new
+IsPut (entry.Block key before) old new = IsPutAt blocks key before old new
+IsPut (entry.Version id put) old new = (row : VersionRow) × IsVersionPut id row put old new
+IsPut (entry.Broadcast key before) old new = IsPutAt broadcasts key before old new
+IsPut (entry.Wait key) old new = (subject : Subject) × (new ≡ record old {
   waits = set old.waits (wait_key_of key) (Some subject);
 }) × (get old.waits (wait_key_of key) ≡ None)
 
@@ -46,8 +46,7 @@ ArePut (s ∷ ss) old new = (mid : Tables) × IsPut s old mid × ArePut ss mid n
 abbrev pub CanUndo : UndoEntry → Tables → Type 0
 CanUndo s now = (start : Tables) × (mid : Tables) × IsPut s start mid × IsKept mid now
 
--- Holds if tables that keep what followed the entry's write become tables that keep what preceded
--- it.
+-- Holds if tables that are as after the entry's write become as they were before it.
 abbrev pub IsUndone : UndoEntry → Tables → Tables → Type 0
 IsUndone s old new = (start mid : Tables) → IsPut s start mid → IsKept mid old → IsKept start new
 
@@ -56,8 +55,8 @@ abbrev pub CanForget : UndoEntry → ℕ → Tables → Type 0
 CanForget s least now =
     (start : Tables) × (mid : Tables) × IsPut s start mid × IsKeptBelow least mid now
 
--- Holds if rows kept below `before` since the entry's write are kept below `after` since the moment
--- before it.
+-- Holds if `IsKeptBelow` with `before`, since the entry's write, becomes `IsKeptBelow` with
+-- `after`, since the moment before the write.
 abbrev pub IsForgotten : UndoEntry → (before after : ℕ) → Tables → Tables → Type 0
 IsForgotten s before after old new = (start mid : Tables) → IsPut s start mid
     → IsKeptBelow before mid old → IsKeptBelow after start new

@@ -7,7 +7,7 @@ ghost use Rattle.numbers.specs.Abstraction.{subject_of};
 ghost use Rattle.settle.specs.Reads.{AreInBlock};
 ghost use Rattle.settle.specs.Abstraction.{block_of};
 ghost use Rattle.store.specs.Tables.{content_of, subject_version_of, AreIndexed};
-ghost use Rattle.store.specs.BlockRows.{lowest, highest, tn_of, own_number, held_number, opened_number, and_open, standings_of, AreStandings, number_told};
+ghost use Rattle.store.specs.BlockRows.{lowest, highest, tn_of, own_number, number_in_force, open_number, and_open, marks_of, AreMarks, number_in_use};
 
 use crate::keys::SubjectVersion;
 use crate::tables::Tables;
@@ -48,17 +48,17 @@ fn own_number(block: BlockId, subject: Subject) -> Option<Tn>
 }
 
 // Returns the number of the block that the version with this id holds, if it holds one.
-fn held_number(tables: &Tables, block: BlockId, id: u64) -> Option<Tn>
+fn number_in_force(tables: &Tables, block: BlockId, id: u64) -> Option<Tn>
     ensures { option_map tn_of result
-        ≡ held_number block.number (get (content_of tables.now).versions id) }
+        ≡ number_in_force block.number (get (content_of tables.now).versions id) }
 {
     own_number(block, tables.versions.get(id)?.holds()?)
 }
 
 // Returns the number of the block that the version with this id opens, if it opens one.
-fn opened_number(tables: &Tables, block: BlockId, id: u64) -> Option<Tn>
+fn open_number(tables: &Tables, block: BlockId, id: u64) -> Option<Tn>
     ensures { option_map tn_of result
-        ≡ opened_number block.number (get (content_of tables.now).versions id) }
+        ≡ open_number block.number (get (content_of tables.now).versions id) }
 {
     own_number(block, tables.versions.get(id)?.opens()?)
 }
@@ -68,51 +68,51 @@ fn and_open(known: Option<Marks>) -> Marks
     ensures { result ≡ and_open known }
 {
     Marks {
-        is_in_force: known.is_some_and(|standing| standing.is_in_force),
+        is_in_force: known.is_some_and(|marks| marks.is_in_force),
         is_open: true,
     }
 }
 
 // Returns the marks of each number of the block that is in use.
-fn standings(
+fn marks_in_use(
     alloc: Global,
     tables: &Tables,
     block: BlockId,
 ) -> Result<BTreeMap<Tn, Marks>, AllocError>
     requires { AreIndexed tables.now }
     ensures { IfOk result (λ numbers.
-        AreStandings (content_of tables.now) block.number (standings_of numbers)) }
+        AreMarks (content_of tables.now) block.number (marks_of numbers)) }
 {
     let mut numbers = BTreeMap::new(alloc);
     for (key, _) in tables.holds.range(lowest(block)..=highest(block)) {
-        if let Some(tn) = held_number(tables, block, key.id) {
-            let standing = Marks {
+        if let Some(tn) = number_in_force(tables, block, key.id) {
+            let marks = Marks {
                 is_in_force: true,
                 is_open: false,
             };
-            let _ = numbers.insert(tn, standing)?;
+            let _ = numbers.insert(tn, marks)?;
         }
     }
     for (key, _) in tables.opens.range(lowest(block)..=highest(block)) {
-        if let Some(tn) = opened_number(tables, block, key.id) {
-            let standing = and_open(numbers.get(&tn).copied());
-            let _ = numbers.insert(tn, standing)?;
+        if let Some(tn) = open_number(tables, block, key.id) {
+            let marks = and_open(numbers.get(&tn).copied());
+            let _ = numbers.insert(tn, marks)?;
         }
     }
     Ok(numbers)
 }
 
 // Returns the numbers with their marks, ascending.
-fn rising(alloc: Global, numbers: &BTreeMap<Tn, Marks>) -> Result<Vec<NumberInUse>, AllocError>
-    ensures { IfOk result (λ found. (found.items ≡ map number_told numbers.now.entries)
+fn ascending(alloc: Global, numbers: &BTreeMap<Tn, Marks>) -> Result<Vec<NumberInUse>, AllocError>
+    ensures { IfOk result (λ found. (found.items ≡ map number_in_use numbers.now.entries)
         × IsOrdered (on tn_of nat_cmp) numbers.now) }
 {
     let mut found = Vec::new(alloc);
-    for (tn, standing) in numbers.iter() {
+    for (tn, marks) in numbers.iter() {
         found.push(NumberInUse {
             tn: *tn,
-            is_in_force: standing.is_in_force,
-            is_open: standing.is_open,
+            is_in_force: marks.is_in_force,
+            is_open: marks.is_open,
         })?;
     }
     Ok(found)
@@ -129,6 +129,6 @@ pub fn in_block(
     ensures { IfOk result
         (λ numbers. AreInBlock (content_of tables.now) (block_of block) numbers.items) }
 {
-    let numbers = standings(alloc, tables, block)?;
-    rising(alloc, &numbers)
+    let numbers = marks_in_use(alloc, tables, block)?;
+    ascending(alloc, &numbers)
 }

@@ -3,8 +3,8 @@
 use delivery::{Broadcast, Download, DownloadKey, RoutedRow};
 use numbers::{BlockId, CodeId, Lrn, Minute, Spid, Subject};
 use settle::{
-    BlockRow, BroadcastKey, Changes, ClockRow, Few, NumberedRow, Store, StoreFault, VersionRow,
-    WaitKey,
+    BlockRow, BroadcastKey, Changes, ClockRow, Few, NumberedRow, Store, StoreFault, StoreModel,
+    VersionRow, WaitKey,
 };
 use std::cell::Cell;
 use version::NumberInUse;
@@ -20,7 +20,7 @@ pub struct CommitCounter<'a, S: Store> {
     pub commits: &'a Cell<u64>,
 }
 
-impl<S: Store> Store for CommitCounter<'_, S> {
+impl<S: Store> StoreModel for CommitCounter<'_, S> {
     ghost content = { λ s. S.content s.store };
 
     ghost IsUsable = { λ s. S.IsUsable s.store };
@@ -32,7 +32,9 @@ impl<S: Store> Store for CommitCounter<'_, S> {
     ghost failed = { λ s. S.failed s.store };
 
     ghost faults = { λ s. S.faults s.store };
+}
 
+impl<S: Store> Store for CommitCounter<'_, S> {
     ghost leaves_content = { λ s m usable left. S.leaves_content s.store m usable left };
 
     ghost usable_is_honest = { λ s usable. S.usable_is_honest s.store usable };

@@ -8,8 +8,8 @@ ghost use Rattle.store.specs.Countdown.{after_failing, one_fewer};
 use delivery::{Broadcast, Download, DownloadKey, RoutedRow};
 use numbers::{BlockId, CodeId, Lrn, Minute, Spid, Subject};
 use settle::{
-    BlockRow, BroadcastKey, Changes, ClockRow, Few, NumberedRow, Store, StoreFault, VersionRow,
-    WaitKey,
+    BlockRow, BroadcastKey, Changes, ClockRow, Few, NumberedRow, Store, StoreFault, StoreModel,
+    VersionRow, WaitKey,
 };
 use version::NumberInUse;
 use windows::Windows;
@@ -75,7 +75,7 @@ impl<S: Store> Flaky<S> {
 
     // Precedes each call. Returns `Err` for the call that fails, which does not reach the store
     // below.
-    fn meet(&mut self) -> Result<(), StoreFault>
+    fn count_down(&mut self) -> Result<(), StoreFault>
         ensures same { self.new.store ≡ self.old.store }
         ensures rises { self.old.failures ≤ self.new.failures }
         ensures fault { OnErr result (result ≡ Err StoreFault.Storage) }
@@ -121,7 +121,7 @@ fn counted<A>(failures: &mut u64, answer: Result<A, StoreFault>) -> Result<A, St
     }
 }
 
-impl<S: Store> Store for Flaky<S> {
+impl<S: Store> StoreModel for Flaky<S> {
     ghost content = { λ s. S.content s.store };
 
     ghost IsUsable = { λ s. S.IsUsable s.store };
@@ -139,63 +139,65 @@ impl<S: Store> Store for Flaky<S> {
     ghost IsStep = { λ old new tells.
         CountsDown old.before old.failing new.before tells (new.store ≡ old.store)
         × (new.failing ≡ old.failing) };
+}
 
+impl<S: Store> Store for Flaky<S> {
     ghost leaves_content = { λ s. S.leaves_content s.store };
 
     ghost usable_is_honest = { λ s. S.usable_is_honest s.store };
 
     fn clock(&mut self) -> Result<Option<ClockRow>, StoreFault> {
-        self.meet()?;
+        self.count_down()?;
         counted(&mut self.failures, self.store.clock())
     }
 
     fn carrier(&mut self, spid: Spid) -> Result<bool, StoreFault> {
-        self.meet()?;
+        self.count_down()?;
         counted(&mut self.failures, self.store.carrier(spid))
     }
 
     fn lrn(&mut self, lrn: Lrn) -> Result<Option<Spid>, StoreFault> {
-        self.meet()?;
+        self.count_down()?;
         counted(&mut self.failures, self.store.lrn(lrn))
     }
 
     fn code(&mut self, code: CodeId) -> Result<Option<Spid>, StoreFault> {
-        self.meet()?;
+        self.count_down()?;
         counted(&mut self.failures, self.store.code(code))
     }
 
     fn block(&mut self, block: BlockId) -> Result<Option<BlockRow>, StoreFault> {
-        self.meet()?;
+        self.count_down()?;
         counted(&mut self.failures, self.store.block(block))
     }
 
     fn window_set(&mut self, number: u16) -> Result<Option<Windows>, StoreFault> {
-        self.meet()?;
+        self.count_down()?;
         counted(&mut self.failures, self.store.window_set(number))
     }
 
     fn version(&mut self, id: u64) -> Result<Option<VersionRow>, StoreFault> {
-        self.meet()?;
+        self.count_down()?;
         counted(&mut self.failures, self.store.version(id))
     }
 
     fn version_in_force(&mut self, subject: Subject) -> Result<Option<NumberedRow>, StoreFault> {
-        self.meet()?;
+        self.count_down()?;
         counted(&mut self.failures, self.store.version_in_force(subject))
     }
 
     fn open_version(&mut self, subject: Subject) -> Result<Option<NumberedRow>, StoreFault> {
-        self.meet()?;
+        self.count_down()?;
         counted(&mut self.failures, self.store.open_version(subject))
     }
 
     fn least_due(&mut self, now: Minute) -> Result<Option<NumberedRow>, StoreFault> {
-        self.meet()?;
+        self.count_down()?;
         counted(&mut self.failures, self.store.least_due(now))
     }
 
     fn broadcast(&mut self, key: BroadcastKey) -> Result<Option<Broadcast>, StoreFault> {
-        self.meet()?;
+        self.count_down()?;
         counted(&mut self.failures, self.store.broadcast(key))
     }
 
@@ -204,52 +206,52 @@ impl<S: Store> Store for Flaky<S> {
         spid: Spid,
         subject: Subject,
     ) -> Result<Few<DownloadKey>, StoreFault> {
-        self.meet()?;
+        self.count_down()?;
         counted(&mut self.failures, self.store.waits_about(spid, subject))
     }
 
     fn waits(&mut self, spid: Spid) -> Result<Vec<Subject>, StoreFault> {
-        self.meet()?;
+        self.count_down()?;
         counted(&mut self.failures, self.store.waits(spid))
     }
 
     fn front(&mut self, spid: Spid, many: usize) -> Result<Vec<Download>, StoreFault> {
-        self.meet()?;
+        self.count_down()?;
         counted(&mut self.failures, self.store.front(spid, many))
     }
 
     fn waiters(&mut self, minute: Minute, key: BroadcastKey) -> Result<Vec<Spid>, StoreFault> {
-        self.meet()?;
+        self.count_down()?;
         counted(&mut self.failures, self.store.waiters(minute, key))
     }
 
     fn is_last_wait(&mut self, wait: WaitKey) -> Result<bool, StoreFault> {
-        self.meet()?;
+        self.count_down()?;
         counted(&mut self.failures, self.store.is_last_wait(wait))
     }
 
     fn carriers(&mut self) -> Result<Vec<Spid>, StoreFault> {
-        self.meet()?;
+        self.count_down()?;
         counted(&mut self.failures, self.store.carriers())
     }
 
     fn open_broadcasts(&mut self) -> Result<Vec<(BroadcastKey, Broadcast)>, StoreFault> {
-        self.meet()?;
+        self.count_down()?;
         counted(&mut self.failures, self.store.open_broadcasts())
     }
 
     fn in_force(&mut self) -> Result<Vec<RoutedRow>, StoreFault> {
-        self.meet()?;
+        self.count_down()?;
         counted(&mut self.failures, self.store.in_force())
     }
 
     fn in_block(&mut self, block: BlockId) -> Result<Vec<NumberInUse>, StoreFault> {
-        self.meet()?;
+        self.count_down()?;
         counted(&mut self.failures, self.store.in_block(block))
     }
 
     fn commit(&mut self, changes: &Changes) -> Result<(), StoreFault> {
-        self.meet()?;
+        self.count_down()?;
         counted(&mut self.failures, self.store.commit(changes))
     }
 

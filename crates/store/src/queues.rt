@@ -72,7 +72,7 @@ fn highest(carrier: Spid) -> WaitKey
 }
 
 // Returns the download with what its broadcast says of it, if the broadcast is there.
-fn told(broadcasts: &BTreeMap<BroadcastKey, Broadcast>, wait: WaitKey) -> Option<Download>
+fn download_at(broadcasts: &BTreeMap<BroadcastKey, Broadcast>, wait: WaitKey) -> Option<Download>
     ensures { result ≡ download_at broadcasts.now wait }
 {
     let broadcast = broadcasts.get(&BroadcastKey {
@@ -90,7 +90,7 @@ fn told(broadcasts: &BTreeMap<BroadcastKey, Broadcast>, wait: WaitKey) -> Option
 }
 
 // Returns the subjects, ascending.
-fn rising(alloc: Global, subjects: &BTreeMap<Subject, ()>) -> Result<Vec<Subject>, AllocError>
+fn ascending(alloc: Global, subjects: &BTreeMap<Subject, ()>) -> Result<Vec<Subject>, AllocError>
     ensures { IfOk result (λ found. (found.items ≡ keys subjects.now)
         × IsOrdered (on key_of nat_cmp) subjects.now) }
 {
@@ -139,11 +139,11 @@ impl Queues {
             (self.new ≡ set self.old (wait_key_of key) (Some (subject_of subject))) }
         ensures err { OnErr result (self.new ≡ self.old) }
     {
-        let stood = self.order.insert(key, ())?;
+        let was_there = self.order.insert(key, ())?;
         match self.waits.put(key, subject) {
             Ok(before) => Ok(before),
             Err(refused) => {
-                if stood.is_none() {
+                if was_there.is_none() {
                     let _ = self.order.remove(&key);
                 }
                 Err(refused)
@@ -186,7 +186,7 @@ impl Queues {
                 let _ = subjects.insert(subject, ())?;
             }
         }
-        rising(alloc, &subjects)
+        ascending(alloc, &subjects)
     }
 
     /// Returns the first `many` downloads of the carrier's queue, or all if there are fewer. Reads
@@ -209,7 +209,7 @@ impl Queues {
             if found.len() == many {
                 return Ok(found);
             }
-            if let Some(download) = told(broadcasts, *key) {
+            if let Some(download) = download_at(broadcasts, *key) {
                 found.push(download)?;
             }
         }

@@ -21,7 +21,7 @@ fn is_among(carrier: Spid, carriers: &[Spid]) -> bool
     carriers.iter().any(|each| carrier.number == each.number)
 }
 
-fn take_out(carrier: Spid, carriers: &mut Vec<Spid>)
+fn remove_carrier(carrier: Spid, carriers: &mut Vec<Spid>)
     ensures { carriers.new.items
         ≡ filter (λ (k : Spid). not (carrier.number == k.number)) carriers.old.items }
 {
@@ -75,6 +75,6 @@ impl Waiting {
     pub fn take(&mut self, carrier: Spid)
         ensures { IsWithout carrier.number (waiting_of self.old) (waiting_of self.new) }
     {
-        take_out(carrier, &mut self.carriers);
+        remove_carrier(carrier, &mut self.carriers);
     }
 }

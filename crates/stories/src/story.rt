@@ -13,7 +13,7 @@ use windows::Windows;
 /// The byte between the connections of a story.
 pub const BREAK: u8 = 30;
 
-/// Reads bytes in pieces of at most this size.
+/// A reader of bytes, in pieces of at most this size.
 #[derive(Drop)]
 pub struct Pieces<'a> {
     pub rest: &'a [u8],
@@ -21,7 +21,7 @@ pub struct Pieces<'a> {
 }
 
 impl<'a> Pieces<'a> {
-    /// Makes one piece of all the bytes.
+    /// Creates a reader of all the bytes in one piece.
     pub fn whole(rest: &'a [u8]) -> Pieces<'a> {
         Pieces {
             rest,

@@ -6,7 +6,7 @@ use Rattle.std.proofs.lemmas.Bool.{and_parts}
 use Rattle.std.proofs.lemmas.Bool.Decides.{nat_tests}
 use Rattle.telnp.specs.declared.fault.TelFault.{TelFault}
 use Rattle.telnp.specs.declared.fault.TelFault.TheVariants.{NotTel, BadNumber, BadParameter, ParameterTwice, LocalNumber, TooLong}
-use Rattle.telnp.specs.Grammar.{cut, is_global, is_local, is_parameter, lower, repeats}
+use Rattle.telnp.specs.Grammar.{cut, is_global, is_local, is_parameter, lower, has_repetition}
 use Rattle.telnp.specs.Uri.{written}
 use Rattle.telnp.specs.Faults.{parts, fault_of, fault_in_rest, first_fault, rest_of, number_of, parameter_parts}
 use Rattle.telnp.specs.Laws.{HasFault, IsCutUp, FaultsAreInOrder}
@@ -79,7 +79,7 @@ RestFault number parameters BadParameter =
     (is_global number ≡ true) × (list_all is_parameter parameters ≡ false)
 RestFault number parameters ParameterTwice =
     (is_global number ≡ true) × (list_all is_parameter parameters ≡ true)
-    × (repeats parameters ≡ true)
+    × (has_repetition parameters ≡ true)
 
 abbrev Tested : Bool → Bool → Bool → Bool → Option TelFault
 Tested global local formed again =
@@ -91,7 +91,7 @@ same f g e = cc
 
 tested : (number : List ℕ) (ps : List (List ℕ)) (global local formed again : Bool) (f : TelFault)
     → is_global number ≡ global → is_local number ≡ local → list_all is_parameter ps ≡ formed
-    → repeats ps ≡ again
+    → has_repetition ps ≡ again
     → Tested global local formed again ≡ Some f → RestFault number ps f
 tested number ps false true formed again f g l p r e =
     subst (RestFault number ps) (same LocalNumber f e) (g, l)
@@ -134,7 +134,7 @@ from_fault text f false e h = let short : length text ≤ 2048 = grind (arith, n
 -- A cut text has the fault that its parts lead to.
 rest_is : (text number : List ℕ) (ps : List (List ℕ)) → IsCutUp text number ps
     → fault_of text ≡ Tested (is_global number) (is_local number) (list_all is_parameter ps)
-    (repeats ps)
+    (has_repetition ps)
 rest_is text number ps u =
     let rest : rest_of text ≡ Some (number ++ written ps) =
     rw u.whole (scheme_cut u.scheme (number ++ written ps) u.scheme_is) in

@@ -4,7 +4,7 @@ use Rattle.std.specs.Prelude.{nat_lt}
 use Rattle.std.specs.List.{onto_first, list_all}
 use Rattle.std.proofs.lemmas.Bool.Decides.{nat_tests}
 use Rattle.std.proofs.lemmas.Slice.Eq.{bytes_eq-Decides}
-use Rattle.telnp.specs.Grammar.{cut, is_global, is_local, is_parameter, repeats, same_name, lower}
+use Rattle.telnp.specs.Grammar.{cut, is_global, is_local, is_parameter, has_repetition, same_name, lower}
 use Rattle.telnp.specs.Faults.{parts, fault_in_rest, fault_in_number, fault_in_parts, first_fault, after_tel, rest_of, number_of, parameter_parts, IsRead}
 use Rattle.telnp.specs.declared.fault.TelFault.{TelFault}
 use Rattle.telnp.specs.declared.fault.TelFault.TheVariants.{TooLong, LocalNumber, BadNumber, BadParameter, ParameterTwice}
@@ -78,11 +78,12 @@ global_from number e = (chosen_global (is_global number) (is_local number) e)
     chosen_global false c e = let h = one_of_none c LocalNumber BadNumber e in cc
 
 parts_from : (ps : List (List ℕ)) → fault_in_parts ps ≡ None → (list_all is_parameter ps ≡ true)
-    × (repeats ps ≡ false)
+    × (has_repetition ps ≡ false)
 parts_from ps e =
-    let h = chosen_none (list_all is_parameter ps) (cond (repeats ps) (Some ParameterTwice) None)
+    let h = chosen_none (list_all is_parameter ps) (cond (has_repetition ps) (Some ParameterTwice)
+    None)
     BadParameter e in
-    (h.0, (unchosen (repeats ps) ParameterTwice None h.1).0)
+    (h.0, (unchosen (has_repetition ps) ParameterTwice None h.1).0)
 
 pub tel_scheme : (text rest : List ℕ) (found : Option Cut) → cut 58 text ≡ found
     → after_tel found ≡ Some rest

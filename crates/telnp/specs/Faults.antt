@@ -2,7 +2,7 @@
 use Rattle.std.specs.Prelude.{◌≡◌, ℕ, ◌==◌, nat_lt, if◌then◌else◌, List, [], length, codes, Option, Some, None, option_map}
 use Rattle.std.specs.List.{list_all, slice_split}
 use Rattle.std.specs.Option.{option_map_or}
-use Rattle.telnp.specs.Grammar.{cut, is_global, is_local, is_parameter, repeats, same_name}
+use Rattle.telnp.specs.Grammar.{cut, is_global, is_local, is_parameter, has_repetition, same_name}
 use Rattle.telnp.specs.declared.fault.TelFault.{TelFault}
 use Rattle.telnp.specs.declared.fault.TelFault.TheVariants.{NotTel, BadNumber, BadParameter, ParameterTwice, LocalNumber, TooLong}
 
@@ -34,7 +34,7 @@ fault_in_number bs = if is_global bs then None else if is_local bs then Some Loc
 
 -- The fault of the parameters. The form of each is tested before any is tested for repetition.
 abbrev pub fault_in_parts : List (List ℕ) → Option TelFault
-fault_in_parts ps = if list_all is_parameter ps then (if repeats ps then Some ParameterTwice
+fault_in_parts ps = if list_all is_parameter ps then (if has_repetition ps then Some ParameterTwice
     else None) else Some BadParameter
 
 abbrev pub first_fault : Option TelFault → Option TelFault → Option TelFault

@@ -73,14 +73,14 @@ abbrev pub name_of : List ℕ → List ℕ
 name_of part = (parameter_of part).name
 
 -- Whether the name must have a value: `rn`, `cic`, `rn-context` and `cic-context` of RFC 4694.
-abbrev pub wants_value : List ℕ → Bool
-wants_value name = same_name name (codes "rn") || same_name name (codes "cic") || same_name name
+abbrev pub requires_value : List ℕ → Bool
+requires_value name = same_name name (codes "rn") || same_name name (codes "cic") || same_name name
     (codes "rn-context") || same_name name (codes "cic-context")
 
 -- Whether a parameter may have this value or none: some names must have one, and `npdi` of RFC 4694
 -- must not.
 abbrev pub is_valued : List ℕ → Option (List ℕ) → Bool
-is_valued name None = not (wants_value name)
+is_valued name None = not (requires_value name)
 is_valued name (Some v) = is_value v && not (same_name name (codes "npdi"))
 
 -- Whether the part is a parameter: a name, or a name, `=` and a value.
@@ -97,5 +97,5 @@ abbrev pub times : List ℕ → List (List ℕ) → ℕ
 times name parameters = length (filter (λ part. same_name (name_of part) name) parameters)
 
 -- Whether two of the parameters have the same name.
-abbrev pub repeats : List (List ℕ) → Bool
-repeats parameters = list_any (λ part. nat_lt 1 (times (name_of part) parameters)) parameters
+abbrev pub has_repetition : List (List ℕ) → Bool
+has_repetition parameters = list_any (λ part. nat_lt 1 (times (name_of part) parameters)) parameters

@@ -5,7 +5,7 @@ use Rattle.std.specs.List.Sorted.{IsPermutation, IsSortedByKey}
 use Rattle.std.specs.Ordering.{nat_cmp}
 use Rattle.std.specs.Cmp.Lexicographic.{slice_cmp}
 use Rattle.numbers.specs.Routings.{Routing}
-use Rattle.telnp.specs.Grammar.{is_global, is_local, is_parameter, lower, repeats}
+use Rattle.telnp.specs.Grammar.{is_global, is_local, is_parameter, lower, has_repetition}
 use Rattle.telnp.specs.Uri.{IsTelUri, written}
 use Rattle.telnp.specs.Faults.{IsRead, fault_of}
 use Rattle.telnp.specs.declared.fault.TelFault.{TelFault}
@@ -18,8 +18,8 @@ TelUrisAreRead = (text number : List ℕ) (parameters : List (List ℕ))
     → IsTelUri text number parameters → IsRead text number parameters
 
 -- Whether none of the bytes is the mark.
-abbrev pub holds_no : ℕ → List ℕ → Bool
-holds_no mark = list_all (λ b. not (b == mark))
+abbrev pub is_free_of : ℕ → List ℕ → Bool
+is_free_of mark = list_all (λ b. not (b == mark))
 
 -- Holds if the text has at most 2,048 bytes and begins with `tel:`, and these are its parts between
 -- semicolons: the number part before the first, and the parameters after each.
@@ -28,8 +28,8 @@ pub record IsCutUp (text number : List ℕ) (parameters : List (List ℕ)) : Typ
   pub whole : text ≡ scheme ++ 58 ∷ (number ++ written parameters)
   pub scheme_is : lower scheme ≡ codes "tel"
   pub short : length text ≤ 2048
-  pub number_uncut : holds_no 59 number ≡ true
-  pub parameters_uncut : list_all (holds_no 59) parameters ≡ true
+  pub number_uncut : is_free_of 59 number ≡ true
+  pub parameters_uncut : list_all (is_free_of 59) parameters ≡ true
 
 -- Holds if the text begins with `tel:` and its number part and parameters satisfy a relation.
 abbrev pub CutsInto : List ℕ → (List ℕ → List (List ℕ) → Type 0) → Type 0
@@ -49,7 +49,7 @@ HasFault BadParameter text = CutsInto text (λ number parameters. (is_global num
     × (list_all is_parameter parameters ≡ false))
 HasFault ParameterTwice text = CutsInto text (λ number parameters.
     (is_global number ≡ true) × (list_all is_parameter parameters ≡ true)
-    × (repeats parameters ≡ true))
+    × (has_repetition parameters ≡ true))
 
 -- Holds if each fault is reported exactly in the order of tests.
 abbrev pub FaultsAreInOrder : Type 0

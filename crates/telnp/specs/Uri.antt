@@ -1,7 +1,7 @@
 -- A tel URI, as a relation of a text, its number part and its parameters.
 use Rattle.std.specs.Prelude.{◌≡◌, ℕ, ◌≤◌, true, false, List, ◌∷◌, ◌++◌, length, codes}
 use Rattle.std.specs.List.{list_all, flat_map}
-use Rattle.telnp.specs.Grammar.{is_global, is_parameter, lower, repeats}
+use Rattle.telnp.specs.Grammar.{is_global, is_parameter, lower, has_repetition}
 
 -- The text of parameters, each after a `;`.
 abbrev pub written : List (List ℕ) → List ℕ
@@ -31,4 +31,4 @@ pub record IsTelUri (text number : List ℕ) (parameters : List (List ℕ)) : Ty
   -- pvalue]; RFC 4694, section 4, par =/ rn / cic / npdi.
   pub parameters_are : list_all is_parameter parameters ≡ true
   -- RFC 3966, section 3: each parameter name must not appear more than once.
-  pub once : repeats parameters ≡ false
+  pub once : has_repetition parameters ≡ false

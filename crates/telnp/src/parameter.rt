@@ -3,7 +3,7 @@
 ghost use Rattle.std.specs.Prelude.{◌≡◌};
 ghost use Rattle.std.specs.List.{list_all};
 ghost use Rattle.telnp.specs.Bytes.{is_name_byte};
-ghost use Rattle.telnp.specs.Grammar.{is_name, is_value, is_value_rest, wanted_after, wants_value, is_valued, is_parameter, parameter_of, name_of};
+ghost use Rattle.telnp.specs.Grammar.{is_name, is_value, is_value_rest, wanted_after, requires_value, is_valued, is_parameter, parameter_of, name_of};
 ghost use Rattle.telnp.specs.Abstraction.{parameter_model};
 
 use crate::bytes::{is_hex, is_name_byte, is_value_byte};
@@ -84,8 +84,8 @@ fn is_value(value: &[u8]) -> bool
     wanted == 0 && !value.is_empty()
 }
 
-fn wants_value(name: &str) -> bool
-    ensures { result ≡ wants_value name.now }
+fn requires_value(name: &str) -> bool
+    ensures { result ≡ requires_value name.now }
 {
     same_name(name, "rn")
         || same_name(name, "cic")
@@ -98,7 +98,7 @@ pub fn is_parameter(part: &str) -> bool
     ensures { result ≡ is_parameter part.now }
 {
     match cut_at(part, '=') {
-        None => is_name(part.as_bytes()) && !wants_value(part),
+        None => is_name(part.as_bytes()) && !requires_value(part),
         Some((name, value)) => {
             is_name(name.as_bytes()) && is_value(value.as_bytes()) && !same_name(name, "npdi")
         }

@@ -3,7 +3,7 @@
 ghost use Rattle.std.specs.Prelude.{◌≡◌, ◌∷◌, [], ◌<◌, length, IfSome};
 ghost use Rattle.std.specs.List.{list_all};
 ghost use Rattle.std.specs.Option.{option_map_or};
-ghost use Rattle.telnp.specs.Grammar.{is_parameter, has_name, times, repeats};
+ghost use Rattle.telnp.specs.Grammar.{is_parameter, has_name, times, has_repetition};
 ghost use Rattle.telnp.specs.Faults.{fault_in_parts, parts};
 
 use crate::fault::TelFault;
@@ -47,8 +47,8 @@ fn times(name: &str, parameters: &str) -> usize
         .count()
 }
 
-fn repeats(parameters: &str) -> bool
-    ensures { result ≡ repeats (parts 59 parameters.now) }
+fn has_repetition(parameters: &str) -> bool
+    ensures { result ≡ has_repetition (parts 59 parameters.now) }
 {
     parameters
         .split(';')
@@ -61,7 +61,7 @@ pub fn parameters_fault(parameters: &str) -> Option<TelFault>
 {
     if !are_parameters(parameters) {
         Some(TelFault::BadParameter)
-    } else if repeats(parameters) {
+    } else if has_repetition(parameters) {
         Some(TelFault::ParameterTwice)
     } else {
         None

@@ -30,28 +30,28 @@ impl Version {
     pub(crate) fn modified(
         &self,
         caller: Spid,
-        told: CommandFacts,
+        facts: CommandFacts,
         routing: Routing,
         minute: Minute,
         present: &WindowSet,
     ) -> Result<Transition, Refusal>
-        ensures refusal { (w held : Windows)
+        ensures refusal { (w windows : Windows)
             → refusal_in result
-            ≡ own_refusal w minute.number caller.number told
+            ≡ own_refusal w minute.number caller.number facts
             (modifying (routing_of routing)) (subject_of self.now.subject)
-            (model_with_windows held self.now) }
+            (model_with_windows windows self.now) }
         ensures step { IfOk result
             (IsTransition (set_of present.now) caller.number minute.number
             (modifying (routing_of routing))
             self.now) }
     {
-        if is_lrn_bad(self, told.is_lrn_good) {
+        if is_lrn_bad(self, facts.is_lrn_good) {
             return Err(Refusal::BadLrn);
         }
         if caller.number != self.new_provider.number {
             return Err(Refusal::NotYours);
         }
-        if told.is_another_open {
+        if facts.is_another_open {
             return Err(Refusal::Busy);
         }
         if !matches!(self.status, Status::Active) {

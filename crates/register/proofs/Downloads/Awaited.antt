@@ -122,10 +122,11 @@ answers_awaited old new caller subjects known same are =
 
 -- ---- the carrier's copy of every other subject
 
-told : (number : Option ℕ) (xs ys : List Subject) → Awaited xs ≡ refused_or number (Awaited ys)
+subjects_answered : (number : Option ℕ) (xs ys : List Subject)
+    → Awaited xs ≡ refused_or number (Awaited ys)
     → (number ≡ None) × (ys ≡ xs)
-told None xs ys e = (refl, (let f : Awaited xs ≡ Awaited ys = e in cc))
-told (Some k) xs ys e = let f : Awaited xs ≡ Refused k = e in cc
+subjects_answered None xs ys e = (refl, (let f : Awaited xs ≡ Awaited ys = e in cc))
+subjects_answered (Some k) xs ys e = let f : Awaited xs ≡ Refused k = e in cc
 
 nothing_waits : (s : Subject) (ds : List Download)
     → (Contains (each_once (map (λ (d : Download). d.subject) ds)) s → ⊥)
@@ -154,7 +155,7 @@ holds_all_but old new caller subjects answers st refines = λ s none.
       history = refines.represents.history;
     } in
     let reply =
-    told (refusal st (QuestionFrom caller Waiting)) subjects
+    subjects_answered (refusal st (QuestionFrom caller Waiting)) subjects
     (each_once (map (λ (d : Download). d.subject) (queue st caller))) (answers st refines).0 in
     let known : is_carrier st caller ≡ true =
     known_by (is_carrier st caller) (sym (waiting_by st caller) ∙ reply.0) in

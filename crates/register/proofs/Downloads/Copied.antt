@@ -27,10 +27,11 @@ known_by true e = refl
 known_by false e = let f : ◌≡◌ {A = Option ℕ} (Some 1) None = e in cc
 
 -- The machine's downloads, if the answer has downloads.
-told : (number : Option ℕ) (xs ys : List Download) → Fetched xs ≡ refused_or number (Fetched ys)
+downloads_answered : (number : Option ℕ) (xs ys : List Download)
+    → Fetched xs ≡ refused_or number (Fetched ys)
     → (number ≡ None) × (ys ≡ xs)
-told None xs ys e = (refl, (let f : Fetched xs ≡ Fetched ys = e in cc))
-told (Some k) xs ys e = let f : Fetched xs ≡ Refused k = e in cc
+downloads_answered None xs ys e = (refl, (let f : Fetched xs ≡ Fetched ys = e in cc))
+downloads_answered (Some k) xs ys e = let f : Fetched xs ≡ Refused k = e in cc
 
 pub holds_published : (old new : Content) (caller many : ℕ) (downloads : List DownloadImpl)
     → SimulatesStep old new (QuestionFrom caller (Fetch many))
@@ -43,7 +44,8 @@ holds_published old new caller many downloads answers none some st refines =
       windows = refines.represents.windows;
       history = refines.represents.history;
     } in
-    let reply = told (refusal st (QuestionFrom caller (Fetch many))) (map download_of downloads)
+    let reply = downloads_answered (refusal st (QuestionFrom caller (Fetch many)))
+    (map download_of downloads)
     (take many (queue st caller)) (answers st refines).0 in
     let empty : queue st caller ≡ [] =
     none_taken many (queue st caller) some (reply.1 ∙ ap (map download_of) none) in

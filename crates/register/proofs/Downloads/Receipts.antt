@@ -32,7 +32,7 @@ use Rattle.register.proofs.EveryCall.Settled.{IdSettled, row_now, row_settled}
 use Rattle.requests.specs.Calls.{refused_with}
 use Rattle.settle.specs.Fired.{retired_rows, IsSuperseded}
 use Rattle.version.specs.Acknowledging.{is_sending, completed_if, completes}
-use Rattle.register.specs.Acknowledging.{answered_row, own_rows, acknowledgement_changes, IsFound, IsTaken, IsTakenBy, TakesIt, all_changes, windows_after}
+use Rattle.register.specs.Acknowledging.{answered_row, own_rows, acknowledgement_changes, IsFound, IsAcknowledged, IsAcknowledgedBy, IsAcknowledgedAs, all_changes, windows_after}
 use Rattle.register.specs.Deciding.{Decides}
 use Rattle.requests.specs.declared.call.Reply.{Reply}
 use Rattle.register.specs.Looking.{AreHeld}
@@ -517,23 +517,24 @@ pub taken_by : (last : Bool) (old mid : Content) (clock : ClockRow) (held : Wind
     (wait : WaitKey) (v : VersionImpl) (changes : Changes) (result : Result Reply Refusal) →
     mid ≡ old →
     last ≡ is_last_wait old wait →
-    IfOk result (TakesIt last mid clock held wait v changes) →
-    IfOk result (IsTakenBy old clock held wait v changes)
+    IfOk result (IsAcknowledgedAs last mid clock held wait v changes) →
+    IfOk result (IsAcknowledgedBy old clock held wait v changes)
 taken_by last old mid clock held wait v changes (Ok reply) same is takes =
-    subst (λ k. TakesIt last k clock held wait v changes reply) same takes is
+    subst (λ k. IsAcknowledgedAs last k clock held wait v changes reply) same takes is
 taken_by last old mid clock held wait v changes (Err r) same is takes = tt
 
 -- The decision by the result of the acknowledgement.
 pub decides_taken : (old mid : Content) (input : Input) (clock : ClockRow) (held : Windows)
     (wait : WaitKey) (v : VersionImpl) (changes : Changes) (result : Result Reply Refusal) →
-    IfOk result (IsTakenBy mid clock held wait v changes) →
+    IfOk result (IsAcknowledgedBy mid clock held wait v changes) →
     IfErr result (λ r. nat_lt (number_of r) 29 ≡ false) → mid ≡ old →
-    ((m : Content) (view : View) → IsTaken old m clock held wait v view →
+    ((m : Content) (view : View) → IsAcknowledged old m clock held wait v view →
     SimulatesSettledStep old m input (Some (Shown (Some view)))) → Decides old input changes result
 decides_taken old mid input clock held wait v changes (Ok reply) taken fault same each = record {
   refused = tt;
   accepted = λ m changed.
-      let shown = subst (λ k. IsTakenBy k clock held wait v changes reply) same taken m changed in
+      let shown = subst (λ k. IsAcknowledgedBy k clock held wait v changes reply) same taken m
+      changed in
       subst (λ r. SimulatesSettledStep old m input (Some r)) (sym shown.1) (each m shown.0 shown.2);
 }
 decides_taken old mid input clock held wait v changes (Err r) taken fault same each =

@@ -21,6 +21,7 @@ use Rattle.model.proofs.Ids.{same_subject}
 use Rattle.model.proofs.Lagging.{no_row_at, row_has_id}
 use Rattle.settle.specs.StoreContract.{PreservesStore, ReportsStorage}
 use Rattle.settle.specs.Settling.{PreservesState, FramesRows, Settles, is_one_of}
+use Rattle.settle.specs.declared.store_model.StoreModel.{Ghosts}
 use Rattle.settle.proofs.Settled.{rows_joined}
 use Rattle.settle.proofs.Risen.{risen-since}
 use Rattle.register.specs.Refinement.{Refines, SimulatesStep}
@@ -148,18 +149,18 @@ module _ (old mid new : Content) (input : Input)
 
 -- A call keeps its promises if its settling does and, with its subjects settled, the rest of it
 -- does.
-pub owes_after : {S : Type 0} (IsUsable HasHonestDevice : S → Type 0) (failed : S
-    → ℕ) (before middle after : S) {Settles Faults Answers Says : Type 0} (old mid : Content)
+pub owes_after : {S : Type 0} (store : Ghosts S) (before middle after : S)
+    {Settles Faults Answers Says : Type 0} (old mid : Content)
     (input : Input) →
-    Settles → PreservesStore IsUsable HasHonestDevice failed before middle Settles Faults →
-    (IsUsable middle → PreservesAndFrames (λ st s. settles st input s) old mid)
-    → (IsUsable middle → SettlesThose (λ st s. settles st input s) old mid) →
-    PreservesStore IsUsable HasHonestDevice failed middle after Answers
-    (ReportsOnceSettled (IsUsable after) mid input
-    Says) → PreservesStore IsUsable HasHonestDevice failed before after Answers
-    (ReportsStorage (IsUsable after) old
+    Settles → PreservesStore store before middle Settles Faults →
+    (store.IsUsable middle → PreservesAndFrames (λ st s. settles st input s) old mid)
+    → (store.IsUsable middle → SettlesThose (λ st s. settles st input s) old mid) →
+    PreservesStore store middle after Answers
+    (ReportsOnceSettled (store.IsUsable after) mid input
+    Says) → PreservesStore store before after Answers
+    (ReportsStorage (store.IsUsable after) old
     Says)
-owes_after IsUsable HasHonestDevice failed before middle after old mid input settles first kept
+owes_after store before middle after old mid input settles first kept
     settled
     then_owed = record {
       usable = λ usable. first.usable (then_owed.usable usable);
@@ -173,7 +174,8 @@ owes_after IsUsable HasHonestDevice failed before middle after old mid input set
             represents = says.represents;
             written = says.written;
           } in
-          risen-since (failed before) (failed middle) (failed after) first.rises then_owed.rises
+          risen-since (store.failed before) (store.failed middle) (store.failed after) first.rises
+          then_owed.rises
           (then_owed.storage (record {
             usable = says.usable;
             st = says.st;

@@ -19,6 +19,7 @@ use Rattle.register.specs.Deciding.{Decides}
 use Rattle.register.specs.Looking.{HasHeldSet, IsLookedUp, IsLookupRefused}
 use Rattle.register.specs.Settling.{SimulatesSettledStep, AreSettled, ReportsOnceSettled}
 use Rattle.settle.specs.Changes.{Changes}
+use Rattle.settle.specs.declared.store_model.StoreModel.{Ghosts}
 use Rattle.requests.specs.declared.call.Reply.{Reply as ReplyImpl}
 use Rattle.register.proofs.EveryCall.Composed.{answers_without}
 use Rattle.register.proofs.EveryCall.Deciding.{decides_replied}
@@ -65,16 +66,15 @@ decides_in_vain old input changes is_known id result r is vain unknown missing =
     missing)
 
 -- The look-up that was refused only reads.
-module _ {S : Type 0} {IsUsable HasHonestDevice : S → Type 0} {IsCrashState : S → Content → Type 0}
-    {content : S → Content} {failed : S → ℕ} {a b : S} where
+module _ {S : Type 0} {store : Ghosts S} {a b : S} where
   pub reads_in_vain : {A B : Type 0} {old : Content} {id : ℕ} {input : Input} (r : Refusal)
       (result : Result A Refusal) → result ≡ Err r
-      → IsReadOnly IsUsable HasHonestDevice IsCrashState content failed a b
+      → IsReadOnly store a b
       (IsAvailable {A = B} (Err r))
-      (IsUsable b × HasHeldSet old id × (◌≡◌ {A = Result B Refusal} (Err r) (Err Storage)))
+      (store.IsUsable b × HasHeldSet old id × (◌≡◌ {A = Result B Refusal} (Err r) (Err Storage)))
       → ((st : State) → Refines old st → AreSettled old st input → HasHeldSet old id)
-      → IsReadOnly IsUsable HasHonestDevice IsCrashState content failed a b (IsAvailable result)
-      (ReportsOnceSettled (IsUsable b) old input (result ≡ Err Storage))
+      → IsReadOnly store a b (IsAvailable result)
+      (ReportsOnceSettled (store.IsUsable b) old input (result ≡ Err Storage))
   reads_in_vain r result is read held = reads_told read (subst IsAvailable is)
       (λ says. (
         says.usable,

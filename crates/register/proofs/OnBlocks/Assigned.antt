@@ -12,7 +12,7 @@ use Rattle.model.specs.Statuses.{Create}
 use Rattle.model.specs.Changes.{next_attempt}
 use Rattle.model.specs.Conditions.{limit}
 use Rattle.model.specs.Content.{ClockRow, Content, stored_block}
-use Rattle.model.specs.History.{CommandRequest, donor_of, made_version, next_id, with_made}
+use Rattle.model.specs.History.{CommandRequest, donor_of, made_version, with_made}
 use Rattle.model.specs.Machine.{Shown, accepted, answer_of}
 use Rattle.model.specs.State.{State, View, record_now, view_of, set_now, next_of}
 use Rattle.model.specs.RefusalNumbers.{number_of}

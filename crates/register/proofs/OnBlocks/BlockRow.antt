@@ -1,14 +1,13 @@
 -- A block's row names a version that has a row.
-use Rattle.std.proofs.Common.{◌≡◌, ℕ, true, false, List, [], ◌∷◌, ◌||◌, Option, Some, None, refl, ap, sym, ◌∙◌, subst}
-use Rattle.std.specs.Prelude.{◌==◌, is_some, option_map}
+use Rattle.std.proofs.Common.{◌≡◌, ℕ, true, false, Option, Some, None, refl, ap, sym, ◌∙◌, subst}
+use Rattle.std.specs.Prelude.{is_some, option_map}
 use Rattle.std.specs.FinMap.{get}
 use Rattle.numbers.specs.Subjects.{Subject, Block}
-use Rattle.model.specs.Versions.{Version, last_version, first_of_versions}
+use Rattle.model.specs.Versions.{Version, last_version}
 use Rattle.model.specs.History.{donor_of}
 use Rattle.model.specs.State.{State, record_now}
 use Rattle.model.specs.Concerns.{has_id}
 use Rattle.model.specs.Content.{Content, BlockRow, VersionRow, Represents}
-use Rattle.numbers.proofs.Small.{same_number}
 use Rattle.model.proofs.Lagging.{no_row_at}
 use Rattle.settle.specs.declared.rows.BlockRow.{BlockRow as BlockRowImpl}
 use Rattle.settle.specs.Abstraction.{block_row_of}

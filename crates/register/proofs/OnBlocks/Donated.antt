@@ -10,7 +10,7 @@ use Rattle.model.specs.declared.refusal.Refusal.TheVariants.{NoMemory, Storage}
 use Rattle.model.specs.Statuses.{Create}
 use Rattle.model.specs.Conditions.{limit}
 use Rattle.model.specs.Content.{ClockRow, Content, stored_block}
-use Rattle.model.specs.History.{AreLines, CommandRequest, next_id, rising, used_numbers}
+use Rattle.model.specs.History.{AreLines, CommandRequest, rising, used_numbers}
 use Rattle.model.specs.Machine.{Donated, Reply, accepted, ids_from}
 use Rattle.model.specs.State.{State, record_now, set_now, next_of}
 use Rattle.model.specs.RefusalNumbers.{number_of}

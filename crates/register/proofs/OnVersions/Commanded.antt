@@ -74,29 +74,29 @@ command-names : (c : VersionCommand) (id : ℕ) (s : Subject)
 command-names c id s = record { unmade = λ at. refl; elsewhere = λ t vs apart none. none }
 
 -- Its refusals are the machine's.
-machine_own : (w : Windows) (now caller : ℕ) (told : CommandFacts) (c : VersionCommand)
+machine_own : (w : Windows) (now caller : ℕ) (facts : CommandFacts) (c : VersionCommand)
     (s : Subject)
     (v : Version)
-    → AreMachines (version_tests w now caller (λ t. told.is_another_open)
-    (λ lrn carrier. told.is_lrn_good) c (Some (record { subject = s; version = v })))
-machine_own w now caller told Activate s v = (refl, (refl, (refl, (refl, (refl, tt)))))
-machine_own w now caller told PutInConflict s v = (refl, (refl, (refl, (refl, tt))))
-machine_own w now caller told RemoveFromConflict s v = (refl, (refl, (refl, (refl, tt))))
-machine_own w now caller told Cancel s v = (refl, (refl, (refl, tt)))
-machine_own w now caller told OldProviderCancellationAcknowledge s v = (refl, (refl, tt))
-machine_own w now caller told NewProviderCancellationAcknowledge s v = (refl, (refl, tt))
-machine_own w now caller told (Disconnect release) s v = (refl, (refl, (refl, (refl, (refl, tt)))))
-machine_own w now caller told (ModifyRouting lrn cic) s v =
+    → AreMachines (version_tests w now caller (λ t. facts.is_another_open)
+    (λ lrn carrier. facts.is_lrn_good) c (Some (record { subject = s; version = v })))
+machine_own w now caller facts Activate s v = (refl, (refl, (refl, (refl, (refl, tt)))))
+machine_own w now caller facts PutInConflict s v = (refl, (refl, (refl, (refl, tt))))
+machine_own w now caller facts RemoveFromConflict s v = (refl, (refl, (refl, (refl, tt))))
+machine_own w now caller facts Cancel s v = (refl, (refl, (refl, tt)))
+machine_own w now caller facts OldProviderCancellationAcknowledge s v = (refl, (refl, tt))
+machine_own w now caller facts NewProviderCancellationAcknowledge s v = (refl, (refl, tt))
+machine_own w now caller facts (Disconnect release) s v = (refl, (refl, (refl, (refl, (refl, tt)))))
+machine_own w now caller facts (ModifyRouting lrn cic) s v =
     (refl, (refl, (refl, (refl, (refl, tt)))))
 
-pub command_never : (w : Windows) (now caller : ℕ) (told : CommandFacts) (c : VersionCommand)
+pub command_never : (w : Windows) (now caller : ℕ) (facts : CommandFacts) (c : VersionCommand)
     (s : Subject)
-    (v : Version) (r : Refusal) → Some (number_of r) ≡ version_refusal w now caller told c s v
+    (v : Version) (r : Refusal) → Some (number_of r) ≡ version_refusal w now caller facts c s v
     → r ≡ Storage → ⊥
-command_never w now caller told c s v r is storage =
-    never_storage ((10, not_number) ∷ version_tests w now caller (λ t. told.is_another_open)
-    (λ lrn carrier. told.is_lrn_good) c (Some (record { subject = s; version = v })))
-    (refl, machine_own w now caller told c s v) (sym is ∙ ap (λ x. Some (number_of x)) storage)
+command_never w now caller facts c s v r is storage =
+    never_storage ((10, not_number) ∷ version_tests w now caller (λ t. facts.is_another_open)
+    (λ lrn carrier. facts.is_lrn_good) c (Some (record { subject = s; version = v })))
+    (refl, machine_own w now caller facts c s v) (sym is ∙ ap (λ x. Some (number_of x)) storage)
   where
     not_number : Bool
     not_number = not (is_number s)
@@ -113,19 +113,19 @@ open_is st old s (Some n) refines due reads =
     (λ (row : VersionRow). row.opens) (λ t v. refl) (sound_open s (record_now st s).versions
     (sound_now st refines.represents.history s)) n.id n.row reads.0 reads.1).1)
 
-told_is : (c : VersionCommand) (st : State) (old : Content) (s : Subject) (provider : ℕ)
-    (told : CommandFacts) → Refines old st → IsSettled old st s
-    → AreCommandFacts old c s provider told
-    → AreFactsNeeded c told (has_open st s) (λ lrn. owns st lrn provider)
-told_is Activate st old s provider told refines due tells = tt
-told_is PutInConflict st old s provider told refines due tells = tt
-told_is RemoveFromConflict st old s provider told refines due tells = tt
-told_is Cancel st old s provider told refines due tells = tt
-told_is OldProviderCancellationAcknowledge st old s provider told refines due tells = tt
-told_is NewProviderCancellationAcknowledge st old s provider told refines due tells = tt
-told_is (Disconnect release) st old s provider told refines due tells =
+facts_needed : (c : VersionCommand) (st : State) (old : Content) (s : Subject) (provider : ℕ)
+    (facts : CommandFacts) → Refines old st → IsSettled old st s
+    → AreCommandFacts old c s provider facts
+    → AreFactsNeeded c facts (has_open st s) (λ lrn. owns st lrn provider)
+facts_needed Activate st old s provider facts refines due tells = tt
+facts_needed PutInConflict st old s provider facts refines due tells = tt
+facts_needed RemoveFromConflict st old s provider facts refines due tells = tt
+facts_needed Cancel st old s provider facts refines due tells = tt
+facts_needed OldProviderCancellationAcknowledge st old s provider facts refines due tells = tt
+facts_needed NewProviderCancellationAcknowledge st old s provider facts refines due tells = tt
+facts_needed (Disconnect release) st old s provider facts refines due tells =
     tells.2 ∙ open_is st old s tells.0 refines due tells.1
-told_is (ModifyRouting lrn cic) st old s provider told refines due tells = (
+facts_needed (ModifyRouting lrn cic) st old s provider facts refines due tells = (
   tells.0.2 ∙ open_is st old s tells.0.0 refines due tells.0.1,
   tells.1 ∙ ap (is_the provider) (refines.represents.lrns lrn),
 )
@@ -165,16 +165,16 @@ module _ (old : Content) (caller id : ℕ) (c : VersionCommand) where
 
   -- The refusal by the row, the windows that it holds, the clock, and the facts.
   refused_by_row : (clock : ClockRow) (row : VersionRow) (held : Windows) (u : Inside)
-      (told : CommandFacts)
+      (facts : CommandFacts)
       → is_some (get old.carriers caller) ≡ true →
       old.clock ≡ Some clock → get old.versions id ≡ Some row → AreHeld old clock row.held held →
       version_row_of u ≡ row →
       (st : State) → Refines old st → IdSettled old st id
-      → AreFactsNeeded c told (has_open st row.subject) (λ lrn. owns st lrn row.new_provider) →
+      → AreFactsNeeded c facts (has_open st row.subject) (λ lrn. owns st lrn row.new_provider) →
       refusal st (RequestFrom caller (CommandRequest (OnVersion id c)))
-      ≡ version_refusal clock.present.windows clock.minute caller told c
+      ≡ version_refusal clock.present.windows clock.minute caller facts c
       (subject_of u.version.subject) (model_with_windows held u.version)
-  refused_by_row clock row held u told known clock_is found are_held is st refines settled tells =
+  refused_by_row clock row held u facts known clock_is found are_held is st refines settled tells =
       let shown : (v : Version) × (version_with id (record_now st row.subject) ≡ Some v)
       × (row ≡ row_of row.subject v) = row_now st old id row refines.represents settled found in
       let same_clock : clock ≡ clock_of st = clock_is_of old st clock refines.represents clock_is in
@@ -183,32 +183,32 @@ module _ (old : Content) (caller id : ℕ) (c : VersionCommand) where
       shown.2 held are_held in
       command_refused st caller id c (record { subject = row.subject; version = shown.0 })
       (is_state old st refines) (known_is st true refines known)
-      (found_is st refines.represents.history row.subject id shown.0 shown.1) told
-      (subst (λ (x : VersionRow). AreFactsNeeded c told (has_open st row.subject)
+      (found_is st refines.represents.history row.subject id shown.0 shown.1) facts
+      (subst (λ (x : VersionRow). AreFactsNeeded c facts (has_open st row.subject)
       (λ lrn. owns st lrn x.new_provider)) shown.2 tells)
       ∙ by_seen (set_now st).windows st.now row.subject shown.0
       (ap (λ w. version_of shown.0.id shown.0.broadcasts w u.version) held_is
       ∙ row_version row.subject shown.0 u (is ∙ shown.2))
       (row_subject row.subject shown.0 u (is ∙ shown.2))
-      ∙ ap (λ (k : ClockRow). version_refusal k.present.windows k.minute caller told c
+      ∙ ap (λ (k : ClockRow). version_refusal k.present.windows k.minute caller facts c
       (subject_of u.version.subject) (model_with_windows held u.version)) (sym same_clock)
     where
       -- The command depends on neither the id nor the broadcasts.
       by_seen : (w : Windows) (now : ℕ) (s : Subject) (v : Version) →
           version_of v.id v.broadcasts held u.version ≡ v → subject_of u.version.subject ≡ s →
-          version_refusal w now caller told c s v
-          ≡ version_refusal w now caller told c (subject_of u.version.subject)
+          version_refusal w now caller facts c s v
+          ≡ version_refusal w now caller facts c (subject_of u.version.subject)
           (model_with_windows held u.version)
       by_seen w now s v version subject =
-          ap (λ (x : Version). version_refusal w now caller told c s x) (sym version)
-          ∙ ap (λ t. version_refusal w now caller told c t
+          ap (λ (x : Version). version_refusal w now caller facts c s x) (sym version)
+          ∙ ap (λ t. version_refusal w now caller facts c t
           (version_of v.id v.broadcasts held u.version)) (sym subject)
           ∙ unseen w now v.id v.broadcasts c
         where
           unseen : (w : Windows) (now k : ℕ) (bs : List Broadcast) (d : VersionCommand) →
-              version_refusal w now caller told d (subject_of u.version.subject)
+              version_refusal w now caller facts d (subject_of u.version.subject)
               (version_of k bs held u.version)
-              ≡ version_refusal w now caller told d (subject_of u.version.subject)
+              ≡ version_refusal w now caller facts d (subject_of u.version.subject)
               (model_with_windows held u.version)
           unseen w now k bs Activate = refl
           unseen w now k bs PutInConflict = refl
@@ -239,47 +239,48 @@ answers_not_found old new caller id c same known none =
 
 -- What the code read.
 pub record HasRead (old : Content) (caller id : ℕ) (c : VersionCommand) (clock : ClockRow)
-    (held : Windows) (u : Inside) (told : CommandFacts) : Type 0 where
+    (held : Windows) (u : Inside) (facts : CommandFacts) : Type 0 where
   pub known : is_some (get old.carriers caller) ≡ true
   pub clock_is : old.clock ≡ Some clock
   pub found : get old.versions id ≡ Some (version_row_of u)
   pub are_held : AreHeld old clock u.version.held held
   pub tells : AreCommandFacts old c (subject_of u.version.subject) u.version.new_provider.number
-      told
+      facts
 
 -- The facts were read of a content equal to the first.
 pub has_read : (old read : Content) (caller id : ℕ) (c : VersionCommand) (clock : ClockRow)
-    (held : Windows) (u : Inside) (told : CommandFacts) → read ≡ old
+    (held : Windows) (u : Inside) (facts : CommandFacts) → read ≡ old
     → IsLookedUp old (is_some (get old.carriers caller)) id clock (version_row_of u) held
-    → AreCommandFacts read c (subject_of u.version.subject) u.version.new_provider.number told
-    → HasRead old caller id c clock held u told
-has_read old read caller id c clock held u told same looked tells = record {
+    → AreCommandFacts read c (subject_of u.version.subject) u.version.new_provider.number facts
+    → HasRead old caller id c clock held u facts
+has_read old read caller id c clock held u facts same looked tells = record {
   known = looked.known;
   clock_is = looked.clock_is;
   found = looked.found;
   are_held = looked.are_held;
   tells = subst (λ m. AreCommandFacts m c (subject_of u.version.subject)
-      u.version.new_provider.number told)
+      u.version.new_provider.number facts)
       same tells;
 }
 
 module _ (old : Content) (caller id : ℕ) (c : VersionCommand) (clock : ClockRow) (held : Windows)
-    (u : Inside) (told : CommandFacts)
-    (has : HasRead old caller id c clock held u told) where
+    (u : Inside) (facts : CommandFacts)
+    (has : HasRead old caller id c clock held u facts) where
   refused_read : (st : State) → Refines old st
       → AreSettled old st (RequestFrom caller (CommandRequest (OnVersion id c))) →
       refusal st (RequestFrom caller (CommandRequest (OnVersion id c)))
-      ≡ version_refusal clock.present.windows clock.minute caller told c
+      ≡ version_refusal clock.present.windows clock.minute caller facts c
       (subject_of u.version.subject) (model_with_windows held u.version)
   refused_read st refines settled =
-      refused_by_row old caller id c clock (version_row_of u) held u told has.known has.clock_is
+      refused_by_row old caller id c clock (version_row_of u) held u facts has.known has.clock_is
       has.found has.are_held refl st refines (id_settled old caller id c st settled)
-      (told_is c st old (subject_of u.version.subject) u.version.new_provider.number told refines
+      (facts_needed c st old (subject_of u.version.subject) u.version.new_provider.number facts
+      refines
       (row_settled st old id (version_row_of u) refines.represents
       (id_settled old caller id c st settled) has.found) has.tells)
 
   pub answers_read : (new : Content) (k : ℕ) → new ≡ old →
-      Some k ≡ version_refusal clock.present.windows clock.minute caller told c
+      Some k ≡ version_refusal clock.present.windows clock.minute caller facts c
       (subject_of u.version.subject) (model_with_windows held u.version) →
       SimulatesSettledStep old new (RequestFrom caller (CommandRequest (OnVersion id c)))
       (refused_with k)
@@ -287,18 +288,19 @@ module _ (old : Content) (caller id : ℕ) (c : VersionCommand) (clock : ClockRo
       answers_refused_same old new (RequestFrom caller (CommandRequest (OnVersion id c))) k same
       (λ st refines settled. refused_read st refines settled ∙ sym refused)
 
-  pub answers_stepped : (new : Content) (all_carriers : List ℕ) (step : Transition) (view : View) →
-      None ≡ version_refusal clock.present.windows clock.minute caller told c
+  pub answers_stepped : (new : Content) (all_carriers : List ℕ) (transition : Transition)
+      (view : View) →
+      None ≡ version_refusal clock.present.windows clock.minute caller facts c
       (subject_of u.version.subject) (model_with_windows held u.version) →
-      IsTransition clock.present caller clock.minute c u.version step
+      IsTransition clock.present caller clock.minute c u.version transition
       → all_carriers ≡ keys old.carriers →
-      AppliesChanges (transition_changes id clock.minute (sends_model step.sends)
-      (subject_of step.version.subject)
-      (model_with_windows clock.present.windows step.version) all_carriers) old new →
-      Views clock.present.windows clock id step.version view →
+      AppliesChanges (transition_changes id clock.minute (sends_model transition.sends)
+      (subject_of transition.version.subject)
+      (model_with_windows clock.present.windows transition.version) all_carriers) old new →
+      Views clock.present.windows clock id transition.version view →
       SimulatesSettledStep old new (RequestFrom caller (CommandRequest (OnVersion id c)))
       (Some (Shown (Some view)))
-  answers_stepped new all_carriers step view accepts steps are_all changed views =
+  answers_stepped new all_carriers transition view accepts steps are_all changed views =
       answers_accepted old new (RequestFrom caller (CommandRequest (OnVersion id c)))
       (Shown (Some view))
       each
@@ -353,42 +355,44 @@ module _ (old : Content) (caller id : ℕ) (c : VersionCommand) (clock : ClockRo
           before : HasModel u.version shown.0
           before = row_version s shown.0 u shown.2
 
-          steps_now : IsTransition (set_now st) caller st.now c u.version step
+          steps_now : IsTransition (set_now st) caller st.now c u.version transition
           steps_now =
-              subst (λ (k : ClockRow). IsTransition k.present caller k.minute c u.version step)
+              subst (λ (k : ClockRow). IsTransition k.present caller k.minute c u.version
+              transition)
               same_clock steps
 
-          subject : subject_of step.version.subject ≡ s
+          subject : subject_of transition.version.subject ≡ s
           subject = ap subject_of (steps_now.version []).subject
 
-          accepts_now : version_refusal (set_now st).windows st.now caller told c s shown.0 ≡ None
+          accepts_now : version_refusal (set_now st).windows st.now caller facts c s shown.0 ≡ None
           accepts_now = sym (command_refused st caller id c
               (record { subject = s; version = shown.0 }) (is_state old st refines)
               (known_is old caller id c st true refines has.known)
-              (found_is st refines.represents.history s id shown.0 shown.1) told
-              (subst (λ (x : VersionRow). AreFactsNeeded c told (has_open st s)
+              (found_is st refines.represents.history s id shown.0 shown.1) facts
+              (subst (λ (x : VersionRow). AreFactsNeeded c facts (has_open st s)
               (λ lrn. owns st lrn x.new_provider)) shown.2
-              (told_is c st old s u.version.new_provider.number told refines due has.tells)))
+              (facts_needed c st old s u.version.new_provider.number facts refines due has.tells)))
               ∙ none
 
           -- The version holds the present set after the command.
           after_is : version_of shown.0.id (change shown.0).broadcasts (set_now st).windows
-              step.version ≡ change shown.0
+              transition.version ≡ change shown.0
           after_is =
-              ap (λ k. version_of k (change shown.0).broadcasts (set_now st).windows step.version)
+              ap (λ k. version_of k (change shown.0).broadcasts (set_now st).windows
+              transition.version)
               (sym (change_id (set_now st) caller st.now (record_now st s).carriers c shown.0))
               ∙ ap (λ (set : WindowSet). version_of (change shown.0).id (change shown.0).broadcasts
-              set.windows step.version)
+              set.windows transition.version)
               (sym (change_holds (set_now st) (set_now st).windows st.now caller
-              (record_now st s).carriers told c s shown.0 accepts_now))
-              ∙ subst (λ (x : Version). HasModel step.version
+              (record_now st s).carriers facts c s shown.0 accepts_now))
+              ∙ subst (λ (x : Version). HasModel transition.version
               (version_after_command (set_now st) caller st.now (record_now st s).carriers c x))
               before
               ((steps_now.version (record_now st s).carriers).version shown.0.id shown.0.broadcasts
               shown.0.held.windows)
 
           fit : IsFit c shown.0
-          fit = fits (set_now st).windows st.now caller told c s shown.0 accepts_now
+          fit = fits (set_now st).windows st.now caller facts c s shown.0 accepts_now
 
           one : StepsOne st caller (CommandRequest (OnVersion id c)) s id change (sends_of st.now c)
               shown.0
@@ -410,24 +414,27 @@ module _ (old : Content) (caller id : ℕ) (c : VersionCommand) (clock : ClockRo
               all_carriers) old new) after_is
               (by_parts (sends_of st.now c)
               (subst (λ a. AppliesChanges (transition_changes id st.now a s
-              (model_with_windows (set_now st).windows step.version) all_carriers) old new)
+              (model_with_windows (set_now st).windows transition.version) all_carriers) old new)
               steps_now.sends
-              (subst (λ t. AppliesChanges (transition_changes id st.now (sends_model step.sends) t
-              (model_with_windows (set_now st).windows step.version) all_carriers) old new) subject
+              (subst (λ t. AppliesChanges
+              (transition_changes id st.now (sends_model transition.sends) t
+              (model_with_windows (set_now st).windows transition.version) all_carriers) old new)
+              subject
               (subst (λ (k : ClockRow). AppliesChanges
-              (transition_changes id k.minute (sends_model step.sends)
-              (subject_of step.version.subject)
-              (model_with_windows k.present.windows step.version) all_carriers) old new) same_clock
+              (transition_changes id k.minute (sends_model transition.sends)
+              (subject_of transition.version.subject)
+              (model_with_windows k.present.windows transition.version) all_carriers) old new)
+              same_clock
               changed))))
             where
               -- The rows have neither the version's id nor its broadcasts.
               by_parts : (a : Option Send) → AppliesChanges
                   (transition_changes id st.now a s (model_with_windows (set_now st).windows
-                  step.version) all_carriers) old
+                  transition.version) all_carriers) old
                   new →
                   AppliesChanges (transition_changes id st.now a s
                   (version_of shown.0.id (change shown.0).broadcasts (set_now st).windows
-                  step.version) all_carriers) old new
+                  transition.version) all_carriers) old new
               by_parts None changes = changes
               by_parts (Some Create) changes = changes
               by_parts (Some Delete) changes = changes
@@ -441,20 +448,20 @@ module _ (old : Content) (caller id : ℕ) (c : VersionCommand) (clock : ClockRo
               views after_it (change shown.0).broadcasts (sym now)
               ∙ ap (λ (k : ClockRow). view_of after_it
               (record {
-                subject = subject_of step.version.subject;
+                subject = subject_of transition.version.subject;
                 version =
-                    version_of id (change shown.0).broadcasts k.present.windows step.version;
+                    version_of id (change shown.0).broadcasts k.present.windows transition.version;
               }))
               same_clock
               ∙ ap (λ t. view_of after_it (record {
                 subject = t;
                 version = version_of id (change shown.0).broadcasts
-                    (set_now st).windows step.version;
+                    (set_now st).windows transition.version;
               })) subject
               ∙ ap (λ k. view_of after_it (record {
                 subject = s;
                 version = version_of k (change shown.0).broadcasts
-                    (set_now st).windows step.version;
+                    (set_now st).windows transition.version;
               }))
               (sym (id_found id (record_now st s).versions shown.0 shown.1))
               ∙ ap (λ x. view_of after_it (record { subject = s; version = x })) after_is

@@ -7,7 +7,7 @@ use Rattle.model.specs.Windows.{Windows, WindowSet}
 use Rattle.model.specs.Versions.{Version, Broadcast}
 use Rattle.model.specs.Judge.{is_expired}
 use Rattle.model.specs.Laws.{IsQuiet}
-use Rattle.model.specs.History.{CommandRequest, next_id}
+use Rattle.model.specs.History.{CommandRequest}
 use Rattle.model.specs.State.{State, record_now, next_of}
 use Rattle.model.specs.Conditions.{limit, holds_of}
 use Rattle.model.specs.Refusals.{RequestFrom, refusal}
@@ -28,7 +28,7 @@ use Rattle.settle.specs.Settling.{IsSettled}
 use Rattle.register.specs.Refinement.{Refines}
 use Rattle.register.specs.Settling.{SimulatesSettledStep, AreSettled, is_of_number, settles_for}
 use Rattle.requests.specs.Calls.{refused_with}
-use Rattle.register.specs.Serving.{AreRead, IsVersionInForce, IsJudgedBy, IsOpened, are_known}
+use Rattle.register.specs.Serving.{AreCreateFacts, IsVersionInForce, HasReadFacts, IsOpened, are_known}
 use Rattle.register.proofs.EveryCall.Composed.{answers_refused_same, first_refusal}
 use Rattle.register.proofs.OnVersions.OnVersion.{LeavesRegistry}
 use Rattle.register.proofs.EveryCall.Settled.{number_of_number}
@@ -58,14 +58,15 @@ settles_number st c =
 -- ---- the contents that were read, and refusals
 
 -- The number's rows were read of one content and the rest of another, both equal to the first.
-pub judged_by : (old first second : Content) (caller : ℕ) (c : CreateImpl) (clock : ClockRow)
+pub facts_read : (old first second : Content) (caller : ℕ) (c : CreateImpl) (clock : ClockRow)
     (held : Option VersionImpl) (opened : Option (ℕ × VersionImpl)) (block : Option VersionImpl)
     (facts : CreateFacts) → first ≡ old → second ≡ old → are_known old c caller ≡ true
     → old.clock ≡ Some clock → IsVersionInForce first (Number c.tn.number) held
     → IsOpened first (Number c.tn.number) opened
     → IsVersionInForce first (Block (block_of c.tn.number)) block
-    → AreRead second c clock.next_id held opened block facts → IsJudgedBy old caller c clock facts
-judged_by old first second caller c clock held opened block facts one two known clock_is is_held
+    → AreCreateFacts second c clock.next_id held opened block facts
+    → HasReadFacts old caller c clock facts
+facts_read old first second caller c clock held opened block facts one two known clock_is is_held
     is_opened is_block read = record {
       known = known;
       clock_is = clock_is;
@@ -77,11 +78,12 @@ judged_by old first second caller c clock held opened block facts one two known 
       is_block = subst (λ (m : Content). IsVersionInForce m (Block (block_of c.tn.number)) block)
           one
           is_block;
-      read = subst (λ (m : Content). AreRead m c clock.next_id held opened block facts) two read;
+      read = subst (λ (m : Content). AreCreateFacts m c clock.next_id held opened block facts) two
+          read;
     }
 
 pub refused_as : (st : State) (old : Content) (caller : ℕ) (c : CreateImpl) (clock : ClockRow)
-    (facts : CreateFacts) → IsJudgedBy old caller c clock facts → Refines old st
+    (facts : CreateFacts) → HasReadFacts old caller c clock facts → Refines old st
     → AreSettled old st (RequestFrom caller (CommandRequest (command_of c)))
     → refusal st (RequestFrom caller (CommandRequest (command_of c))) ≡ create_refusal
     clock.present.windows
@@ -91,7 +93,7 @@ refused_as st old caller c clock facts has refines settled =
     has
 
 pub answers_create_refused : (old new : Content) (caller : ℕ) (c : CreateImpl) (clock : ClockRow)
-    (facts : CreateFacts) (k : ℕ) → new ≡ old → IsJudgedBy old caller c clock facts
+    (facts : CreateFacts) (k : ℕ) → new ≡ old → HasReadFacts old caller c clock facts
     → Some k ≡ create_refusal clock.present.windows clock.minute caller c facts →
     SimulatesSettledStep old new (RequestFrom caller (CommandRequest (command_of c)))
     (refused_with k)

@@ -25,7 +25,7 @@ use Rattle.pool.specs.Facts.{carrier_number}
 use Rattle.pool.specs.Serving.{ServingFactsMatch, carrier_of, served_by_code, served_by_version}
 use Rattle.pool.proofs.Served.{serving-is}
 use Rattle.register.specs.Refinement.{Refines}
-use Rattle.register.specs.Serving.{IsVersionInForce, IsJudgedBy, IsOpened, are_known, is_lrn_good, is_released}
+use Rattle.register.specs.Serving.{IsVersionInForce, HasReadFacts, IsOpened, are_known, is_lrn_good, is_released}
 use Rattle.register.proofs.OnVersions.OnVersion.{clock_is_of}
 use Rattle.register.specs.Settling.{is_of_number}
 use Rattle.register.proofs.EveryCall.Settled.{number_of_number, block_of_number}
@@ -173,7 +173,7 @@ released_is (Some u) None sees = absurd sees
 module _ (st : State) (old : Content) (caller : ℕ) (c : CreateImpl) (clock : ClockRow)
     (facts : CreateFacts) (refines : Refines old st)
     (settled : (s : Subject) → is_of_number c.tn.number st s ≡ true → IsSettled old st s)
-    (has : IsJudgedBy old caller c clock facts) where
+    (has : HasReadFacts old caller c clock facts) where
   -- The facts that decide who serves the number match the state.
   they_serve : ServingFactsMatch st c.tn.number has.read.server.0
   they_serve =

@@ -5,7 +5,7 @@ use Rattle.std.specs.List.{list_any}
 use Rattle.numbers.specs.Subjects.{Subject, Number, Block, subject_eq}
 use Rattle.numbers.specs.Abstraction.{subject_of}
 use Rattle.model.specs.Versions.{Version, Record, version_with, open_version, last_version}
-use Rattle.model.specs.History.{Request, CommandRequest, made_version, subjects_made_by, next_id, donor_of, assigned_block}
+use Rattle.model.specs.History.{Request, CommandRequest, made_version, subjects_made_by, donor_of, assigned_block}
 use Rattle.model.specs.State.{State, View, record_now, view_of, set_now, next_of}
 use Rattle.model.specs.Conditions.{limit, holds_of}
 use Rattle.model.specs.Refusals.{RequestFrom, refusal}
@@ -22,7 +22,7 @@ use Rattle.version.specs.Creates.{command_of, create_refusal, lacks, answered_by
 use Rattle.settle.specs.Changes.{AppliesChanges, ClockMove}
 use Rattle.settle.specs.Settling.{IsSettled}
 use Rattle.register.specs.Refinement.{Refines}
-use Rattle.register.specs.Serving.{IsJudgedBy}
+use Rattle.register.specs.Serving.{HasReadFacts}
 use Rattle.register.specs.Settling.{SimulatesSettledStep, AreSettled, FramesOthers}
 use Rattle.settle.specs.Sending.{version_changes}
 use Rattle.register.proofs.EveryCall.Composed.{answers_accepted, Views}
@@ -160,7 +160,7 @@ module _ (st : State) (old new : Content) (caller : ℕ) (c : CreateImpl) (next 
 
 pub answers_first : (old new : Content) (caller : ℕ) (c : CreateImpl) (clock : ClockRow)
     (next : ClockMove) (facts : CreateFacts) (m : VersionImpl) (view : View) →
-    IsJudgedBy old caller c clock facts → None
+    HasReadFacts old caller c clock facts → None
     ≡ create_refusal clock.present.windows clock.minute caller c facts →
     IsCreated clock.present clock.minute c (answered_by c facts.opened) (First m) →
     (clock.next_id ≤ limit → next ≡ record { minute = clock.minute; next_id = clock.next_id + 1 }) →

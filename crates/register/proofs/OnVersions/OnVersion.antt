@@ -5,7 +5,7 @@ use Rattle.std.specs.FinMap.{get}
 use Rattle.numbers.specs.Subjects.{Subject, Block, subject_eq}
 use Rattle.model.specs.Versions.{Version, Record, is_among, version_with, last_version, first_of_versions}
 use Rattle.model.specs.Changes.{of_id}
-use Rattle.model.specs.History.{Request, AcknowledgementRequest, HasValues, carrier_named, carrier_added, lrn_named, code_named, donor_named, subjects_made_by, next_id, carriers, lrn_owner, code_holder, donor_of, or_else, windows_named}
+use Rattle.model.specs.History.{Request, AcknowledgementRequest, HasValues, carrier_named, carrier_added, lrn_named, code_named, donor_named, subjects_made_by, carriers, lrn_owner, code_holder, donor_of, or_else, windows_named}
 use Rattle.model.specs.State.{State, record_now, view_of, set_now, next_of}
 use Rattle.model.specs.Refusals.{RequestFrom, refusal}
 use Rattle.model.specs.Machine.{Shown, accepted, shown, HasHistory}

@@ -25,7 +25,7 @@ use Rattle.settle.specs.Changes.{AppliesChanges}
 use Rattle.settle.specs.Settling.{IsSettled}
 use Rattle.register.specs.Refinement.{Refines}
 use Rattle.register.specs.Looking.{AreHeld, HasSet}
-use Rattle.register.specs.Serving.{IsJudgedBy, IsOpened}
+use Rattle.register.specs.Serving.{HasReadFacts, IsOpened}
 use Rattle.model.specs.Windows.{Windows}
 use Rattle.model.proofs.Sets.{IsSetOf, held-is, present-is}
 use Rattle.register.proofs.EveryCall.HeldSets.{has_set, held-are, held_read, windows-now}
@@ -164,7 +164,7 @@ module _ (st : State) (old new : Content) (caller : ℕ) (c : CreateImpl) (id : 
 
 answers_open : (old new : Content) (caller : ℕ) (c : CreateImpl) (clock : ClockRow)
     (id : ℕ) (u : VersionImpl) (facts : CreateFacts) (m : VersionImpl) (w : Windows)
-    (view : View) → (has : IsJudgedBy old caller c clock facts) → has.opened ≡ Some (id, u)
+    (view : View) → (has : HasReadFacts old caller c clock facts) → has.opened ≡ Some (id, u)
     → None ≡ create_refusal clock.present.windows clock.minute caller c facts
     → is_lacked c (model_of u) ≡ true → Becomes (with_create clock.present c.creator clock.minute) u
     m →
@@ -279,7 +279,7 @@ answers_open old new caller c clock id u facts m w view has opened accepts lacke
 
 pub answers_second : (old new : Content) (caller : ℕ) (c : CreateImpl) (clock : ClockRow)
     (facts : CreateFacts) (id : ℕ) (m : VersionImpl) (w : Windows) (view : View)
-    → IsJudgedBy old caller c clock facts
+    → HasReadFacts old caller c clock facts
     → None ≡ create_refusal clock.present.windows clock.minute caller c facts
     → IsCreated clock.present clock.minute c (answered_by c facts.opened) (Second id m) →
     AreHeld old clock m.held w
@@ -298,7 +298,7 @@ answers_second old new caller c clock facts id m w view has accepts created are_
 
 -- The set that the version then holds has windows.
 pub second_has_set : (old : Content) (caller : ℕ) (c : CreateImpl) (clock : ClockRow)
-    (facts : CreateFacts) (id : ℕ) (m : VersionImpl) → IsJudgedBy old caller c clock facts →
+    (facts : CreateFacts) (id : ℕ) (m : VersionImpl) → HasReadFacts old caller c clock facts →
     IsCreated clock.present clock.minute c (answered_by c facts.opened) (Second id m) →
     (st : State) → Refines old st
     → AreSettled old st (RequestFrom caller (CommandRequest (command_of c))) →

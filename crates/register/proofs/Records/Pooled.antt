@@ -10,7 +10,7 @@ use Rattle.model.specs.Versions.{Version, Record, in_force, is_among, version_wi
 use Rattle.model.specs.Changes.{next_attempt}
 use Rattle.model.specs.Laws.{IsQuiet}
 use Rattle.model.specs.Content.{BlockRow, BroadcastKey, BroadcastRow, Content, SameRows, RowsMatch, VersionRow, WaitKey, stored_block}
-use Rattle.model.specs.History.{HasValues, Request, assigned_block, carrier_added, carrier_named, carriers, code_holder, code_named, version_after_request, donor_of, id_among, lrn_named, lrn_owner, made_version, subjects_made_by, next_id, or_else, with_made, windows_named}
+use Rattle.model.specs.History.{HasValues, Request, assigned_block, carrier_added, carrier_named, carriers, code_holder, code_named, version_after_request, donor_of, id_among, lrn_named, lrn_owner, made_version, subjects_made_by, or_else, with_made, windows_named}
 use Rattle.model.specs.Machine.{accepted, HasHistory}
 use Rattle.model.specs.State.{State, record_now, set_now, next_of, made_now}
 use Rattle.model.specs.Refusals.{RequestFrom, refusal}

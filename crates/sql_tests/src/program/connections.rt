@@ -13,15 +13,15 @@ use std::net::{
 };
 use store::MemoryStore;
 
-/// Registers the carrier AAAA.
+/// The message that registers the carrier AAAA.
 pub const FIRST: &str = "POST /carriers HTTP/1.1\r\nx-spid: NPAC\r\ncontent-length: 15\r\n\r\n\
     {\"spid\":\"AAAA\"}";
 
-/// The same message with only a part of its body.
+/// That message with only a part of its body.
 pub const CUT: &str =
     "POST /carriers HTTP/1.1\r\nx-spid: NPAC\r\ncontent-length: 15\r\n\r\n{\"spid\"";
 
-/// Registers the carrier BBBB and asks to close; what follows is not read.
+/// The message that registers the carrier BBBB and asks to close. What follows is not read.
 pub const LAST: &str = "POST /carriers HTTP/1.1\r\nx-spid: NPAC\r\nconnection: close\r\n\
     content-length: 15\r\n\r\n{\"spid\":\"BBBB\"}POST /carriers HTTP/1.1\r\n\r\n";
 
@@ -40,7 +40,7 @@ const BAD_HEAD: &str = "\r\n\r\n{\"error\":\"bad_head\",\"number\":45}";
 
 const NO_PATH: &str = "\r\n\r\n{\"error\":\"no_path\",\"number\":42}";
 
-// Supplies this minute, once.
+// A source of one minute, supplied once.
 #[derive(Drop)]
 struct OneMinute {
     minute: Option<Minute>,

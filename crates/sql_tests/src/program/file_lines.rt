@@ -22,13 +22,13 @@ const CARRIERS: &str = "POST /carriers HTTP/1.1\r\nx-spid: NPAC\r\ncontent-lengt
 const CLOCK: &str = "POST /clock HTTP/1.1\r\nx-spid: NPAC\r\ncontent-length: 14\r\n\r\n\
     {\"minute\":100}";
 
-// Sets the windows of `wide.toml`.
+// The message that sets the windows of `wide.toml`.
 const WIDE: &str = "POST /windows HTTP/1.1\r\nx-spid: NPAC\r\ncontent-length: 217\r\n\r\n\
     {\"broadcast\":16,\"cancellation_final\":60,\"cancellation_initial\":60,\
     \"conflict_expiration\":1000,\"conflict_resolution\":120,\"conflict_restriction\":30,\
     \"final_concurrence\":60,\"initial_concurrence\":60,\"pending_retention\":500}";
 
-// Each carrier acknowledges the first download.
+// The messages of each carrier that acknowledge the first download.
 const ACKNOWLEDGED: &str = "POST /downloads/acknowledge HTTP/1.1\r\nx-spid: AAAA\r\n\
     content-length: 20\r\n\r\n{\"attempt\":1,\"id\":1}POST /downloads/acknowledge HTTP/1.1\r\n\
     x-spid: BBBB\r\ncontent-length: 20\r\n\r\n{\"attempt\":1,\"id\":1}\

@@ -235,7 +235,7 @@ static MINUTE_BELOW: [Row<'static>; 3] = [
     (30, "CCCC", "/versions/1", "", FINAL),
 ];
 
-// Supplies the minutes of the rows, in order.
+// A source of the minutes of the rows, in order.
 #[derive(Drop)]
 struct Minutes<'a> {
     rows: &'a [Row<'static>],

@@ -9,14 +9,16 @@ returns-in-Number-clause-kept g c =
 
 pub returns-in-Number-clause-ok : goal.returns-in-Number-clause-ok
 returns-in-Number-clause-ok g c = rw c.in-Number.is
-    (known_or_not (g.S.Store.IsUsable c.knows.new.self.store) c.knows.result
-    (g.S.Store.content c.args.register.now.store) (g.S.Store.content c.knows.new.self.store)
+    (known_or_not (g.S.StoreModel.IsUsable c.knows.new.self.store) c.knows.result
+    (g.S.StoreModel.content c.args.register.now.store)
+    (g.S.StoreModel.content c.knows.new.self.store)
     c.args.caller.number c.in-Number.tn.number c.knows.ensures.answers)
 
 pub returns-in-Number-clause-err : goal.returns-in-Number-clause-err
 returns-in-Number-clause-err g c = rw c.in-Number.is
-    (away_or_not (g.S.Store.IsUsable c.knows.new.self.store) c.knows.result
-    (g.S.Store.failed c.args.register.now.store) (g.S.Store.failed c.knows.new.self.store)
-    (g.S.Store.content c.args.register.now.store) (g.S.Store.content c.knows.new.self.store)
+    (away_or_not (g.S.StoreModel.IsUsable c.knows.new.self.store) c.knows.result
+    (g.S.StoreModel.failed c.args.register.now.store) (g.S.StoreModel.failed c.knows.new.self.store)
+    (g.S.StoreModel.content c.args.register.now.store)
+    (g.S.StoreModel.content c.knows.new.self.store)
     c.args.caller.number c.in-Number.tn.number
     c.knows.ensures.answers (blamed c.knows.ensures.preserves))

@@ -12,8 +12,9 @@ returns-in-Err-clause-calls g c =
 
 pub returns-in-Ok-Some-Call-clause-calls : goal.returns-in-Ok-Some-Call-clause-calls
 returns-in-Ok-Some-Call-clause-calls g c = λ u body is st s.
-    calls_carried (g.S.Store.failed c.args.register.now.store)
-    (g.S.Store.failed c.answer.new.register.store) (g.S.Store.content c.answer.new.register.store)
+    calls_carried (g.S.StoreModel.failed c.args.register.now.store)
+    (g.S.StoreModel.failed c.answer.new.register.store)
+    (g.S.StoreModel.content c.answer.new.register.store)
     st c.args.route c.args.caller.number body (g.F.Fields.value c.args.fields.now)
     (RegisterCall (called_of c.in-Ok-Some-Call.call)) _
     (sym is)
@@ -23,8 +24,9 @@ returns-in-Ok-Some-Call-clause-calls g c = λ u body is st s.
 
 pub returns-in-Ok-Some-Uri-clause-calls : goal.returns-in-Ok-Some-Uri-clause-calls
 returns-in-Ok-Some-Uri-clause-calls g c = λ u body is st s.
-    calls_carried (g.S.Store.failed c.args.register.now.store)
-    (g.S.Store.failed c.query.new.register.store) (g.S.Store.content c.query.new.register.store) st
+    calls_carried (g.S.StoreModel.failed c.args.register.now.store)
+    (g.S.StoreModel.failed c.query.new.register.store)
+    (g.S.StoreModel.content c.query.new.register.store) st
     c.args.route c.args.caller.number body (g.F.Fields.value c.args.fields.now)
     (UriQuery c.in-Ok-Some-Uri.uri.now) _
     (sym is)

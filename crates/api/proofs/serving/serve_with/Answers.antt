@@ -15,16 +15,16 @@ use Rattle.api.proofs.serving.serve_with.Goals as goal
 pub loop-count-init : goal.loop-count-init
 loop-count-init g c = (
   c.requires.size,
-  c.requires.room,
+  c.requires.capacity,
   λ usable. usable,
   le_refl _,
   λ honest. honest,
   λ usable honest. inl usable,
   λ usable. (
-    remaining_input c.args.buffers.now.held (g.R.Read.remaining c.args.reader.now),
+    remaining_input c.args.buffers.now.buffer (g.R.Read.remaining c.args.reader.now),
     refl,
-    started c.args.options.now.clock_route (g.S.Store.failed c.args.register.now.store)
-        (g.S.Store.content c.args.register.now.store) _ (g.R.Read.remaining c.args.reader.now)
+    started c.args.options.now.clock_route (g.S.StoreModel.failed c.args.register.now.store)
+        (g.S.StoreModel.content c.args.register.now.store) _ (g.R.Read.remaining c.args.reader.now)
         (g.W.Write.contents c.args.writer.now) (g.T.Ticks.remaining c.args.ticks.now)
         c.requires.empty,
   ),
@@ -70,9 +70,10 @@ returns-in-Err-clause-until g c = λ usable honest.
     let was = c.respond-end.ensures.honest honest in
     let sent = subst (AppendsFront (g.W.Write.contents c.loop-count.writer)
     (g.W.Write.contents c.send_all.new.writer)) c.as_bytes.ensures.value c.in-Err.ensures.err in
-    still (c.loop-count.invariant.5 usable was) (λ held. c.respond-end.ensures.stays held honest)
-    (λ held withheld.
-    let at = c.loop-count.invariant.6 held in
+    still (c.loop-count.invariant.5 usable was) (λ still_usable. c.respond-end.ensures.stays
+    still_usable honest)
+    (λ still_usable withheld.
+    let at = c.loop-count.invariant.6 still_usable in
     stopped_partly _ _ _ _ _ _ _ _ _ _ _ _ at.2 _ _ _ _ c.in-Ok-Some.next
     (rw c.in-Ok-Some.field-0-is at (c.in-Ok-Some.ensures.cut at.0 at.1)) sent withheld)
     (further_partly _ _ _ _ _ _ _ _ _ sent)
@@ -82,9 +83,10 @@ returns-in-Some-clause-until g c = λ usable honest.
     let was = c.respond-end.ensures.honest honest in
     let sent = subst (Appends (g.W.Write.contents c.loop-count.writer)
     (g.W.Write.contents c.send_all.new.writer)) c.as_bytes.ensures.value c.in-Ok.ensures.ok in
-    still (c.loop-count.invariant.5 usable was) (λ held. c.respond-end.ensures.stays held honest)
-    (λ held withheld.
-    let at = c.loop-count.invariant.6 held in
+    still (c.loop-count.invariant.5 usable was) (λ still_usable. c.respond-end.ensures.stays
+    still_usable honest)
+    (λ still_usable withheld.
+    let at = c.loop-count.invariant.6 still_usable in
     stops _ _ _ _ _ _ _ (stopped _ _ _ _ _ _ _ _ _ _ _ _ at.2 _ _ _ _ c.in-Ok-Some.next
     (rw c.in-Ok-Some.field-0-is at (c.in-Ok-Some.ensures.cut at.0 at.1)) sent withheld))
     (λ past. stops _ _ _ _ _ _ _ (further _ _ _ _ _ _ _ _ _ sent past))
@@ -92,7 +94,7 @@ returns-in-Some-clause-until g c = λ usable honest.
 pub returns-in-Err-clause-serves : goal.returns-in-Err-clause-serves
 returns-in-Err-clause-serves g c = λ usable.
     let at = c.loop-count.invariant.6 (c.respond-end.ensures.usable usable) in
-    partly _ _ _ _ _ _ _ _ _ _ _ _ at.2 _ _ c.next_of.new.held
+    partly _ _ _ _ _ _ _ _ _ _ _ _ at.2 _ _ c.next_of.new.buffer
     (g.R.Read.remaining c.next_of.new.reader) c.in-Ok-Some.ensures.size _ _ _ _ c.in-Ok-Some.next
     (rw c.in-Ok-Some.field-0-is at (c.in-Ok-Some.ensures.cut at.0 at.1))
     (rw c.in-Ok-Some.field-0-is at (c.in-Ok-Some.ensures.read at.0 at.1))
@@ -103,14 +105,14 @@ returns-in-Err-clause-serves g c = λ usable.
 pub returns-in-Err-clause-state : goal.returns-in-Err-clause-state
 returns-in-Err-clause-state g c = λ usable.
     let at = c.loop-count.invariant.6 (c.respond-end.ensures.usable usable) in
-    state_then _ _ _ _ _ _ _ _ _ _ _ _ at.2 _ _ c.next_of.new.held
+    state_then _ _ _ _ _ _ _ _ _ _ _ _ at.2 _ _ c.next_of.new.buffer
     (g.R.Read.remaining c.next_of.new.reader) c.in-Ok-Some.ensures.size _ _ _ c.in-Ok-Some.next
     (c.respond-end.ensures.responds usable)
 
 pub returns-in-Some-clause-serves : goal.returns-in-Some-clause-serves
 returns-in-Some-clause-serves g c = λ usable.
     let at = c.loop-count.invariant.6 (c.respond-end.ensures.usable usable) in
-    finished _ _ _ _ _ _ _ _ _ _ _ _ at.2 _ _ c.next_of.new.held
+    finished _ _ _ _ _ _ _ _ _ _ _ _ at.2 _ _ c.next_of.new.buffer
     (g.R.Read.remaining c.next_of.new.reader) c.in-Ok-Some.ensures.size _ _ _ _ c.in-Ok-Some.next
     c.in-Some.end
     (sym c.respond-end.ensures.end ∙ c.in-Some.is)
@@ -123,14 +125,14 @@ returns-in-Some-clause-serves g c = λ usable.
 pub returns-in-Some-clause-state : goal.returns-in-Some-clause-state
 returns-in-Some-clause-state g c = λ usable.
     let at = c.loop-count.invariant.6 (c.respond-end.ensures.usable usable) in
-    state_then _ _ _ _ _ _ _ _ _ _ _ _ at.2 _ _ c.next_of.new.held
+    state_then _ _ _ _ _ _ _ _ _ _ _ _ at.2 _ _ c.next_of.new.buffer
     (g.R.Read.remaining c.next_of.new.reader) c.in-Ok-Some.ensures.size _ _ _ c.in-Ok-Some.next
     (c.respond-end.ensures.responds usable)
 
 pub loop-count-preserved : goal.loop-count-preserved
 loop-count-preserved g c = (
   c.next_buffered-at_hand.ensures.size,
-  c.respond-end.ensures.room,
+  c.respond-end.ensures.capacity,
   λ usable. c.loop-count.invariant.2 (c.respond-end.ensures.usable usable),
   le_trans c.loop-count.invariant.3 c.respond-end.ensures.rises,
   λ honest. c.loop-count.invariant.4 (c.respond-end.ensures.honest honest),
@@ -138,17 +140,18 @@ loop-count-preserved g c = (
       let was = c.respond-end.ensures.honest honest in
       let sent = subst (Appends (g.W.Write.contents c.loop-count.writer)
       (g.W.Write.contents c.send_all.new.writer)) c.as_bytes.ensures.value c.in-Ok.ensures.ok in
-      still (c.loop-count.invariant.5 usable was) (λ held. c.respond-end.ensures.stays held honest)
-      (λ held withheld.
-      let at = c.loop-count.invariant.6 held in
+      still (c.loop-count.invariant.5 usable was) (λ still_usable. c.respond-end.ensures.stays
+      still_usable honest)
+      (λ still_usable withheld.
+      let at = c.loop-count.invariant.6 still_usable in
       stopped _ _ _ _ _ _ _ _ _ _ _ _ at.2 _ _ _ _ c.in-Ok-Some.next
       (rw c.in-Ok-Some.field-0-is at (c.in-Ok-Some.ensures.cut at.0 at.1)) sent withheld)
       (further _ _ _ _ _ _ _ _ _ sent),
   λ usable.
       let at = c.loop-count.invariant.6 (c.respond-end.ensures.usable usable) in (
-        remaining_input c.next_of.new.held (g.R.Read.remaining c.next_of.new.reader),
+        remaining_input c.next_of.new.buffer (g.R.Read.remaining c.next_of.new.reader),
         c.next_buffered-at_hand.ensures.cut (g.R.Read.remaining c.next_of.new.reader),
-        went_on _ _ _ _ _ _ _ _ _ _ _ _ at.2 _ _ c.next_of.new.held
+        went_on _ _ _ _ _ _ _ _ _ _ _ _ at.2 _ _ c.next_of.new.buffer
             (g.R.Read.remaining c.next_of.new.reader) c.in-Ok-Some.ensures.size _ _ _ _
             c.in-Ok-Some.next
             (sym c.respond-end.ensures.end ∙ c.in_default.is)
@@ -164,11 +167,12 @@ returns-clause-serves g c = λ usable.
     let at = c.loop-count.invariant.6 usable in
     let last : c.loop-count.count ≡ 18446744073709551615 =
     omega (arith, c.loop-count-test.false, c.loop-count.auto.count-end) in
-    subst (λ (k : ℕ). (st : State) → Refines (g.S.Store.content c.args.register.now.store) st
+    subst (λ (k : ℕ). (st : State) → Refines (g.S.StoreModel.content c.args.register.now.store) st
     → IfSome (g.R.Read.remaining c.args.reader.now)
     (λ input. FailsAt (Memory k) c.args.options.now.clock_route
-    (g.S.Store.failed c.args.register.now.store) (g.S.Store.failed c.loop-count.register.store) st
-    (g.S.Store.content c.loop-count.register.store)
+    (g.S.StoreModel.failed c.args.register.now.store)
+    (g.S.StoreModel.failed c.loop-count.register.store) st
+    (g.S.StoreModel.content c.loop-count.register.store)
     (record {
       input = input;
       unread = g.R.Read.remaining c.loop-count.reader;

@@ -8,20 +8,21 @@ use Rattle.api.proofs.serving.serve_with.Given as goal
 
 abbrev pub invariant-loop-count : goal.invariant-loop-count
 invariant-loop-count g l =
-    (vec_len l.held.bytes ≡ 8192) × HasCapacity 512 l.room
-    × (g.S.Store.IsUsable l.register.store → g.S.Store.IsUsable l.fn.register.store)
-    × (g.S.Store.failed l.fn.register.store ≤ g.S.Store.failed l.register.store)
-    × (g.S.Store.HasHonestDevice l.register.store → g.S.Store.HasHonestDevice l.fn.register.store)
-    × (g.S.Store.IsUsable l.fn.register.store → g.S.Store.HasHonestDevice l.register.store
-    → g.S.Store.IsUsable l.register.store
-    ⊎ Past l.fn.options.clock_route (g.S.Store.failed l.fn.register.store)
-    (g.S.Store.content l.fn.register.store) (g.R.Read.remaining l.fn.reader)
+    (vec_len l.buffer.bytes ≡ 8192) × HasCapacity 512 l.response
+    × (g.S.StoreModel.IsUsable l.register.store → g.S.StoreModel.IsUsable l.fn.register.store)
+    × (g.S.StoreModel.failed l.fn.register.store ≤ g.S.StoreModel.failed l.register.store)
+    × (g.S.StoreModel.HasHonestDevice l.register.store
+    → g.S.StoreModel.HasHonestDevice l.fn.register.store)
+    × (g.S.StoreModel.IsUsable l.fn.register.store → g.S.StoreModel.HasHonestDevice l.register.store
+    → g.S.StoreModel.IsUsable l.register.store
+    ⊎ Past l.fn.options.clock_route (g.S.StoreModel.failed l.fn.register.store)
+    (g.S.StoreModel.content l.fn.register.store) (g.R.Read.remaining l.fn.reader)
     (g.W.Write.contents l.fn.writer) (g.T.Ticks.remaining l.fn.ticks) (g.W.Write.contents l.writer))
-    × (g.S.Store.IsUsable l.register.store → (left : Option (List ℕ))
-    × IsTaken left l.at_hand l.body.items (remaining_input l.held (g.R.Read.remaining l.reader))
-    × Progress l.fn.options.clock_route (g.S.Store.failed l.fn.register.store)
-    (g.S.Store.failed l.register.store) (g.S.Store.content l.fn.register.store)
-    (g.S.Store.content l.register.store)
+    × (g.S.StoreModel.IsUsable l.register.store → (left : Option (List ℕ))
+    × IsTaken left l.at_hand l.body.items (remaining_input l.buffer (g.R.Read.remaining l.reader))
+    × Progress l.fn.options.clock_route (g.S.StoreModel.failed l.fn.register.store)
+    (g.S.StoreModel.failed l.register.store) (g.S.StoreModel.content l.fn.register.store)
+    (g.S.StoreModel.content l.register.store)
     (g.R.Read.remaining l.fn.reader) left (g.W.Write.contents l.fn.writer)
     (g.W.Write.contents l.writer) (g.T.Ticks.remaining l.fn.ticks) (g.T.Ticks.remaining l.ticks)
     l.count)

@@ -13,12 +13,14 @@ pub returns-in-Ok-clause-responds : goal.returns-in-Ok-clause-responds
 returns-in-Ok-clause-responds g c = λ u. (
   minute_of c.next-tick.result,
   c.next-tick.ensures,
-  tick_then c.args.clock (minute_of c.next-tick.result) (g.S.Store.failed c.args.register.now.store)
-      (g.S.Store.failed c.take_tick.new.register.store)
-      (g.S.Store.failed c.write_response.new.register.store)
-      (g.S.Store.content c.args.register.now.store)
-      (g.S.Store.content c.take_tick.new.register.store)
-      (g.S.Store.content c.write_response.new.register.store) c.args.request.now c.args.body.now _
+  tick_then c.args.clock (minute_of c.next-tick.result)
+      (g.S.StoreModel.failed c.args.register.now.store)
+      (g.S.StoreModel.failed c.move_clock.new.register.store)
+      (g.S.StoreModel.failed c.write_response.new.register.store)
+      (g.S.StoreModel.content c.args.register.now.store)
+      (g.S.StoreModel.content c.move_clock.new.register.store)
+      (g.S.StoreModel.content c.write_response.new.register.store) c.args.request.now
+      c.args.body.now _
       c.in-Ok.ensures.preserves.rises (c.in-Ok.ensures.moved (c.write_response.ensures.usable u))
       (c.write_response.ensures.step u),
 )
@@ -28,15 +30,18 @@ returns-in-Err-clause-responds g c = λ u. (
   minute_of c.next-tick.result,
   c.next-tick.ensures,
   tick_withheld c.args.clock (minute_of c.next-tick.result)
-      (g.S.Store.failed c.args.register.now.store) (g.S.Store.failed c.take_tick.new.register.store)
-      (g.S.Store.content c.args.register.now.store)
-      (g.S.Store.content c.take_tick.new.register.store) c.args.request.now c.args.body.now _ _
-      c.in-Err.ensures.preserves.rises c.put_refused.ensures.text (c.in-Err.ensures.short u),
+      (g.S.StoreModel.failed c.args.register.now.store) (g.S.StoreModel.failed
+      c.move_clock.new.register.store)
+      (g.S.StoreModel.content c.args.register.now.store)
+      (g.S.StoreModel.content c.move_clock.new.register.store) c.args.request.now c.args.body.now _
+      _
+      c.in-Err.ensures.preserves.rises c.put_refused.ensures.text (c.in-Err.ensures.unavailable u),
 )
 
 pub returns-in-Err-clause-stays : goal.returns-in-Err-clause-stays
 returns-in-Err-clause-stays g c = λ usable honest.
-    subst (λ (t : List ℕ). IsUnavailableText t ⊎ g.S.Store.IsUsable c.take_tick.new.register.store)
+    subst (λ (t : List ℕ). IsUnavailableText t
+    ⊎ g.S.StoreModel.IsUsable c.move_clock.new.register.store)
     (sym c.put_refused.ensures.text)
     (refused_or c.in-Err.refusal (λ answered. c.in-Err.ensures.preserves.stays answered usable
     honest))

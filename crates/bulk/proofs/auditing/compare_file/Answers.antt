@@ -7,7 +7,7 @@ use Rattle.bulk.proofs.auditing.compare_file.Goals as goal
 pub returns-in-Ok-clause-compared : goal.returns-in-Ok-clause-compared
 returns-in-Ok-clause-compared g c =
     file_compares c.compare.result (λ findings. findings.items) (g.R.Read.remaining c.args.reader)
-    c.args.held.now.in_force.items c.args.held.now.waiting.items c.in-Ok.entries.items
+    c.args.side.now.in_force.items c.args.side.now.waiting.items c.in-Ok.entries.items
     c.deref.result.now c.deref.ensures.value
     (λ bytes e.
     let (rows, are) = rows_of_text bytes in
@@ -23,7 +23,7 @@ returns-in-Ok-clause-other g c =
     let (rows, are) = rows_of_text bytes in
     let copy = c.in-Ok.ensures.copy rows (c.open-reader.ensures.rows bytes rows e are) in
     record { rows = rows; others = copy.0; are = are; header = copy.1; read = copy.2 })
-    c.compare.ensures.twice c.compare.ensures.kinds
+    c.compare.ensures.duplicate c.compare.ensures.kinds
 
 pub returns-clause-other : goal.returns-clause-other
 returns-clause-other g c =

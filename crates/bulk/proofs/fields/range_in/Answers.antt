@@ -10,23 +10,26 @@ returns-in_err-first-clause-none c = if_none c.from_residual.result (λ numbers 
 
 pub returns-in_err-tn_in-clause-none : goal.returns-in_err-tn_in-clause-none
 returns-in_err-tn_in-clause-none c = if_none c.from_residual-in_err-tn_in.result (λ numbers e.
-    let cut = c.in_ok-first.ensures.some in
-    let same = same_range c.args.field.now _ _ numbers.first.number numbers.last.number cut.0 cut.1
+    let parts = c.in_ok-first.ensures.some in
+    let same = same_range c.args.field.now _ _ numbers.first.number numbers.last.number parts.0
+    parts.1
     e in
     c.in_err-tn_in.ensures.none numbers.first.number numbers.first.valid same.0)
 
 pub returns-in_err-tn_in-2-clause-none : goal.returns-in_err-tn_in-2-clause-none
 returns-in_err-tn_in-2-clause-none c = if_none c.from_residual-in_err-tn_in-2.result (λ numbers e.
-    let cut = c.in_ok-first.ensures.some in
-    let same = same_range c.args.field.now _ _ numbers.first.number numbers.last.number cut.0 cut.1
+    let parts = c.in_ok-first.ensures.some in
+    let same = same_range c.args.field.now _ _ numbers.first.number numbers.last.number parts.0
+    parts.1
     e in
     c.in_err-tn_in-2.ensures.none numbers.last.number numbers.last.valid same.1)
 
 -- Any range of this text has the numbers that were read.
 pub returns-clause-none : goal.returns-clause-none
 returns-clause-none c = if_none_of c.new.result (λ other numbers e.
-    let cut = c.in_ok-first.ensures.some in
-    let same = same_range c.args.field.now _ _ numbers.first.number numbers.last.number cut.0 cut.1
+    let parts = c.in_ok-first.ensures.some in
+    let same = same_range c.args.field.now _ _ numbers.first.number numbers.last.number parts.0
+    parts.1
     e in
     let first =
     same_tn _ _ _ c.in_ok-tn_in.field-0.valid numbers.first.valid c.in_ok-tn_in.ensures.some

@@ -8,7 +8,7 @@ use Rattle.bulk.proofs.file.run_file.Goals as goal
 pub returns-in-Ok-read_header-clause-runs : goal.returns-in-Ok-read_header-clause-runs
 returns-in-Ok-read_header-clause-runs g c = λ u st s.
     known (g.R.Read.remaining c.args.reader)
-    (λ bytes. RunsFile st bytes (g.S.Store.content c.report_rows.new.register.store)
+    (λ bytes. RunsFile st bytes (g.S.StoreModel.content c.report_rows.new.register.store)
     (g.W.Write.contents c.args.writer.now) (g.W.Write.contents c.report_rows.new.writer)
     c.report_rows.result)
     (λ bytes e.
@@ -21,12 +21,12 @@ returns-in-Ok-read_header-clause-runs g c = λ u st s.
 pub returns-clause-runs : goal.returns-clause-runs
 returns-clause-runs g c = λ u st s.
     known (g.R.Read.remaining c.args.reader)
-    (λ bytes. RunsFile st bytes (g.S.Store.content c.args.register.now.store)
+    (λ bytes. RunsFile st bytes (g.S.StoreModel.content c.args.register.now.store)
     (g.W.Write.contents c.args.writer.now) (g.W.Write.contents c.args.writer.now)
     (Err c.at_start-in-Err-read_header.result))
     (λ bytes e.
     let (rows, are) = rows_of_text bytes in
-    nothing_run st bytes (g.S.Store.content c.args.register.now.store)
+    nothing_run st bytes (g.S.StoreModel.content c.args.register.now.store)
     (g.W.Write.contents c.args.writer.now) c.at_start-in-Err-read_header.result
     c.at_start-in-Err-read_header.ensures.rows s
     (why_not c.in-Err-read_header.kind c.at_start-in-Err-read_header.result.kind bytes rows are

@@ -5,9 +5,9 @@ use Rattle.bulk.proofs.running.run_number.Goals as goal
 
 pub returns-in-Ok-clause-runs : goal.returns-in-Ok-clause-runs
 returns-in-Ok-clause-runs g c = λ u st s.
-    let made = c.in-Ok.ensures.made u st s in
+    let made = c.in-Ok.ensures.executed u st s in
     one_sent st (CommandTask c.args.row c.args.request.now.caller.number c.args.tn.number
-    c.args.request.now.operation) _ _ _ c.args.count (string_bytes c.make.new.line.text)
+    c.args.request.now.operation) _ _ _ c.args.count (string_bytes c.execute.new.line.text)
     c.send_line.result
     made.0 made.1 c.send_line.ensures
 
@@ -16,4 +16,4 @@ returns-in-Err-clause-runs g c = λ u st s.
     short_stop c.in-Err.kind st (CommandTask c.args.row c.args.request.now.caller.number
     c.args.tn.number
     c.args.request.now.operation ∷ []) _ (g.W.Write.contents c.args.writer.now) c.args.count
-    c.in-Err.ensures.short (c.in-Err.ensures.kept u st s)
+    c.in-Err.ensures.unavailable (c.in-Err.ensures.kept u st s)

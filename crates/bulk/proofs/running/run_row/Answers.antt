@@ -5,7 +5,7 @@ use Rattle.bulk.proofs.running.run_row.Goals as goal
 
 pub returns-in-Some-clause-runs : goal.returns-in-Some-clause-runs
 returns-in-Some-clause-runs g c =
-    (Some c.in-Some.request, c.in-Some.ensures, c.run_order.ensures.runs)
+    (Some c.in-Some.request, c.in-Some.ensures, c.run_request.ensures.runs)
 
 pub returns-in-None-clause-runs : goal.returns-in-None-clause-runs
 returns-in-None-clause-runs g c = (

@@ -12,11 +12,12 @@ pub loop-row-init : goal.loop-row-init
 loop-row-init g c = record {
   plain = c.requires;
   few = omega arith;
-  owed = owes_none g.S.Store.IsUsable g.S.Store.HasHonestDevice g.S.Store.failed
+  owed = owes_none g.S.StoreModel
       c.args.register.now.store;
-  follows = λ u st s. follows_none st (g.S.Store.content c.args.register.now.store) s;
+  follows = λ u st s. follows_none st (g.S.StoreModel.content c.args.register.now.store) s;
   passes = λ u st s rows has. begins g.R.Read.remaining st rows c.args.reader.now
-      (g.S.Store.content c.args.register.now.store) (g.W.Write.contents c.args.writer.now) s has;
+      (g.S.StoreModel.content c.args.register.now.store) (g.W.Write.contents c.args.writer.now) s
+      has;
 }
 
 pub returns-in-Err-run_row-clause-runs : goal.returns-in-Err-run_row-clause-runs
@@ -32,7 +33,7 @@ returns-in-Err-run_row-clause-runs g c = λ u st s rows has.
 pub returns-in-Err-run_row-clause-state : goal.returns-in-Err-run_row-clause-state
 returns-in-Err-run_row-clause-state g c = λ u st s.
     let runs = c.in-Err-run_row.ensures.runs in
-    follows_then st (g.S.Store.content c.loop-row.register.store) _
+    follows_then st (g.S.StoreModel.content c.loop-row.register.store) _
     (c.loop-row.invariant.follows (c.run_row.ensures.preserves.usable u) st s)
     (λ later t. run_follows later (tasks_of c.loop-row.row runs.0) _
     (g.W.Write.contents c.loop-row.writer) (g.W.Write.contents c.run_row.new.writer)
@@ -70,7 +71,7 @@ loop-row-preserved g c =
         storage = λ x. absurd x;
       };
       follows = λ u st s.
-          follows_then st (g.S.Store.content c.loop-row.register.store) _
+          follows_then st (g.S.StoreModel.content c.loop-row.register.store) _
           (c.loop-row.invariant.follows (c.run_row.ensures.preserves.usable u) st s)
           (λ later t. run_follows later (tasks_of c.loop-row.row runs.0) _
           (g.W.Write.contents c.loop-row.writer) (g.W.Write.contents c.run_row.new.writer)

@@ -11,15 +11,15 @@ abbrev pub invariant-loop-row : goal.invariant-loop-row
 invariant-loop-row g l = record {
   plain : IsPlain l.reader;
   few : l.count + 1000 ≤ 1000 * l.row;
-  owed : PreservesStore g.S.Store.IsUsable g.S.Store.HasHonestDevice g.S.Store.failed
+  owed : PreservesStore g.S.StoreModel
       l.fn.register.store
       l.register.store ⊥ ⊥;
-  follows : g.S.Store.IsUsable l.register.store → (st : State)
-      → Refines (g.S.Store.content l.fn.register.store) st
-      → RefinesReachable st (g.S.Store.content l.register.store);
-  passes : g.S.Store.IsUsable l.register.store → (st : State)
-      → Refines (g.S.Store.content l.fn.register.store) st → (rows : List Row)
+  follows : g.S.StoreModel.IsUsable l.register.store → (st : State)
+      → Refines (g.S.StoreModel.content l.fn.register.store) st
+      → RefinesReachable st (g.S.StoreModel.content l.register.store);
+  passes : g.S.StoreModel.IsUsable l.register.store → (st : State)
+      → Refines (g.S.StoreModel.content l.fn.register.store) st → (rows : List Row)
       → HasRows g.R.Read.remaining l.fn.reader rows →
-      Passes g.R.Read.remaining st rows l.reader (g.S.Store.content l.register.store)
+      Passes g.R.Read.remaining st rows l.reader (g.S.StoreModel.content l.register.store)
       (g.W.Write.contents l.fn.writer) (g.W.Write.contents l.writer) l.row l.count;
 }

@@ -14,5 +14,6 @@ loop-subject-preserved c = λ s.
     (λ t.
     c.in_ok-set_sides.ensures.set t
     ∙ ap (λ (x : Sides). if subject_eq (subject_of c.subject-item.result) (subject_of t)
-    then (record x { waits = true }) else sides_at c.loop-subject.all t) c.sides_of-sides.ensures) s
+    then (record x { is_waiting = true }) else sides_at c.loop-subject.all t)
+    c.sides_of-sides.ensures) s
     ∙ c.loop-subject.invariant s

@@ -94,7 +94,7 @@ asks : (kinds : Kinds) (error : Error) (status : ℕ) → status ≡ 0 → (kind
     → status ≡ 3) → HasKind kinds error → (kind_of error ≡ kind.DisplayHelp)
     ⊎ (kind_of error ≡ kind.DisplayVersion) →
     IsAmong kind.DisplayHelp kinds ⊎ IsAmong kind.DisplayVersion kinds
-asks kinds error status zero memory (inl none) told = let three = memory none in
+asks kinds error status zero memory (inl none) reported = let three = memory none in
     absurd (omega (arith, zero, three))
 asks kinds error status zero memory (inr among) (inl help) =
     inl (subst (λ k. IsAmong k kinds) help among)

@@ -5,9 +5,9 @@ use Rattle.http_messages.proofs.body.read_body.Given as goal
 
 abbrev pub invariant-pieces : goal.invariant-pieces
 invariant-pieces g l =
-    (vec_len l.held.bytes ≡ 8192) × (l.count ≤ vec_capacity l.body) × (vec_len l.body ≤ l.count)
-    × Consumes (remaining_input l.fn.held (g.R.Read.remaining l.fn.reader))
-    (remaining_input l.held (g.R.Read.remaining l.reader)) l.body.items
+    (vec_len l.buffer.bytes ≡ 8192) × (l.count ≤ vec_capacity l.body) × (vec_len l.body ≤ l.count)
+    × Consumes (remaining_input l.fn.buffer (g.R.Read.remaining l.fn.reader))
+    (remaining_input l.buffer (g.R.Read.remaining l.reader)) l.body.items
 
 abbrev pub decreases-pieces : goal.decreases-pieces
 decreases-pieces g l = l.count - vec_len l.body

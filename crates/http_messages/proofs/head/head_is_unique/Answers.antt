@@ -9,8 +9,8 @@ use Rattle.httparse.proofs.GrammarLemmas.{request_unique, print_request-append, 
 use Rattle.http_messages.proofs.head.head_is_unique.Goals as goal
 
 -- Of two prefixes of one list, the shorter is a prefix of the longer.
-front_of : (a b c d : List ℕ) → a ++ b ≡ c ++ d → length c ≤ length a → a ≡ c ++ drop (length c) a
-front_of a b c d e l =
+prefix_of : (a b c d : List ℕ) → a ++ b ≡ c ++ d → length c ≤ length a → a ≡ c ++ drop (length c) a
+prefix_of a b c d e l =
     let same : take (length c) a ≡ c =
     sym (take-append-le (length c) a b l) ∙ ap (take (length c)) e ∙ take-append_seam c d in
     sym (take-append-drop (length c) a) ∙ ap (λ (t : List ℕ). t ++ drop (length c) a) same
@@ -23,7 +23,7 @@ returns-clause-full c = λ buf more h rest long none x.
     let fits : length (print_request h) ≤ length buf = omega (arith, long, x.short) in
     none h (drop (length (print_request h)) buf) (
       x.reads.0,
-      front_of buf more (print_request h)
+      prefix_of buf more (print_request h)
           rest x.reads.1 fits,
     )
 

@@ -9,4 +9,4 @@ both false b c e f = cc
 
 pub returns : goal.returns
 returns c = let long : nat_lt 0 (length c.args.part.now) ≡ true =
-    grind (arith, nat_tests, c.if-is_empty.ensures) in both _ _ _ long c.are_of_part.ensures
+    grind (arith, nat_tests, c.if-is_empty.ensures) in both _ _ _ long c.are_part_bytes.ensures

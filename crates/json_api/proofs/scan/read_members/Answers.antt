@@ -15,7 +15,7 @@ members-preserved c =
     c.members.invariant c.in_ok-member.ensures in
     let now : IsAfter c.args.body.now after c.try_push.new.self.items =
     subst (IsAfter c.args.body.now after) (sym c.in-Ok.ensures.ok) read in
-    with_comma c.args.body.now c.in-Some.behind.now after c.try_push.new.self.items now
+    with_comma c.args.body.now c.in-Some.next.now after c.try_push.new.self.items now
     c.in-Some.ensures
 
 pub members-smaller : goal.members-smaller
@@ -35,10 +35,10 @@ returns-in-Some-empty c =
     let now : IsAfter c.args.body.now after c.try_push.new.self.items =
     subst (IsAfter c.args.body.now after) (sym c.in-Ok.ensures.ok) read in
     let none : length c.in-Some-empty.field-0.now ≤ 0 = omega (arith, c.in-Some-empty.len_below) in
-    let close : c.behind_gap.result.now ≡ 125 ∷ [] =
+    let close : c.skip_gap.result.now ≡ 125 ∷ [] =
     c.in-Some-empty.ensures ∙ ap (λ l. 125 ∷ l) (empty_of c.in-Some-empty.field-0.now none) in
     whole c.args.body.now after c.try_push.new.self.items now (
-      c.behind_gap.ensures.0,
-      c.behind_gap.ensures.1,
-      c.behind_gap.ensures.2 ∙ ap (λ l. c.behind_gap.ensures.0 ++ l) close,
+      c.skip_gap.ensures.0,
+      c.skip_gap.ensures.1,
+      c.skip_gap.ensures.2 ∙ ap (λ l. c.skip_gap.ensures.0 ++ l) close,
     )

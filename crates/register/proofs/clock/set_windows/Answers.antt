@@ -30,7 +30,8 @@ pub returns-then-caller-clause-decides : goal.returns-then-caller-clause-decides
 returns-then-caller-clause-decides g c = λ usable.
     let other : (c.args.caller.number == npac) ≡ false = search rules in
     decides_refused _ _ _ NotAdmin (λ st refines settled. sets_not_admin
-    (g.S.Store.content c.args.store.now) c.args.caller.number (windows_of c.args.windows.now) other
+    (g.S.StoreModel.content c.args.store.now) c.args.caller.number (windows_of c.args.windows.now)
+    other
     st refines)
 
 pub returns-then-clock-ge-MOST_SETS-clause-decides :
@@ -39,14 +40,14 @@ returns-then-clock-ge-MOST_SETS-clause-decides g c = λ usable.
     let admin : (c.args.caller.number == npac) ≡ true = search rules in
     let past : 1000 ≤ c.in-Some.clock.present.number = search rules in
     decides_refused _ _ _ Full (λ st refines settled. sets_full
-    (g.S.Store.content c.args.store.now) c.args.caller.number (windows_of c.args.windows.now)
+    (g.S.StoreModel.content c.args.store.now) c.args.caller.number (windows_of c.args.windows.now)
     admin (clock_row_of c.in-Some.clock)
     (sym (c.in_ok-clock.ensures.value usable) ∙ ap (option_map clock_row_of) c.in-Some.is)
     (past_test c.in-Some.clock.present.number past) st refines)
 
 pub returns-clause-decides : goal.returns-clause-decides
 returns-clause-decides g c = λ usable.
-    let old = g.S.Store.content c.args.store.now in
+    let old = g.S.StoreModel.content c.args.store.now in
     let admin : (c.args.caller.number == npac) ≡ true = search rules in
     let below : c.in-Some.clock.present.number < 1000 = search rules in
     let next : c.saturating_add.result ≡ c.in-Some.clock.present.number + 1 =

@@ -14,14 +14,16 @@ use Rattle.register.proofs.commands.execute.Goals as goal
 
 pub returns-in_err-reply-clause-answers : goal.returns-in_err-reply-clause-answers
 returns-in_err-reply-clause-answers g c = λ usable.
-    carried_refused (g.S.Store.content c.args.store.now) (g.S.Store.content c.decide.new.store)
+    carried_refused (g.S.StoreModel.content c.args.store.now)
+    (g.S.StoreModel.content c.decide.new.store)
     (RequestFrom c.args.caller.number (request_of c.args.request)) _
     c.from_residual.result c.in_err-reply.field-0.0 (search rules)
     (c.in_err-reply.ensures.read_only.same usable).1 (c.in_err-reply.ensures.decides usable)
 
 pub returns-in_err-commit-clause-answers : goal.returns-in_err-commit-clause-answers
 returns-in_err-commit-clause-answers g c = λ usable.
-    answers_fault (g.S.Store.content c.args.store.now) (g.S.Store.content c.commit.new.self)
+    answers_fault (g.S.StoreModel.content c.args.store.now)
+    (g.S.StoreModel.content c.commit.new.self)
     (RequestFrom c.args.caller.number (request_of c.args.request)) reply_of
     c.from_residual-in_err-commit.result c.in_err-commit.field-0.0 (search rules)
     (c.in_err-commit.ensures.refused usable ∙ (c.in_ok-reply.ensures.read_only.same
@@ -30,8 +32,8 @@ returns-in_err-commit-clause-answers g c = λ usable.
 pub returns-clause-answers : goal.returns-clause-answers
 returns-clause-answers g c = λ usable.
     let before = c.in_ok-commit.ensures.preserves.usable usable in
-    carried (g.S.Store.content c.args.store.now) (g.S.Store.content c.decide.new.store)
-    (g.S.Store.content c.commit.new.self) (RequestFrom c.args.caller.number
+    carried (g.S.StoreModel.content c.args.store.now) (g.S.StoreModel.content c.decide.new.store)
+    (g.S.StoreModel.content c.commit.new.self) (RequestFrom c.args.caller.number
     (request_of c.args.request))
     _ c.in_ok-reply.reply (c.in_ok-reply.ensures.read_only.same before).1
     (c.in_ok-reply.ensures.decides before) (c.in_ok-commit.ensures.done usable)
@@ -59,8 +61,8 @@ returns-in_err-commit-clause-preserves g c = record {
   stays = λ answered. absurd (fault_is_none c.from_residual-in_err-commit.result
       c.in_err-commit.field-0.0 (search rules) answered);
   rises = omega arith;
-  storage = λ says. risen-since (g.S.Store.failed c.args.store.now)
-      (g.S.Store.failed c.decide.new.store) (g.S.Store.failed c.commit.new.self)
+  storage = λ says. risen-since (g.S.StoreModel.failed c.args.store.now)
+      (g.S.StoreModel.failed c.decide.new.store) (g.S.StoreModel.failed c.commit.new.self)
       c.decide.ensures.read_only.rises c.commit.ensures.preserves.rises
       (c.in_err-commit.ensures.preserves.storage
       (ap Err (storage_by c.from_residual-in_err-commit.result
@@ -72,13 +74,14 @@ returns-in_err-commit-clause-left g c = λ honest m may.
     let before = c.commit.ensures.preserves.honest honest in
     let ready = c.in_ok-reply.ensures.open before in
     let start = c.in_ok-reply.ensures.read_only.same ready in
-    let old = g.S.Store.content c.args.store.now in
+    let old = g.S.StoreModel.content c.args.store.now in
     elim (c.commit.ensures.left honest m may) [
       | inl earlier ↦ inl (c.in_ok-reply.ensures.read_only.left before m earlier)
       | inr changed ↦ inr (
         start.0,
         comes old m (RequestFrom c.args.caller.number (request_of c.args.request)) _
-            (carried old (g.S.Store.content c.decide.new.store) m (RequestFrom c.args.caller.number
+            (carried old (g.S.StoreModel.content c.decide.new.store) m
+            (RequestFrom c.args.caller.number
             (request_of c.args.request)) _ c.in_ok-reply.reply start.1
             (c.in_ok-reply.ensures.decides ready) changed),
       )
@@ -87,14 +90,14 @@ returns-in_err-commit-clause-left g c = λ honest m may.
 pub returns-clause-left : goal.returns-clause-left
 returns-clause-left g c =
     let old = c.args.store.now in
-    left_kept g.S.Store.IsUsable g.S.Store.HasHonestDevice g.S.Store.content g.S.Store.IsCrashState
+    left_kept g.S.StoreModel
     old old
     c.commit.new.self g.met.S.Store.leaves_content
-    (TakesSettledStep (g.S.Store.content old) (RequestFrom c.args.caller.number
+    (TakesSettledStep (g.S.StoreModel.content old) (RequestFrom c.args.caller.number
     (request_of c.args.request)))
     (λ honest. c.in_ok-commit.ensures.preserves.stays tt (c.in_ok-reply.ensures.open
     (c.in_ok-commit.ensures.preserves.honest honest)) honest)
     (λ used. search (rules, used))
-    (λ used. comes (g.S.Store.content old) (g.S.Store.content c.commit.new.self)
+    (λ used. comes (g.S.StoreModel.content old) (g.S.StoreModel.content c.commit.new.self)
     (RequestFrom c.args.caller.number (request_of c.args.request)) _
     (returns-clause-answers g c used))

@@ -13,31 +13,33 @@ pub returns-in_err-held-clause-read_only : goal.returns-in_err-held-clause-read_
 returns-in_err-held-clause-read_only g c = record {
   same = λ usable.
       let third = c.in_err-held.ensures.read_only.same usable in
-      let second = c.in_ok-row.ensures.read_only.same third.0 in
-      let first = c.in_ok-clock.ensures.read_only.same second.0 in
+      let second = c.in_ok-row.ensures.looks_up.read_only.same third.0 in
+      let first = c.in_ok-clock.ensures.looks_up.read_only.same second.0 in
       (first.0, third.1 ∙ second.1 ∙ first.1);
-  honest = λ honest. c.in_ok-clock.ensures.read_only.honest
-      (c.in_ok-row.ensures.read_only.honest (c.in_err-held.ensures.read_only.honest honest));
+  honest = λ honest. c.in_ok-clock.ensures.looks_up.read_only.honest
+      (c.in_ok-row.ensures.looks_up.read_only.honest (c.in_err-held.ensures.read_only.honest
+      honest));
   stays = search rules;
   rises = omega arith;
   storage = λ (usable, has, said).
-      let old = g.S.Store.content c.args.store.now in
+      let old = g.S.StoreModel.content c.args.store.now in
       let third = c.in_err-held.ensures.read_only.same usable in
-      let second = c.in_ok-row.ensures.read_only.same third.0 in
-      let first = c.in_ok-clock.ensures.read_only.same second.0 in
-      let clock_is : (g.S.Store.content c.args.store.now).clock
+      let second = c.in_ok-row.ensures.looks_up.read_only.same third.0 in
+      let first = c.in_ok-clock.ensures.looks_up.read_only.same second.0 in
+      let clock_is : (g.S.StoreModel.content c.args.store.now).clock
       ≡ Some (clock_row_of c.in-Some.clock) =
       sym (c.in_ok-clock.ensures.value second.0) ∙ ap (option_map clock_row_of) c.in-Some.is in
-      let found : get (g.S.Store.content c.args.store.now).versions c.args.id
+      let found : get (g.S.StoreModel.content c.args.store.now).versions c.args.id
       ≡ Some c.in-Some-2.row =
       ap (λ (m : Content). get m.versions c.args.id) (sym first.1)
       ∙ sym (c.in_ok-row.ensures.value third.0) ∙ c.in-Some-2.is in
       let there : HasSet old (clock_row_of c.in-Some.clock) c.in-Some-2.row.held =
       has.has_set (clock_row_of c.in-Some.clock) c.in-Some-2.row clock_is found in
-      let a = c.clock.ensures.read_only.rises in
-      let b = c.version.ensures.read_only.rises in
-      risen-since (g.S.Store.failed c.args.store.now) (g.S.Store.failed c.version.new.self)
-      (g.S.Store.failed c.held_windows.new.store) (omega arith)
+      let a = c.clock.ensures.looks_up.read_only.rises in
+      let b = c.version.ensures.looks_up.read_only.rises in
+      risen-since (g.S.StoreModel.failed c.args.store.now)
+      (g.S.StoreModel.failed c.version.new.self)
+      (g.S.StoreModel.failed c.held_windows.new.store) (omega arith)
       c.held_windows.ensures.read_only.rises
       (c.in_err-held.ensures.read_only.storage (
         usable,
@@ -50,8 +52,9 @@ returns-in_err-held-clause-read_only g c = record {
       ));
   left = λ honest m may.
       let second = c.in_err-held.ensures.read_only.honest honest in
-      let first = c.in_ok-row.ensures.read_only.honest second in
-      c.in_ok-clock.ensures.read_only.left first m
-      (c.in_ok-row.ensures.read_only.left second m (c.in_err-held.ensures.read_only.left honest m
+      let first = c.in_ok-row.ensures.looks_up.read_only.honest second in
+      c.in_ok-clock.ensures.looks_up.read_only.left first m
+      (c.in_ok-row.ensures.looks_up.read_only.left second m (c.in_err-held.ensures.read_only.left
+      honest m
       may));
 }

@@ -17,7 +17,7 @@ use Rattle.register.proofs.pooling.assign.Goals as goal
 
 pub returns-in_err-found-clause-decides : goal.returns-in_err-found-clause-decides
 returns-in_err-found-clause-decides g c = λ usable.
-    let old = g.S.Store.content c.args.store.now in
+    let old = g.S.StoreModel.content c.args.store.now in
     let a = c.args.assignment.now in
     let at_carrier = c.in_err-found.ensures.read_only.same usable in
     decides_replied old _ _ c.from_residual-in_err-found.result c.in_err-found.field-0.0
@@ -31,12 +31,12 @@ returns-in_err-found-clause-decides g c = λ usable.
 
 pub returns-in_err-version-clause-decides : goal.returns-in_err-version-clause-decides
 returns-in_err-version-clause-decides g c = λ usable.
-    let old = g.S.Store.content c.args.store.now in
+    let old = g.S.StoreModel.content c.args.store.now in
     let a = c.args.assignment.now in
     let at_found = c.in_ok-is_lrn_good.ensures.read_only.same usable in
     let at_carrier = c.in_ok-found.ensures.read_only.same at_found.0 in
-    let at_start = c.in_ok-is_known.ensures.read_only.same at_carrier.0 in
-    let has = has_found old (g.S.Store.content c.carrier.new.self) c.args.caller.number
+    let at_start = c.in_ok-is_known.ensures.looks_up.read_only.same at_carrier.0 in
+    let has = has_found old (g.S.StoreModel.content c.carrier.new.self) c.args.caller.number
     a.block.number (assignment_of a) (clock_row_of c.in_ok-found.found.clock)
     c.in_ok-found.found.read c.facts-facts.result
     c.in_ok-is_known.is_known c.in_ok-is_lrn_good.is_lrn_good at_start.1
@@ -56,7 +56,8 @@ returns-in_err-version-clause-decides g c = λ usable.
 pub returns-in_err-version-clause-read_only : goal.returns-in_err-version-clause-read_only
 returns-in_err-version-clause-read_only g c =
     reads_refused
-    (reads_on (reads_on c.in_ok-is_known.ensures.read_only tt c.in_ok-found.ensures.read_only
+    (reads_on (reads_on c.in_ok-is_known.ensures.looks_up.read_only tt
+    c.in_ok-found.ensures.read_only
     tt) tt c.in_ok-is_lrn_good.ensures.read_only tt) tt
     (λ says. assignment_never c.args.caller.number c.facts-facts.result c.in_err-version.field-0.0
     c.in_err-version.ensures.refusal
@@ -65,13 +66,13 @@ returns-in_err-version-clause-read_only g c =
 
 pub returns-clause-decides : goal.returns-clause-decides
 returns-clause-decides g c = λ usable.
-    let old = g.S.Store.content c.args.store.now in
+    let old = g.S.StoreModel.content c.args.store.now in
     let a = c.args.assignment.now in
-    let at_lrn = c.in_ok-put_made.ensures.read_only.same usable in
+    let at_lrn = c.in_ok-stage_made.ensures.read_only.same usable in
     let at_found = c.in_ok-is_lrn_good.ensures.read_only.same at_lrn.0 in
     let at_carrier = c.in_ok-found.ensures.read_only.same at_found.0 in
-    let at_start = c.in_ok-is_known.ensures.read_only.same at_carrier.0 in
-    let has = has_found old (g.S.Store.content c.carrier.new.self) c.args.caller.number
+    let at_start = c.in_ok-is_known.ensures.looks_up.read_only.same at_carrier.0 in
+    let has = has_found old (g.S.StoreModel.content c.carrier.new.self) c.args.caller.number
     a.block.number (assignment_of a) (clock_row_of c.in_ok-found.found.clock)
     c.in_ok-found.found.read c.facts-facts.result
     c.in_ok-is_known.is_known c.in_ok-is_lrn_good.is_lrn_good at_start.1
@@ -85,12 +86,13 @@ returns-clause-decides g c = λ usable.
     record {
       refused = tt;
       accepted = λ m changed. answers_assigned old m c.args.caller.number a _ _ _ has
-          c.in_ok-version.version (keys (g.S.Store.content c.is_lrn_of.new.store).carriers)
+          c.in_ok-version.version (keys (g.S.StoreModel.content c.is_lrn_of.new.store).carriers)
           (view_of c.of.result)
           c.in_ok-version.ensures.refusal c.in_ok-version.ensures.made
           (ap (λ (k : Content). keys k.carriers) (at_found.1 ∙ at_carrier.1 ∙ at_start.1))
           c.of.ensures
-          (λ room. subst (λ d. AppliesChanges d old m) (c.in_ok-put_made.ensures.value usable room)
+          (λ room. subst (λ d. AppliesChanges d old m) (c.in_ok-stage_made.ensures.value usable
+          room)
           changed);
     }
 
@@ -98,20 +100,22 @@ pub returns-in_err-is_lrn_good-clause-decides : goal.returns-in_err-is_lrn_good-
 returns-in_err-is_lrn_good-clause-decides g c = λ usable. decides_fault _ _ _
     c.from_residual-in_err-is_lrn_good.result c.in_err-is_lrn_good.field-0.0 (search rules)
 
-pub returns-in_err-put_made-clause-decides : goal.returns-in_err-put_made-clause-decides
-returns-in_err-put_made-clause-decides g c = λ usable. decides_fault _ _ _
-    c.from_residual-in_err-put_made.result c.in_err-put_made.field-0.0 (search rules)
+pub returns-in_err-stage_made-clause-decides : goal.returns-in_err-stage_made-clause-decides
+returns-in_err-stage_made-clause-decides g c = λ usable. decides_fault _ _ _
+    c.from_residual-in_err-stage_made.result c.in_err-stage_made.field-0.0 (search rules)
 
 pub returns-in_err-is_lrn_good-clause-read_only : goal.returns-in_err-is_lrn_good-clause-read_only
 returns-in_err-is_lrn_good-clause-read_only g c =
-    reads_fault (reads_on c.in_ok-is_known.ensures.read_only tt c.in_ok-found.ensures.read_only tt)
+    reads_fault (reads_on c.in_ok-is_known.ensures.looks_up.read_only tt
+    c.in_ok-found.ensures.read_only tt)
     tt
     c.in_err-is_lrn_good.ensures.read_only c.from_residual-in_err-is_lrn_good.result
     c.in_err-is_lrn_good.field-0.0 (search rules) (ap Err)
 
-pub returns-in_err-put_made-clause-read_only : goal.returns-in_err-put_made-clause-read_only
-returns-in_err-put_made-clause-read_only g c =
+pub returns-in_err-stage_made-clause-read_only : goal.returns-in_err-stage_made-clause-read_only
+returns-in_err-stage_made-clause-read_only g c =
     reads_fault
-    (reads_on (reads_on c.in_ok-is_known.ensures.read_only tt c.in_ok-found.ensures.read_only
-    tt) tt c.in_ok-is_lrn_good.ensures.read_only tt) tt c.in_err-put_made.ensures.read_only
-    c.from_residual-in_err-put_made.result c.in_err-put_made.field-0.0 (search rules) (ap Err)
+    (reads_on (reads_on c.in_ok-is_known.ensures.looks_up.read_only tt
+    c.in_ok-found.ensures.read_only
+    tt) tt c.in_ok-is_lrn_good.ensures.read_only tt) tt c.in_err-stage_made.ensures.read_only
+    c.from_residual-in_err-stage_made.result c.in_err-stage_made.field-0.0 (search rules) (ap Err)

@@ -22,7 +22,7 @@ use Rattle.register.proofs.pooling.donate.Goals as goal
 
 pub returns-in_err-found-clause-decides : goal.returns-in_err-found-clause-decides
 returns-in_err-found-clause-decides g c = λ usable.
-    let old = g.S.Store.content c.args.store.now in
+    let old = g.S.StoreModel.content c.args.store.now in
     let d = c.args.donation.now in
     let at_carrier = c.in_err-found.ensures.read_only.same usable in
     decides_replied old _ _ c.from_residual-in_err-found.result c.in_err-found.field-0.0
@@ -36,12 +36,12 @@ returns-in_err-found-clause-decides g c = λ usable.
 
 pub returns-in_err-plan-clause-decides : goal.returns-in_err-plan-clause-decides
 returns-in_err-plan-clause-decides g c = λ usable.
-    let old = g.S.Store.content c.args.store.now in
+    let old = g.S.StoreModel.content c.args.store.now in
     let d = c.args.donation.now in
     let at_found = c.in_ok-is_lrn_good.ensures.read_only.same usable in
     let at_carrier = c.in_ok-found.ensures.read_only.same at_found.0 in
-    let at_start = c.in_ok-is_known.ensures.read_only.same at_carrier.0 in
-    let has = has_found old (g.S.Store.content c.carrier.new.self) c.args.caller.number
+    let at_start = c.in_ok-is_known.ensures.looks_up.read_only.same at_carrier.0 in
+    let has = has_found old (g.S.StoreModel.content c.carrier.new.self) c.args.caller.number
     d.block.number (donation_of d) (clock_row_of c.in_ok-found.found.clock) c.in_ok-found.found.read
     c.facts-facts.result
     c.in_ok-is_known.is_known c.in_ok-is_lrn_good.is_lrn_good at_start.1
@@ -61,15 +61,15 @@ returns-in_err-plan-clause-decides g c = λ usable.
 
 pub returns-clause-decides : goal.returns-clause-decides
 returns-clause-decides g c = λ usable.
-    let old = g.S.Store.content c.args.store.now in
+    let old = g.S.StoreModel.content c.args.store.now in
     let d = c.args.donation.now in
-    let at_lrn = c.in_ok-put_made.ensures.read_only.same usable in
+    let at_lrn = c.in_ok-stage_made.ensures.read_only.same usable in
     let at_found = c.in_ok-is_lrn_good.ensures.read_only.same at_lrn.0 in
     let at_carrier = c.in_ok-found.ensures.read_only.same at_found.0 in
-    let at_start = c.in_ok-is_known.ensures.read_only.same at_carrier.0 in
+    let at_start = c.in_ok-is_known.ensures.looks_up.read_only.same at_carrier.0 in
     let clock = c.in_ok-found.found.clock in
-    let all_carriers = keys (g.S.Store.content c.is_lrn_of.new.store).carriers in
-    let has = has_found old (g.S.Store.content c.carrier.new.self) c.args.caller.number
+    let all_carriers = keys (g.S.StoreModel.content c.is_lrn_of.new.store).carriers in
+    let has = has_found old (g.S.StoreModel.content c.carrier.new.self) c.args.caller.number
     d.block.number (donation_of d) (clock_row_of c.in_ok-found.found.clock) c.in_ok-found.found.read
     c.facts-facts.result
     c.in_ok-is_known.is_known c.in_ok-is_lrn_good.is_lrn_good at_start.1
@@ -80,12 +80,12 @@ returns-clause-decides g c = λ usable.
     (c.in_ok-is_lrn_good.ensures.value at_lrn.0 ∙ ap (λ (m : Content). is_the c.args.caller.number
     (get m.lrns d.routing.lrn.number)) (at_carrier.1 ∙ at_start.1))
     c.facts-facts.ensures in
-    let made = subst (λ es. clock.next_id + length es ≤ limit → changes_of c.put_made.new.changes
+    let made = subst (λ es. clock.next_id + length es ≤ limit → changes_of c.stage_made.new.changes
     ≡ block_changes (sends_changes clock.minute.number Create
     (map (begun_of (windows_of clock.present.windows)) es) all_carriers)
     (donated_row d.block.number c.args.caller.number)
     (record { minute = clock.minute.number; next_id = clock.next_id + length es }))
-    c.deref-2.ensures.value (c.in_ok-put_made.ensures.value usable) in
+    c.deref-2.ensures.value (c.in_ok-stage_made.ensures.value usable) in
     record {
       refused = tt;
       accepted = λ m changed. answers_donated old m c.args.caller.number d _ _ _ has
@@ -96,9 +96,9 @@ returns-clause-decides g c = λ usable.
           (λ room. subst (λ x. AppliesChanges x old m) (made room) changed);
     }
 
-pub returns-in_err-put_made-clause-decides : goal.returns-in_err-put_made-clause-decides
-returns-in_err-put_made-clause-decides g c = λ usable. decides_fault _ _ _
-    c.from_residual-in_err-put_made.result c.in_err-put_made.field-0.0 (search rules)
+pub returns-in_err-stage_made-clause-decides : goal.returns-in_err-stage_made-clause-decides
+returns-in_err-stage_made-clause-decides g c = λ usable. decides_fault _ _ _
+    c.from_residual-in_err-stage_made.result c.in_err-stage_made.field-0.0 (search rules)
 
 pub returns-in_err-is_lrn_good-clause-decides : goal.returns-in_err-is_lrn_good-clause-decides
 returns-in_err-is_lrn_good-clause-decides g c = λ usable. decides_fault _ _ _
@@ -106,7 +106,8 @@ returns-in_err-is_lrn_good-clause-decides g c = λ usable. decides_fault _ _ _
 
 pub returns-in_err-is_lrn_good-clause-read_only : goal.returns-in_err-is_lrn_good-clause-read_only
 returns-in_err-is_lrn_good-clause-read_only g c =
-    reads_fault (reads_on c.in_ok-is_known.ensures.read_only tt c.in_ok-found.ensures.read_only tt)
+    reads_fault (reads_on c.in_ok-is_known.ensures.looks_up.read_only tt
+    c.in_ok-found.ensures.read_only tt)
     tt
     c.in_err-is_lrn_good.ensures.read_only c.from_residual-in_err-is_lrn_good.result
     c.in_err-is_lrn_good.field-0.0 (search rules) (ap Err)
@@ -114,7 +115,8 @@ returns-in_err-is_lrn_good-clause-read_only g c =
 pub returns-in_err-plan-clause-read_only : goal.returns-in_err-plan-clause-read_only
 returns-in_err-plan-clause-read_only g c =
     reads_refused
-    (reads_on (reads_on c.in_ok-is_known.ensures.read_only tt c.in_ok-found.ensures.read_only
+    (reads_on (reads_on c.in_ok-is_known.ensures.looks_up.read_only tt
+    c.in_ok-found.ensures.read_only
     tt) tt c.in_ok-is_lrn_good.ensures.read_only tt) tt
     (λ says. donation_never c.args.caller.number c.args.donation.now c.facts-facts.result
     c.in_err-plan.field-0.0 c.in_err-plan.ensures.refused

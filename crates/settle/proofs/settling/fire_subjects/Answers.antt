@@ -15,10 +15,11 @@ returns-in_err-fire_due-clause-elsewhere g c = λ usable.
     c.loop-subject-test.true c.subject-item.is in
     next_elsewhere clock c.args.subjects.now
     (drop (c.loop-subject.subject-index + 1) c.args.subjects.now)
-    c.subject-item.result (g.S.Store.content c.args.store.now)
-    (g.S.Store.content c.loop-subject.store) (g.S.Store.content c.fire_due.new.store)
-    (subst (λ rest. SettlesUpTo clock c.args.subjects.now rest (g.S.Store.content c.args.store.now)
-    (g.S.Store.content c.loop-subject.store)) left
+    c.subject-item.result (g.S.StoreModel.content c.args.store.now)
+    (g.S.StoreModel.content c.loop-subject.store) (g.S.StoreModel.content c.fire_due.new.store)
+    (subst (λ rest. SettlesUpTo clock c.args.subjects.now rest
+    (g.S.StoreModel.content c.args.store.now)
+    (g.S.StoreModel.content c.loop-subject.store)) left
     (c.loop-subject.invariant.4 (c.fire_due.ensures.preserves.usable usable)))
     (c.fire_due.ensures.kept usable) (c.fire_due.ensures.elsewhere usable)
 
@@ -38,10 +39,11 @@ loop-subject-preserved g c =
       λ usable.
           next_settled clock c.args.subjects.now
           (drop (c.loop-subject.subject-index + 1) c.args.subjects.now) c.subject-item.result
-          (g.S.Store.content c.args.store.now) (g.S.Store.content c.loop-subject.store)
-          (g.S.Store.content c.fire_due.new.store)
+          (g.S.StoreModel.content c.args.store.now) (g.S.StoreModel.content c.loop-subject.store)
+          (g.S.StoreModel.content c.fire_due.new.store)
           (subst (λ rest. SettlesUpTo clock c.args.subjects.now rest
-          (g.S.Store.content c.args.store.now) (g.S.Store.content c.loop-subject.store)) left
+          (g.S.StoreModel.content c.args.store.now) (g.S.StoreModel.content c.loop-subject.store))
+          left
           (c.loop-subject.invariant.4 (c.fire_due.ensures.preserves.usable usable)))
           (c.fire_due.ensures.kept usable) (c.fire_due.ensures.elsewhere usable)
           (c.in_ok-fire_due.ensures.settled usable (subject_of c.subject-item.result)

@@ -11,7 +11,7 @@ use Rattle.settle.proofs.settling.settle_within.Goals as goal
 pub returns-clause-elsewhere : goal.returns-clause-elsewhere
 returns-clause-elsewhere g c = λ usable.
     let read = c.fire_subjects.ensures.preserves.usable usable in
-    let at_numbers = c.in_ok-numbers.ensures.read_only.same read in
+    let at_numbers = c.in_ok-numbers.ensures.looks_up.read_only.same read in
     within_elsewhere _ _ _ _ _ c.args.block c.in_ok-numbers.numbers.items c.deref-2.result.now
     (rw c.in-Some.is at c.in_ok-clock.ensures.value at_numbers.0)
     (c.in_ok-clock.ensures.read_only.same at_numbers.0).1 at_numbers.1
@@ -22,7 +22,7 @@ returns-clause-elsewhere g c = λ usable.
 pub returns-clause-settled : goal.returns-clause-settled
 returns-clause-settled g c = on_ok_weaker c.fire_subjects.result (λ settled usable.
     let read = c.fire_subjects.ensures.preserves.usable usable in
-    let at_numbers = c.in_ok-numbers.ensures.read_only.same read in
+    let at_numbers = c.in_ok-numbers.ensures.looks_up.read_only.same read in
     within_settled _ _ _ _ _ c.args.block c.in_ok-numbers.numbers.items c.deref-2.result.now
     (rw c.in-Some.is at c.in_ok-clock.ensures.value at_numbers.0)
     (c.in_ok-clock.ensures.read_only.same at_numbers.0).1 at_numbers.1
@@ -34,17 +34,17 @@ returns-clause-settled g c = on_ok_weaker c.fire_subjects.result (λ settled usa
 pub returns-clause-left : goal.returns-clause-left
 returns-clause-left g c = λ honest m may.
     let read = c.fire_subjects.ensures.preserves.honest honest in
-    let ready = c.in_ok-numbers.ensures.open tt read in
-    let at_numbers = c.in_ok-numbers.ensures.read_only.same ready in
+    let ready = c.in_ok-numbers.ensures.looks_up.answers tt read in
+    let at_numbers = c.in_ok-numbers.ensures.looks_up.read_only.same ready in
     let at_clock = c.in_ok-clock.ensures.read_only.same at_numbers.0 in
     elim (c.fire_subjects.ensures.left ready honest m may) [
       | inl before ↦ inl (c.in_ok-clock.ensures.read_only.left
-          (c.in_ok-numbers.ensures.read_only.honest read) m
-          (c.in_ok-numbers.ensures.read_only.left read m before))
+          (c.in_ok-numbers.ensures.looks_up.read_only.honest read) m
+          (c.in_ok-numbers.ensures.looks_up.read_only.left read m before))
       | inr kept ↦ inr (
         at_clock.0,
-        keeps-read (clock_row_of c.in-Some.clock) (g.S.Store.content c.args.store.now)
-            (g.S.Store.content c.in_block.new.self) m (at_numbers.1 ∙ at_clock.1)
+        keeps-read (clock_row_of c.in-Some.clock) (g.S.StoreModel.content c.args.store.now)
+            (g.S.StoreModel.content c.in_block.new.self) m (at_numbers.1 ∙ at_clock.1)
             (rw c.in-Some.is at c.in_ok-clock.ensures.value at_numbers.0) kept,
       )
     ]
@@ -54,26 +54,28 @@ returns-clause-preserves g c = record {
   usable = search rules;
   honest = search rules;
   stays = λ answers usable honest. c.fire_subjects.ensures.preserves.stays answers
-      (c.in_ok-numbers.ensures.open tt (c.fire_subjects.ensures.preserves.honest honest)) honest;
+      (c.in_ok-numbers.ensures.looks_up.answers tt (c.fire_subjects.ensures.preserves.honest
+      honest)) honest;
   rises = omega (
     arith,
     c.clock_if_due.ensures.read_only.rises,
-    c.in_block.ensures.read_only.rises,
+    c.in_block.ensures.looks_up.read_only.rises,
     c.fire_subjects.ensures.preserves.rises,
   );
   storage = λ says.
       let at_numbers =
-      c.in_ok-numbers.ensures.read_only.same (c.fire_subjects.ensures.preserves.usable
+      c.in_ok-numbers.ensures.looks_up.read_only.same (c.fire_subjects.ensures.preserves.usable
       says.usable) in
       let at_clock = c.in_ok-clock.ensures.read_only.same at_numbers.0 in
       let same = at_numbers.1 ∙ at_clock.1 in
-      let clock_is : (g.S.Store.content c.args.store.now).clock
+      let clock_is : (g.S.StoreModel.content c.args.store.now).clock
       ≡ Some (clock_row_of c.in-Some.clock) =
       rw c.in-Some.is at c.in_ok-clock.ensures.value at_numbers.0 in
       let a = c.clock_if_due.ensures.read_only.rises in
-      let b = c.in_block.ensures.read_only.rises in
-      risen-since (g.S.Store.failed c.args.store.now) (g.S.Store.failed c.in_block.new.self)
-      (g.S.Store.failed c.fire_subjects.new.store) (omega arith)
+      let b = c.in_block.ensures.looks_up.read_only.rises in
+      risen-since (g.S.StoreModel.failed c.args.store.now)
+      (g.S.StoreModel.failed c.in_block.new.self)
+      (g.S.StoreModel.failed c.fire_subjects.new.store) (omega arith)
       c.fire_subjects.ensures.preserves.rises
       (c.fire_subjects.ensures.preserves.storage (
         says.usable,

@@ -8,12 +8,11 @@ use Rattle.sql_store.specs.Blocks.{AreNumbers, number_in_use}
 use Rattle.sql_store.specs.Store.{content_at}
 use Rattle.sql_store.specs.declared.blocks.Role.TheVariants.{Open}
 use Rattle.sql_store.proofs.BlockLemmas.{block_is}
-use Rattle.sql_store.proofs.CallLemmas.{looked_ours}
 use Rattle.sql_store.proofs.blocks.in_block.Goals as goal
 
 pub returns-clause-value : goal.returns-clause-value
 returns-clause-value g c up =
-    let old = state g.S.Store c.args.conn.now in
+    let old = state g.S.Store c.args.db.now.conn in
     let block = c.args.block.number in
     let in_force = c.in_ok-in_force.in_force.items in
     let opened = c.in_ok-opened.opened.items in
@@ -34,8 +33,3 @@ returns-clause-value g c up =
     c.put_in_order.ensures.rises
     (λ x at. subst (λ l. Has l x) listed (c.put_in_order.ensures.only x at))
     (λ x at. c.put_in_order.ensures.each x (subst (λ l. Has l x) (sym listed) at)))
-
-pub numbers-requires-2-clause-ours : goal.numbers-requires-2-clause-ours
-numbers-requires-2-clause-ours g c =
-    looked_ours (state g.S.Store c.args.conn.now) (state g.S.Store c.numbers.new.conn) _
-    c.requires.ours c.in_ok-in_force.ensures.queried

@@ -15,7 +15,7 @@ use Rattle.sql_store.proofs.blocks.numbers.Goals as goal
 
 pub returns-clause-value : goal.returns-clause-value
 returns-clause-value g c up =
-    let old = state g.S.Store c.args.conn.now in
+    let old = state g.S.Store c.args.db.now.conn in
     let found = c.in_ok-found.found.items in
     let block = c.args.block.number in
     let was = (c.in_ok-found.ensures.queried.same up).was_open in
@@ -28,11 +28,11 @@ returns-clause-value g c up =
     (bound (c.number.result ∷ c.number-2.result ∷ [])) (map version_seen found)) c.query.ensures
     (c.in_ok-found.ensures.value up) in
     let answer =
-    subst (λ p. IsListAnswer (query_by c.args.standing) version_in old.now.trees p
+    subst (λ p. IsListAnswer (query_by c.args.role) version_in old.now.trees p
     (map version_seen found)) params asked in
     let are = c.in_ok-tns.ensures
-    ∙ ap (filter_map (λ (v : NumberedRow). number_by c.args.standing v.row))
+    ∙ ap (filter_map (λ (v : NumberedRow). number_by c.args.role v.row))
     c.as_slice.ensures.value in
-    numbers_whole old.now.trees c.args.standing block _ (numbers_are (bare_in old.now.trees)
-    c.args.standing block found _ (standing_picked old.now.trees (c.requires.ours was).shaped
-    c.args.standing (block * 1000) (block * 1000 + 999) found answer) are)
+    numbers_whole old.now.trees c.args.role block _ (numbers_are (bare_in old.now.trees)
+    c.args.role block found _ (standing_picked old.now.trees (c.args.db.now.ours was).shaped
+    c.args.role (block * 1000) (block * 1000 + 999) found answer) are)

@@ -7,5 +7,5 @@ use Rattle.sql_store.proofs.blocks.numbers_of.Given as goal
 -- The numbers of the versions passed are in the list.
 abbrev pub invariant-loop-version : goal.invariant-loop-version
 invariant-loop-version l =
-    map number_of_tn l.tns.items ≡ filter_map (λ (v : NumberedRow). number_by l.standing v.row)
+    map number_of_tn l.tns.items ≡ filter_map (λ (v : NumberedRow). number_by l.role v.row)
     (take l.version-index l.found)

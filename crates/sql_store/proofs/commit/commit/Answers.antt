@@ -11,7 +11,7 @@ use Rattle.settle.specs.declared.rows.ClockRow.{ClockRow}
 use Rattle.sql_rows.specs.Content.{content_in}
 use Rattle.sql_store.specs.Store.{HasQueried, HasCommitted, content_at}
 use Rattle.sql_store.specs.Changes.{IsChangedOver}
-use Rattle.sql_store.proofs.CallLemmas.{looked_ours, looked_turned, looked_unturned, read_leaves, unread_leaves}
+use Rattle.sql_store.proofs.CallLemmas.{looked_turned, looked_unturned, read_leaves, unread_leaves}
 use Rattle.sql_store.proofs.commit.commit.Goals as goal
 
 -- The clock's row that was read is the one before the changes.
@@ -26,27 +26,22 @@ by_clock_read old mid changes row looked is up after turns = turns
 
 pub returns-in_err-row-clause-committed : goal.returns-in_err-row-clause-committed
 returns-in_err-row-clause-committed g c =
-    let old = state g.S.Store c.args.conn.now in
-    let new = state g.S.Store c.clock.new.conn in
+    let old = state g.S.Store c.args.db.now.conn in
+    let new = state g.S.Store c.clock.new.db.conn in
     let fails : is_ok c.from_residual.result ≡ false = search rules in
     subst (λ d. HasCommitted old new d (AppliesChanges (changes_of c.args.changes.now))) (sym fails)
-    (looked_unturned old new (AppliesChanges (changes_of c.args.changes.now)) c.requires.ours
+    (looked_unturned old new (AppliesChanges (changes_of c.args.changes.now)) c.args.db.now.ours
     c.in_err-row.ensures.queried)
 
 pub returns-in_err-row-clause-left : goal.returns-in_err-row-clause-left
 returns-in_err-row-clause-left g c =
-    unread_leaves (state g.S.Store c.args.conn.now) (state g.S.Store c.clock.new.conn)
+    unread_leaves (state g.S.Store c.args.db.now.conn) (state g.S.Store c.clock.new.db.conn)
     (AppliesChanges (changes_of c.args.changes.now)) c.in_err-row.ensures.queried
-
-pub commit_over-requires-clause-ours : goal.commit_over-requires-clause-ours
-commit_over-requires-clause-ours g c =
-    looked_ours (state g.S.Store c.args.conn.now) (state g.S.Store c.clock.new.conn) _
-    c.requires.ours c.in_ok-row.ensures.queried
 
 pub returns-clause-committed : goal.returns-clause-committed
 returns-clause-committed g c =
-    let old = state g.S.Store c.args.conn.now in
-    let mid = state g.S.Store c.clock.new.conn in
+    let old = state g.S.Store c.args.db.now.conn in
+    let mid = state g.S.Store c.clock.new.db.conn in
     let new = state g.S.Store c.commit_over.new.conn in
     looked_turned old mid new (IsChangedOver c.args.changes.now c.in_ok-row.row)
     (AppliesChanges (changes_of c.args.changes.now)) c.in_ok-row.ensures.queried
@@ -56,11 +51,23 @@ returns-clause-committed g c =
 
 pub returns-clause-left : goal.returns-clause-left
 returns-clause-left g c =
-    let old = state g.S.Store c.args.conn.now in
-    let mid = state g.S.Store c.clock.new.conn in
+    let old = state g.S.Store c.args.db.now.conn in
+    let mid = state g.S.Store c.clock.new.db.conn in
     let new = state g.S.Store c.commit_over.new.conn in
     read_leaves old mid new (IsChangedOver c.args.changes.now c.in_ok-row.row)
     (AppliesChanges (changes_of c.args.changes.now)) c.in_ok-row.ensures.queried
     (by_clock_read old mid c.args.changes.now c.in_ok-row.row c.in_ok-row.ensures.queried
     c.in_ok-row.ensures.value)
     (is_ok c.commit_over.result) c.commit_over.ensures.committed
+
+pub commit_over-requires-clause-ours : goal.commit_over-requires-clause-ours
+commit_over-requires-clause-ours g c = c.clock.new.db.ours
+
+pub commit_over-requires-clause-idle : goal.commit_over-requires-clause-idle
+commit_over-requires-clause-idle g c = c.clock.new.db.idle
+
+pub invariant_of-db : goal.invariant_of-db
+invariant_of-db g c = record {
+  ours = c.commit_over.ensures.committed.ours;
+  idle = c.commit_over.ensures.idle;
+}

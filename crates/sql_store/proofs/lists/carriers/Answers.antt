@@ -6,7 +6,7 @@ use Rattle.sql_store.proofs.lists.carriers.Goals as goal
 
 pub returns-clause-value : goal.returns-clause-value
 returns-clause-value g c up =
-    let old = state g.S.Store c.args.conn.now in
+    let old = state g.S.Store c.args.db.now.conn in
     carriers_are (content_at old) c.in_ok-carriers.carriers.items _
     (carriers_picked old.now.trees (c.in_ok-carriers.ensures.once up) _
     (c.in_ok-carriers.ensures.value up))

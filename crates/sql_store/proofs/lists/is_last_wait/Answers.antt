@@ -12,5 +12,5 @@ pub returns-clause-value : goal.returns-clause-value
 returns-clause-value g c up =
     c.are_all.ensures ∙ ap (list_all (λ (k : Spid). k.number == c.args.wait.carrier.number))
     c.as_slice.ensures.value
-    ∙ last_is (content_at (state g.S.Store c.args.conn.now)) (wait_key_of c.args.wait)
+    ∙ last_is (content_at (state g.S.Store c.args.db.now.conn)) (wait_key_of c.args.wait)
     c.in_ok-waiters.waiters.items (c.in_ok-waiters.ensures.value up)

@@ -15,7 +15,7 @@ use Rattle.sql_store.proofs.lists.open_broadcasts.Goals as goal
 
 pub returns-clause-value : goal.returns-clause-value
 returns-clause-value g c up =
-    let old = state g.S.Store c.args.conn.now in
+    let old = state g.S.Store c.args.db.now.conn in
     let found = c.in_ok-found.found.items in
     let params = one_bound c.truth.result (bool_value true) refl c.truth.ensures in
     let answer =

@@ -1,4 +1,4 @@
-use Rattle.std.proofs.Common.{◌≡◌, nat_lt, ◌&&◌, Bool, true, false, filter, map, refl, sym, ap, subst, ◌∙◌, arith}
+use Rattle.std.proofs.Common.{◌≡◌, nat_lt, ◌&&◌, false, filter, map, sym, ap, subst, ◌∙◌, arith}
 use Rattle.sqlite.specs.Held.{state}
 use Rattle.sqlite.specs.Effect.{Database}
 use Rattle.settle.specs.Reads.{AreCarriers, AreWaiters}
@@ -11,7 +11,6 @@ use Rattle.sql_rows.proofs.QueriesListed.{wait_seen, waits_of_picked}
 use Rattle.sql_store.specs.Lists.{is_waiting}
 use Rattle.sql_store.specs.Store.{content_at}
 use Rattle.sql_store.proofs.WaiterLemmas.{key_at, no_great_wait, no_waiters, waiters_are}
-use Rattle.sql_store.proofs.CallLemmas.{looked_ours}
 use Rattle.sql_store.proofs.lists.waiters.Goals as goal
 use Rattle.sql_store.proofs.lists.waiters.Goals.{then-key-ge9223372036854775808-via-then-key-ge9223372036854775808, then-key-ge9223372036854775808-via-else-key-ge9223372036854775808+then-key-ge9223372036854775808-2}
 use Rattle.numbers.proofs.Small.{false_second, false_first}
@@ -28,7 +27,7 @@ returns-then-key-ge9223372036854775808-clause-value g c up =
           (nat_lt c.args.key.attempt 9223372036854775808)
           (grind (arith, w.if-key-ge9223372036854775808-2))
     ] in
-    let old = state g.S.Store c.args.conn.now in
+    let old = state g.S.Store c.args.db.now.conn in
     subst (AreWaiters (content_at old) c.args.minute.number c.args.key.id c.args.key.attempt)
     (sym c.new.ensures.items)
     (no_waiters (content_at old) c.args.minute.number c.args.key.id c.args.key.attempt
@@ -37,8 +36,8 @@ returns-then-key-ge9223372036854775808-clause-value g c up =
 
 pub returns-clause-value : goal.returns-clause-value
 returns-clause-value g c up =
-    let old = state g.S.Store c.args.conn.now in
-    let mid = state g.S.Store c.carriers.new.conn in
+    let old = state g.S.Store c.args.db.now.conn in
+    let mid = state g.S.Store c.carriers.new.db.conn in
     let key = c.args.key in
     let waits = c.in_ok-waits.waits.items in
     let carriers = c.in_ok-carriers.carriers.items in
@@ -60,8 +59,3 @@ returns-clause-value g c up =
     subst (AreWaiters (content_at old) c.args.minute.number key.id key.attempt) (sym there)
     (subst (λ (d : Database). AreWaiters (content_in d.trees) c.args.minute.number key.id
     key.attempt (filter (is_waiting waits c.args.minute.number) carriers)) same result)
-
-pub find_all-requires-clause-ours : goal.find_all-requires-clause-ours
-find_all-requires-clause-ours g c =
-    looked_ours (state g.S.Store c.args.conn.now) (state g.S.Store c.carriers.new.conn) _
-    c.requires.ours c.in_ok-carriers.ensures.queried

@@ -14,7 +14,7 @@ use Rattle.sql_store.proofs.lists.waits.Goals as goal
 
 pub returns-clause-value : goal.returns-clause-value
 returns-clause-value g c up =
-    let old = state g.S.Store c.args.conn.now in
+    let old = state g.S.Store c.args.db.now.conn in
     let found = c.in_ok-waits.waits.items in
     let params = one_bound c.text.result (spid_value c.args.spid.number) refl (c.text.ensures
     ∙ ap Text c.spid_bytes-bytes.ensures) in

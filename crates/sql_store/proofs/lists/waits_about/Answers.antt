@@ -17,7 +17,7 @@ use Rattle.sql_store.proofs.lists.waits_about.Goals as goal
 
 pub returns-clause-value : goal.returns-clause-value
 returns-clause-value g c up =
-    let old = state g.S.Store c.args.conn.now in
+    let old = state g.S.Store c.args.db.now.conn in
     let found = c.in_ok-waits.waits.items in
     let params = ap (λ v. bound_value v ∷ bound_value (owned c.text.result) ∷ []) c.subject.ensures
     ∙ ap (λ v. subject_value (subject_of c.args.of) ∷ bound_value v ∷ []) (c.text.ensures

@@ -1,4 +1,4 @@
-use Rattle.std.proofs.Common.{◌≡◌, nat_lt, ◌&&◌, Bool, true, false, refl, sym, arith}
+use Rattle.std.proofs.Common.{◌≡◌, nat_lt, ◌&&◌, false, sym, arith}
 use Rattle.sqlite.specs.Held.{state}
 use Rattle.settle.specs.Abstraction.{broadcast_key_of}
 use Rattle.sql_rows.proofs.FoundLemmas.{no_great_broadcast}
@@ -9,13 +9,13 @@ use Rattle.numbers.proofs.Small.{false_second, false_first}
 
 pub returns-in-Some-clause-value : goal.returns-in-Some-clause-value
 returns-in-Some-clause-value g c up =
-    broadcast_is (state g.S.Store c.args.conn.now).now.trees c.number.result c.number-2.result
+    broadcast_is (state g.S.Store c.args.db.now.conn).now.trees c.number.result c.number-2.result
     (broadcast_key_of c.args.key) c.number.ensures c.number-2.ensures c.in_ok-found.found _
     c.in-Some.is (c.in_ok-found.ensures.value up)
 
 pub returns-in-None-clause-value : goal.returns-in-None-clause-value
 returns-in-None-clause-value g c up =
-    broadcast_is (state g.S.Store c.args.conn.now).now.trees c.number.result c.number-2.result
+    broadcast_is (state g.S.Store c.args.db.now.conn).now.trees c.number.result c.number-2.result
     (broadcast_key_of c.args.key) c.number.ensures c.number-2.ensures c.in_ok-found.found _
     c.in-None.is (c.in_ok-found.ensures.value up)
 
@@ -32,5 +32,5 @@ returns-then-key-ge9223372036854775808-clause-value g c up =
           (nat_lt c.args.key.attempt 9223372036854775808)
           (grind (arith, w.if-key-ge9223372036854775808-2))
     ] in
-    sym (no_great_broadcast (state g.S.Store c.args.conn.now).now.trees
+    sym (no_great_broadcast (state g.S.Store c.args.db.now.conn).now.trees
     (broadcast_key_of c.args.key) great)

@@ -6,12 +6,11 @@ use Rattle.sqlite.specs.Effect.{Database}
 use Rattle.version.specs.Abstraction.{windows_of}
 use Rattle.sql_rows.specs.Content.{content_in}
 use Rattle.sql_store.proofs.LookupLemmas.{no_clock, the_clock}
-use Rattle.sql_store.proofs.CallLemmas.{looked_ours}
 use Rattle.sql_store.proofs.lookups.clock.Goals as goal
 
 pub returns-in-Some-found-clause-value : goal.returns-in-Some-found-clause-value
 returns-in-Some-found-clause-value g c up =
-    let old = (state g.S.Store c.args.conn.now).now in
+    let old = (state g.S.Store c.args.db.now.conn).now in
     let second = c.in_ok-found.ensures.queried.same up in
     let first = c.in_ok-stored.ensures.queried.same second.was_open in
     the_clock old.trees c.in_ok-stored.stored c.in-Some.row c.in_ok-found.found
@@ -23,10 +22,5 @@ returns-in-Some-found-clause-value g c up =
 
 pub returns-in_default-clause-value : goal.returns-in_default-clause-value
 returns-in_default-clause-value g c up =
-    no_clock (state g.S.Store c.args.conn.now).now.trees c.in_ok-stored.stored c.in_default.is
+    no_clock (state g.S.Store c.args.db.now.conn).now.trees c.in_ok-stored.stored c.in_default.is
     (c.in_ok-stored.ensures.value up)
-
-pub window_set-requires-clause-ours : goal.window_set-requires-clause-ours
-window_set-requires-clause-ours g c =
-    looked_ours (state g.S.Store c.args.conn.now) (state g.S.Store c.stored_clock.new.conn) _
-    c.requires.ours c.in_ok-stored.ensures.queried

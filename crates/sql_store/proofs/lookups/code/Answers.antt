@@ -6,12 +6,12 @@ use Rattle.sql_store.proofs.lookups.code.Goals as goal
 
 pub returns-in-Some-clause-value : goal.returns-in-Some-clause-value
 returns-in-Some-clause-value g c up =
-    code_is (state g.S.Store c.args.conn.now).now.trees c.number.result c.args.code.number
+    code_is (state g.S.Store c.args.db.now.conn).now.trees c.number.result c.args.code.number
     (c.number.ensures ∙ ap (λ n. Int (pos n)) c.from.ensures) c.in_ok-found.found _ c.in-Some.is
     (c.in_ok-found.ensures.value up)
 
 pub returns-in-None-clause-value : goal.returns-in-None-clause-value
 returns-in-None-clause-value g c up =
-    code_is (state g.S.Store c.args.conn.now).now.trees c.number.result c.args.code.number
+    code_is (state g.S.Store c.args.db.now.conn).now.trees c.number.result c.args.code.number
     (c.number.ensures ∙ ap (λ n. Int (pos n)) c.from.ensures) c.in_ok-found.found _ c.in-None.is
     (c.in_ok-found.ensures.value up)

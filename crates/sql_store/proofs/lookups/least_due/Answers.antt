@@ -4,6 +4,7 @@ use Rattle.sql_store.proofs.lookups.least_due.Goals as goal
 
 pub returns-clause-value : goal.returns-clause-value
 returns-clause-value g c up =
-    let ours = c.requires.ours (c.in_ok-found.ensures.queried.same up).was_open in
-    due_is (state g.S.Store c.args.conn.now).now.trees c.minute.result ours.shaped c.args.now.number
+    let ours = c.args.db.now.ours (c.in_ok-found.ensures.queried.same up).was_open in
+    due_is (state g.S.Store c.args.db.now.conn).now.trees c.minute.result ours.shaped
+    c.args.now.number
     c.minute.ensures c.in_ok-found.found (c.in_ok-found.ensures.value up)

@@ -6,16 +6,16 @@ use Rattle.sql_store.proofs.lookups.version.Goals as goal
 
 pub returns-in-Some-clause-value : goal.returns-in-Some-clause-value
 returns-in-Some-clause-value g c up =
-    version_is (state g.S.Store c.args.conn.now).now.trees c.number.result c.args.id
+    version_is (state g.S.Store c.args.db.now.conn).now.trees c.number.result c.args.id
     c.number.ensures c.in_ok-found.found _ c.in-Some.is (c.in_ok-found.ensures.value up)
 
 pub returns-in-None-clause-value : goal.returns-in-None-clause-value
 returns-in-None-clause-value g c up =
-    version_is (state g.S.Store c.args.conn.now).now.trees c.number.result c.args.id
+    version_is (state g.S.Store c.args.db.now.conn).now.trees c.number.result c.args.id
     c.number.ensures c.in_ok-found.found _ c.in-None.is (c.in_ok-found.ensures.value up)
 
 pub returns-then-id-ge9223372036854775808-clause-value :
     goal.returns-then-id-ge9223372036854775808-clause-value
 returns-then-id-ge9223372036854775808-clause-value g c up =
     let great : nat_lt c.args.id 9223372036854775808 ≡ false = grind arith in
-    sym (no_great_version (state g.S.Store c.args.conn.now).now.trees c.args.id great)
+    sym (no_great_version (state g.S.Store c.args.db.now.conn).now.trees c.args.id great)

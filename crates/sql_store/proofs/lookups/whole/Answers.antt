@@ -10,7 +10,7 @@ use Rattle.sql_store.proofs.lookups.whole.Goals as goal
 
 pub returns-in-Some-clause-value : goal.returns-in-Some-clause-value
 returns-in-Some-clause-value g c up =
-    let db = (state g.S.Store c.args.conn.now).now.trees in
+    let db = (state g.S.Store c.args.db.now.conn).now.trees in
     let same : c.found.inside.0.0 ≡ c.args.found.id = search rules in
     let sends : is_some (next_of c.args.found.row.status) ≡ true = search rules in
     let is = subst (λ k. option_map routing_of c.in_ok-next.next ≡ get (nexts_in (db 16)) k) same
@@ -22,7 +22,7 @@ returns-in-Some-clause-value g c up =
 
 pub returns-in-None-clause-value : goal.returns-in-None-clause-value
 returns-in-None-clause-value g c up =
-    let db = (state g.S.Store c.args.conn.now).now.trees in
+    let db = (state g.S.Store c.args.db.now.conn).now.trees in
     let same : c.found.inside.0.0 ≡ c.args.found.id = search rules in
     let is = subst (λ k. option_map routing_of c.in_ok-next.next ≡ get (nexts_in (db 16)) k) same
     (c.in_ok-next.ensures.value up) in

@@ -11,7 +11,7 @@ returns-in-empty-clause-moves g c =
     let b = state g.S.Store c.ids_of.new.conn in
     let d = state g.S.Store c.read_old.new.conn in
     let e = state g.S.Store c.move_rows.new.conn in
-    let f = c.args.form in
+    let f = c.args.schema_version in
     let ids = c.in_ok-ids.ids.items in
     let none : c.in_ok-clocks.clocks.items ≡ [] =
     sym c.as_slice.ensures.value ∙ no_item c.as_slice.result.now c.in-empty.len_below in
@@ -27,7 +27,7 @@ returns-in-len1-clause-moves g c =
     let b = state g.S.Store c.ids_of.new.conn in
     let d = state g.S.Store c.read_old.new.conn in
     let e = state g.S.Store c.move_rows-in-len1.new.conn in
-    let f = c.args.form in
+    let f = c.args.schema_version in
     let ids = c.in_ok-ids.ids.items in
     let clock = c.clock-item.result in
     let item : clock ≡ get_or c.as_slice.result.now 0 clock = search rules in

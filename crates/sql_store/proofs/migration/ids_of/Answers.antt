@@ -28,8 +28,8 @@ returns-in_err-rows-clause-queried g c =
     let failed : is_ok c.from_residual.result ≡ false = search rules in
     let looked : HasQueried old new false =
     table_looked {R = Unit {0}} old_version_in (λ r seen. Unit {0}) text old new (Err Device)
-    (old_plain old_version_in OldVersion old old c.args.form tt c.requires.old)
-    (λ was. settled_as c.args.form old (c.requires.old was))
+    (old_plain old_version_in OldVersion old old c.args.schema_version tt c.requires.old)
+    (λ was. settled_as c.args.schema_version old (c.requires.old was))
     (clean_if_open new.is_clean new.is_open (g.met.S.Store.shut_if_dirty _)) (λ clean. tt)
     (λ clean. fails_as c.text.result.now [] old new c.in_err-rows.field-0.0
     (rw c.in_err-rows.was at (fails clean))) survives in
@@ -41,12 +41,13 @@ returns-clause-value g c =
     let new = state g.S.Store c.ids_among.new.rows.conn.now in
     let all = read_from g.S.Store (all_text OldVersion) c.text.ensures c.args.conn.now
     c.in_ok-rows.rows.conn.now c.ids_among.new.rows.conn.now
-    (old_plain old_version_in OldVersion old old c.args.form tt c.requires.old)
+    (old_plain old_version_in OldVersion old old c.args.schema_version tt c.requires.old)
     c.in_ok-rows.ensures.begun c.ids_among.ensures.survives old_version_in
     (λ ids. AreIdsOf ids.items) c.ids_among.result c.ids_among.ensures.all in
     let told : IsTrue new.is_open
     → IfOk c.ids_among.result (λ ids. HasIds ids.items old.now.trees) =
-    λ up. ids_read c.args.form old new c.requires.old (λ ids. ids.items) c.ids_among.result
+    λ up. ids_read c.args.schema_version old new c.requires.old (λ ids. ids.items)
+    c.ids_among.result
     (all (clean_if_open new.is_clean new.is_open (g.met.S.Store.shut_if_dirty _) up)) in
     search rules
 
@@ -59,7 +60,8 @@ returns-clause-queried g c =
     let mid = state g.S.Store here in
     let new = state g.S.Store last in
     let text = all_text OldVersion in
-    let plain = old_plain old_version_in OldVersion old old c.args.form tt c.requires.old in
+    let plain = old_plain old_version_in OldVersion old old c.args.schema_version tt c.requires.old
+    in
     let all = read_from g.S.Store text c.text.ensures first here last plain
     c.in_ok-rows.ensures.begun c.ids_among.ensures.survives old_version_in
     (λ ids. AreIdsOf ids.items) c.ids_among.result c.ids_among.ensures.all in
@@ -71,7 +73,7 @@ returns-clause-queried g c =
     c.in_ok-rows.ensures.survives) in
     let looked : HasQueried old new (is_ok c.ids_among.result) =
     table_looked old_version_in (λ ids. AreIdsOf ids.items) text old new c.ids_among.result plain
-    (λ was. settled_as c.args.form old (c.requires.old was))
+    (λ was. settled_as c.args.schema_version old (c.requires.old was))
     (clean_if_open new.is_clean new.is_open (g.met.S.Store.shut_if_dirty _)) all err
     (both_survive old mid new asked c.ids_among.ensures.survives) in
     search rules

@@ -17,12 +17,12 @@ returns-clause-moves g c =
     let one = c.in_ok-see_staying.ensures.queried in
     let two = c.in_ok-has_windows.ensures.queried in
     let own : IsTrue c.in_ok-has_windows.field-0 = search rules in
-    looked_moves a d e (IsCarried c.args.form) (IsMovedFrom c.args.form w)
+    looked_moves a d e (IsCarried c.args.schema_version) (IsMovedFrom c.args.schema_version w)
     (looked_then a b d true one two) (λ up after carried.
     let second = two.same up in
     let first = one.same second.was_open in
     record {
-      staying = subst (λ (x : Database). AreStayingRead c.args.form x.trees)
+      staying = subst (λ (x : Database). AreStayingRead c.args.schema_version x.trees)
           (sym (second.now ∙ first.now)) (c.in_ok-see_staying.ensures.value second.was_open);
       windows = subst (λ (x : Database). WereItsWindows w x.trees) (sym second.now)
           (c.in_ok-has_windows.ensures.own up own);

@@ -19,7 +19,7 @@ pub returns-in_err-create_tables-clause-alters : goal.returns-in_err-create_tabl
 returns-in_err-create_tables-clause-alters g c =
     let a = state g.S.Store c.args.tx.now.conn.now in
     let b = state g.S.Store c.create_tables.new.tx.conn.now in
-    let f = c.args.form in
+    let f = c.args.schema_version in
     let fails : is_ok c.from_residual.result ≡ false = search rules in
     subst (λ x. MigratesInTransaction (IsBegunAs f) a b x
     (IsMigrated f c.args.ids.now c.args.clock)) (sym fails)
@@ -31,7 +31,7 @@ returns-in_err-copy_rows-clause-alters g c =
     let a = state g.S.Store c.args.tx.now.conn.now in
     let b = state g.S.Store c.create_tables.new.tx.conn.now in
     let d = state g.S.Store c.copy_rows.new.tx.conn.now in
-    let f = c.args.form in
+    let f = c.args.schema_version in
     let Filled = AreRowsCopied c.args.ids.now c.args.clock in
     let fails : is_ok c.from_residual-in_err-copy_rows.result ≡ false = search rules in
     subst (λ x. MigratesInTransaction (IsBegunAs f) a d x
@@ -46,7 +46,7 @@ returns-clause-alters g c =
     let a = state g.S.Store c.args.tx.now.conn.now in
     let b = state g.S.Store c.create_tables.new.tx.conn.now in
     let d = state g.S.Store c.copy_rows.new.tx.conn.now in
-    let f = c.args.form in
+    let f = c.args.schema_version in
     let Filled = AreRowsCopied c.args.ids.now c.args.clock in
     let Rebuilt = IsMigrated f c.args.ids.now c.args.clock in
     alters_as a d (IsBegunAs f) (IsBegunAs f) true (Both (AreTablesCreated f) Filled) Rebuilt

@@ -7,7 +7,7 @@ use Rattle.sql_store.proofs.migration.move_rows.Goals as goal
 
 pub returns-in_err-migrate_tables-clause-moves : goal.returns-in_err-migrate_tables-clause-moves
 returns-in_err-migrate_tables-clause-moves g c =
-    let f = c.args.form in
+    let f = c.args.schema_version in
     let xs = c.args.ids.now in
     let clock = c.args.clock in
     let old = state g.S.Store c.args.conn.now in
@@ -26,7 +26,7 @@ returns-in_err-migrate_tables-clause-moves g c =
 
 pub returns-in_err-commit-clause-moves : goal.returns-in_err-commit-clause-moves
 returns-in_err-commit-clause-moves g c =
-    let f = c.args.form in
+    let f = c.args.schema_version in
     let xs = c.args.ids.now in
     let clock = c.args.clock in
     let old = state g.S.Store c.args.conn.now in
@@ -46,7 +46,7 @@ returns-in_err-commit-clause-moves g c =
 
 pub returns-clause-moves : goal.returns-clause-moves
 returns-clause-moves g c =
-    let f = c.args.form in
+    let f = c.args.schema_version in
     let xs = c.args.ids.now in
     let clock = c.args.clock in
     let old = state g.S.Store c.args.conn.now in

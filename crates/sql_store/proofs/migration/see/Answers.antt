@@ -11,7 +11,7 @@ use Rattle.sql_store.proofs.migration.see.Goals as goal
 pub read_table-requires : goal.read_table-requires
 read_table-requires g c = record {
   plain = old_plain g.T.FromRow.seen_in c.args.table (state g.S.Store c.args.conn.now)
-      (state g.S.Store c.args.conn.now) c.args.form c.requires.has c.requires.old;
+      (state g.S.Store c.args.conn.now) c.args.schema_version c.requires.has c.requires.old;
 }
 
 pub returns-in_err-read_table-clause-queried : goal.returns-in_err-read_table-clause-queried
@@ -21,8 +21,9 @@ returns-in_err-read_table-clause-queried g c =
     let fails : is_ok c.from_residual.result ≡ false = search rules in
     let looked : HasQueried old new (is_ok c.read_table.result) =
     table_looked g.T.FromRow.seen_in TellsNone (all_text c.args.table) old new c.read_table.result
-    (old_plain g.T.FromRow.seen_in c.args.table old new c.args.form c.requires.has c.requires.old)
-    (λ was. settled_as c.args.form old (c.requires.old was))
+    (old_plain g.T.FromRow.seen_in c.args.table old new c.args.schema_version c.requires.has
+    c.requires.old)
+    (λ was. settled_as c.args.schema_version old (c.requires.old was))
     (clean_if_open new.is_clean new.is_open (g.met.S.Store.shut_if_dirty _))
     c.read_table.ensures.all c.read_table.ensures.err c.read_table.ensures.survives in
     subst (HasQueried old new) (sym fails) (rw c.in_err-read_table.was at looked)
@@ -33,7 +34,8 @@ returns-clause-value g c = λ up.
     let new = state g.S.Store c.read_table.new.conn in
     let clean : HasCleanDisk new =
     clean_if_open new.is_clean new.is_open (g.met.S.Store.shut_if_dirty _) up in
-    let value = old_read g.T.FromRow.seen_in c.args.table old new c.args.form c.requires.has
+    let value = old_read g.T.FromRow.seen_in c.args.table old new c.args.schema_version
+    c.requires.has
     c.requires.old c.read_table.result (c.read_table.ensures.all clean) in
     rw c.in_ok-read_table.was at value
 
@@ -43,8 +45,9 @@ returns-clause-queried g c =
     let new = state g.S.Store c.read_table.new.conn in
     let looked : HasQueried old new (is_ok c.read_table.result) =
     table_looked g.T.FromRow.seen_in TellsNone (all_text c.args.table) old new c.read_table.result
-    (old_plain g.T.FromRow.seen_in c.args.table old new c.args.form c.requires.has c.requires.old)
-    (λ was. settled_as c.args.form old (c.requires.old was))
+    (old_plain g.T.FromRow.seen_in c.args.table old new c.args.schema_version c.requires.has
+    c.requires.old)
+    (λ was. settled_as c.args.schema_version old (c.requires.old was))
     (clean_if_open new.is_clean new.is_open (g.met.S.Store.shut_if_dirty _))
     c.read_table.ensures.all c.read_table.ensures.err c.read_table.ensures.survives in
     rw c.in_ok-read_table.was at looked

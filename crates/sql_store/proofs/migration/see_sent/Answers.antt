@@ -29,7 +29,7 @@ returns-in_default-clause-value g c up =
     let db = (state g.S.Store c.args.conn.now).now.trees in
     let second = c.in_ok-see-2.ensures.queried.same up in
     let first = c.in_ok-see.ensures.queried.same second.was_open in
-    let is : c.args.form ≡ First = search rules in
+    let is : c.args.schema_version ≡ First = search rules in
     record {
       broadcasts = broadcasts_read db false (c.in_ok-see.ensures.value second.was_open);
       waits = waits_read db false (subst (λ (d : Database). IsRead Wait wait_in d.trees false)

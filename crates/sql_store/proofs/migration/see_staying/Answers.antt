@@ -9,6 +9,6 @@ returns-clause-value g c up =
     let first = c.in_ok-see_registry.ensures.queried.same second.was_open in
     record {
       registry = c.in_ok-see_registry.ensures.value second.was_open;
-      sent = subst (λ (d : Database). IsSentRead c.args.form d.trees) first.now
+      sent = subst (λ (d : Database). IsSentRead c.args.schema_version d.trees) first.now
           (c.in_ok-see_sent.ensures.value up);
     }

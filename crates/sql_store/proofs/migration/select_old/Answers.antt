@@ -13,7 +13,8 @@ returns-in_err-rows-clause-queried g c =
     let new = state g.S.Store c.query_all.new.self in
     let same : c.text.result.now ≡ all_text c.args.table = c.text.ensures in
     let fails : is_ok c.from_residual.result ≡ false = search rules in
-    subst (HasQueried old new) (sym fails) (old_unlooked c.args.form c.args.table c.requires.has old
+    subst (HasQueried old new) (sym fails) (old_unlooked c.args.schema_version c.args.table
+    c.requires.has old
     new
     c.requires.old c.in_err-rows.field-0.0 (clean_if_open new.is_clean new.is_open
     (g.met.S.Store.shut_if_dirty _))
@@ -30,11 +31,11 @@ returns-clause-value g c up =
     clean_if_open new.is_clean new.is_open (g.met.S.Store.shut_if_dirty _) up in
     let shown =
     subst (λ t. Shown t [] old new c.in_ok-rows.rows.items) same (c.in_ok-rows.ensures.ok clean) in
-    let looked = old_looked c.args.form c.args.table c.requires.has old new c.requires.old
+    let looked = old_looked c.args.schema_version c.args.table c.requires.has old new c.requires.old
     c.in_ok-rows.rows.items (clean_if_open new.is_clean new.is_open (g.met.S.Store.shut_if_dirty _))
     (λ _. shown)
     (subst (λ t. Survives old new (CommitsShowing t [] old)) same c.query_all.ensures.survives) in
-    old_answers c.args.form c.args.table c.requires.has old new c.requires.old
+    old_answers c.args.schema_version c.args.table c.requires.has old new c.requires.old
     c.in_ok-rows.rows.items (looked.same up).was_open shown
 
 pub returns-clause-queried : goal.returns-clause-queried
@@ -42,7 +43,7 @@ returns-clause-queried g c =
     let old = state g.S.Store c.args.conn.now in
     let new = state g.S.Store c.query_all.new.self in
     let same : c.text.result.now ≡ all_text c.args.table = c.text.ensures in
-    old_looked c.args.form c.args.table c.requires.has old new c.requires.old
+    old_looked c.args.schema_version c.args.table c.requires.has old new c.requires.old
     c.in_ok-rows.rows.items (clean_if_open new.is_clean new.is_open (g.met.S.Store.shut_if_dirty _))
     (subst (λ t. HasCleanDisk new → Shown t [] old new c.in_ok-rows.rows.items) same
     c.in_ok-rows.ensures.ok) (subst (λ t. Survives old new (CommitsShowing t [] old)) same

@@ -5,18 +5,18 @@ use Rattle.sql_rows.specs.Content.{content_in}
 use Rattle.sql_store.specs.Queues.{AreFirstTold}
 use Rattle.sql_store.specs.Store.{content_at}
 use Rattle.sql_store.proofs.QueueLemmas.{first_are}
-use Rattle.sql_store.proofs.CallLemmas.{looked_ours}
 use Rattle.sql_store.proofs.queue.first_page.Goals as goal
 use Rattle.sql_store.proofs.queue.first_page.Goals.{then-is_all, else-is_all}
 
 pub returns-then-len-many-clause-value : goal.returns-then-len-many-clause-value
 returns-then-len-many-clause-value g c = λ up.
-    let old = state g.S.Store c.args.conn.now in
+    let old = state g.S.Store c.args.db.now.conn in
     let waits = c.in_ok-waits.waits.items in
     let downloads = c.in_ok-downloads.downloads.items in
     let mid_up = (c.in_ok-downloads.ensures.queried.same up).was_open in
     let same = (c.in_ok-waits.ensures.queried.same mid_up).now in
-    let told = subst (λ w. AreFirstTold (content_at (state g.S.Store c.page.new.conn)) c.args.many w
+    let told = subst (λ w. AreFirstTold (content_at (state g.S.Store c.page.new.db.conn))
+    c.args.many w
     downloads) c.as_slice.ensures.value (c.in_ok-downloads.ensures.value up) in
     let first =
     subst (λ (d : Database). AreFirstTold (content_in d.trees) c.args.many waits downloads) same
@@ -32,8 +32,3 @@ returns-then-len-many-clause-value g c = λ up.
           let len = w.len.ensures in
           omega (arith, most, enough, len)
     ])
-
-pub first_told-requires-clause-ours : goal.first_told-requires-clause-ours
-first_told-requires-clause-ours g c =
-    looked_ours (state g.S.Store c.args.conn.now) (state g.S.Store c.page.new.conn) _
-    c.requires.ours c.in_ok-waits.ensures.queried

@@ -5,21 +5,20 @@ use Rattle.sqlite.specs.Effect.{Database}
 use Rattle.sql_rows.specs.Content.{content_in}
 use Rattle.sql_store.specs.Queues.{AreTold, IsNext}
 use Rattle.sql_store.specs.Store.{content_at}
-use Rattle.sql_store.proofs.CallLemmas.{looked_ours, looked_then}
+use Rattle.sql_store.proofs.CallLemmas.{looked_then}
 use Rattle.sql_store.proofs.QueueLemmas.{one_more_fits, told_next}
 use Rattle.sql_store.proofs.queue.first_told.Goals as goal
 
 pub loop-wait-preserved : goal.loop-wait-preserved
 loop-wait-preserved g c =
-    let first = state g.S.Store c.args.conn.now in
-    let before = state g.S.Store c.loop-wait.conn in
-    let after = state g.S.Store c.next.new.conn in
+    let first = state g.S.Store c.args.db.now.conn in
+    let before = state g.S.Store c.loop-wait.db.conn in
+    let after = state g.S.Store c.next.new.db.conn in
     let next = c.in_ok-download.ensures in
     let download = c.in_ok-download.download in
     let put : c.put_behind.new.downloads.items ≡ c.loop-wait.downloads.items ++ option_to_list
     download = c.in_ok-put_behind.ensures in
     record {
-      idle = next.idle;
       looked = looked_then first before after true c.loop-wait.invariant.looked next.queried;
       told = λ up.
           let was = (next.queried.same up).was_open in
@@ -35,8 +34,3 @@ loop-wait-preserved g c =
           (one_more_fits c.loop-wait.downloads.items download c.args.many (let low =
           c.if-len-many.false in omega arith));
     }
-
-pub next-requires-clause-ours : goal.next-requires-clause-ours
-next-requires-clause-ours g c =
-    looked_ours (state g.S.Store c.args.conn.now) (state g.S.Store c.loop-wait.conn) true
-    c.requires.ours c.loop-wait.invariant.looked

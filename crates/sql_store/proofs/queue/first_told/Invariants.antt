@@ -1,4 +1,4 @@
-use Rattle.std.proofs.Common.{◌≡◌, ◌≤◌, false, true, length, take}
+use Rattle.std.proofs.Common.{◌≤◌, true, length, take}
 use Rattle.std.specs.Prelude.{IsTrue}
 use Rattle.sqlite.specs.Held.{state}
 use Rattle.sql_store.specs.Queues.{AreTold}
@@ -8,10 +8,9 @@ use Rattle.sql_store.proofs.queue.first_told.Given as goal
 -- All downloads passed that have a broadcast are in the list.
 abbrev pub invariant-loop-wait : goal.invariant-loop-wait
 invariant-loop-wait g l = record {
-  idle : l.conn.in_transaction ≡ false;
-  looked : HasQueried (state g.S.Store l.fn.conn) (state g.S.Store l.conn) true;
-  told : IsTrue (state g.S.Store l.conn).is_open
-      → AreTold (content_at (state g.S.Store l.fn.conn)) (take l.wait-index l.waits)
+  looked : HasQueried (state g.S.Store l.fn.db.conn) (state g.S.Store l.db.conn) true;
+  told : IsTrue (state g.S.Store l.db.conn).is_open
+      → AreTold (content_at (state g.S.Store l.fn.db.conn)) (take l.wait-index l.waits)
       l.downloads.items;
   most : length l.downloads.items ≤ l.many;
 }

@@ -17,7 +17,7 @@ use Rattle.sql_store.proofs.queue.page.Goals as goal
 
 pub returns-clause-value : goal.returns-clause-value
 returns-clause-value g c up =
-    let old = state g.S.Store c.args.conn.now in
+    let old = state g.S.Store c.args.db.now.conn in
     let found = c.in_ok-found.found.items in
     let params = ap (λ v. bound_value v ∷ bound_value (owned c.number.result) ∷ []) (c.text.ensures
     ∙ ap Text c.spid_bytes-bytes.ensures)

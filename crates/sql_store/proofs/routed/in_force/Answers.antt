@@ -14,7 +14,7 @@ use Rattle.sql_store.proofs.routed.in_force.Goals as goal
 
 pub returns-clause-value : goal.returns-clause-value
 returns-clause-value g c up =
-    let old = state g.S.Store c.args.conn.now in
+    let old = state g.S.Store c.args.db.now.conn in
     let found = c.in_ok-found.found.items in
     let was = (c.in_ok-found.ensures.queried.same up).was_open in
     let params = two_bound c.number.result c.number-2.result 0 9223372036854775807 c.number.ensures
@@ -26,7 +26,8 @@ returns-clause-value g c up =
     c.as_slice.ensures.value in
     let passed : IsTrue c.rise.result = search rules in
     routed_are old.now.trees found c.in_ok-rows.rows.items _
-    (in_force_picked old.now.trees (c.requires.ours was).shaped 0 9223372036854775807 found answer)
+    (in_force_picked old.now.trees (c.args.db.now.ours was).shaped 0 9223372036854775807 found
+    answer)
     are
     c.put_in_order_by_subject.ensures (subst Rises c.as_slice-2.ensures.value
     (c.rise.ensures passed))

@@ -3,30 +3,46 @@ use Rattle.sqlite.specs.State.{HasCleanDisk}
 use Rattle.sql_rows.specs.Statements.{all_text}
 use Rattle.sql_store.specs.Store.{clean_if_open, settled}
 use Rattle.sql_store.specs.Through.{TellsNone}
+use Rattle.sql_store.proofs.CallLemmas.{looked_ours}
 use Rattle.sql_store.proofs.ThroughLemmas.{ours_plain, ours_read, table_looked}
 use Rattle.sql_store.proofs.whole.read.Goals as goal
 
 pub read_table-requires : goal.read_table-requires
 read_table-requires g c = record {
-  plain = ours_plain g.T.FromRow.seen_in c.args.table (state g.S.Store c.args.conn.now)
-      (state g.S.Store c.args.conn.now) c.requires.ours;
+  plain = ours_plain g.T.FromRow.seen_in c.args.table (state g.S.Store c.args.db.now.conn)
+      (state g.S.Store c.args.db.now.conn) c.args.db.now.ours;
 }
 
 pub returns-clause-value : goal.returns-clause-value
 returns-clause-value g c = λ up.
-    let old = state g.S.Store c.args.conn.now in
+    let old = state g.S.Store c.args.db.now.conn in
     let new = state g.S.Store c.read_table.new.conn in
     let clean : HasCleanDisk new =
     clean_if_open new.is_clean new.is_open (g.met.S.Store.shut_if_dirty _) up in
-    ours_read g.T.FromRow.seen_in c.args.table old new c.requires.ours c.read_table.result
+    ours_read g.T.FromRow.seen_in c.args.table old new c.args.db.now.ours c.read_table.result
     (c.read_table.ensures.all clean)
 
 pub returns-clause-queried : goal.returns-clause-queried
 returns-clause-queried g c =
-    let old = state g.S.Store c.args.conn.now in
+    let old = state g.S.Store c.args.db.now.conn in
     let new = state g.S.Store c.read_table.new.conn in
     table_looked g.T.FromRow.seen_in TellsNone (all_text c.args.table) old new c.read_table.result
-    (ours_plain g.T.FromRow.seen_in c.args.table old new c.requires.ours)
-    (λ was. settled old (c.requires.ours was))
+    (ours_plain g.T.FromRow.seen_in c.args.table old new c.args.db.now.ours)
+    (λ was. settled old (c.args.db.now.ours was))
     (clean_if_open new.is_clean new.is_open (g.met.S.Store.shut_if_dirty _))
     c.read_table.ensures.all c.read_table.ensures.err c.read_table.ensures.survives
+
+pub invariant_of-db : goal.invariant_of-db
+invariant_of-db g c =
+    let old = state g.S.Store c.args.db.now.conn in
+    let new = state g.S.Store c.read_table.new.conn in
+    record {
+      ours = looked_ours old new _ c.args.db.now.ours
+          (table_looked g.T.FromRow.seen_in TellsNone (all_text c.args.table) old new
+          c.read_table.result (ours_plain g.T.FromRow.seen_in c.args.table old new
+          c.args.db.now.ours)
+          (λ was. settled old (c.args.db.now.ours was))
+          (clean_if_open new.is_clean new.is_open (g.met.S.Store.shut_if_dirty _))
+          c.read_table.ensures.all c.read_table.ensures.err c.read_table.ensures.survives);
+      idle = c.read_table.ensures.mode c.args.db.now.idle;
+    }

@@ -5,12 +5,11 @@ use Rattle.sql_rows.specs.Content.{set_in}
 use Rattle.sql_rows.specs.declared.statement.Table.TheVariants.{WindowSet}
 use Rattle.sql_store.specs.Whole.{IsRead, ReadsAdded}
 use Rattle.sql_store.proofs.WholeLemmas.{added_told}
-use Rattle.sql_store.proofs.CallLemmas.{looked_ours}
 use Rattle.sql_store.proofs.whole.read_added.Goals as goal
 
 pub returns-clause-value : goal.returns-clause-value
 returns-clause-value g c up =
-    let db = (state g.S.Store c.args.conn.now).now.trees in
+    let db = (state g.S.Store c.args.db.now.conn).now.trees in
     let second = c.in_ok-sets.ensures.queried.same up in
     let first = c.in_ok-nexts.ensures.queried.same second.was_open in
     subst (ReadsAdded db) (sym c.are_blank.ensures)
@@ -18,8 +17,3 @@ returns-clause-value g c up =
     (c.in_ok-nexts.ensures.value second.was_open)
     (subst (λ (d : Database). IsRead WindowSet set_in d.trees c.in_ok-sets.sets) first.now
     (c.in_ok-sets.ensures.value up)))
-
-pub read-requires-2-clause-ours : goal.read-requires-2-clause-ours
-read-requires-2-clause-ours g c =
-    looked_ours (state g.S.Store c.args.conn.now) (state g.S.Store c.read.new.conn) _
-    c.requires.ours c.in_ok-nexts.ensures.queried

@@ -2,13 +2,12 @@ use Rattle.std.proofs.Common.{sym, subst, ◌∙◌}
 use Rattle.sqlite.specs.Held.{state}
 use Rattle.sqlite.specs.Effect.{Database}
 use Rattle.sql_store.specs.Whole.{IsMoved, ReadsAdded, ReadsAll, ReadsVersions}
-use Rattle.sql_store.proofs.CallLemmas.{looked_ours}
 use Rattle.sql_store.proofs.WholeLemmas.{all_told}
 use Rattle.sql_store.proofs.whole.read_all.Goals as goal
 
 pub returns-clause-value : goal.returns-clause-value
 returns-clause-value g c up =
-    let db = (state g.S.Store c.args.conn.now).now.trees in
+    let db = (state g.S.Store c.args.db.now.conn).now.trees in
     let fourth = c.in_ok-see_moved.ensures.queried.same up in
     let third = c.in_ok-added.ensures.queried.same fourth.was_open in
     let second = c.in_ok-versions.ensures.queried.same third.was_open in
@@ -23,26 +22,3 @@ returns-clause-value g c up =
     (subst (λ (d : Database). ReadsAdded d.trees c.in_ok-added.added) two
     (c.in_ok-added.ensures.value fourth.was_open))
     (subst (λ (d : Database). IsMoved d.trees) three (c.in_ok-see_moved.ensures.value up)))
-
-pub read_versions-requires-clause-ours : goal.read_versions-requires-clause-ours
-read_versions-requires-clause-ours g c =
-    looked_ours (state g.S.Store c.args.conn.now) (state g.S.Store c.read_registry.new.conn) _
-    c.requires.ours c.in_ok-registry.ensures.queried
-
-pub read_added-requires-clause-ours : goal.read_added-requires-clause-ours
-read_added-requires-clause-ours g c =
-    let a = state g.S.Store c.args.conn.now in
-    let b = state g.S.Store c.read_registry.new.conn in
-    let d = state g.S.Store c.read_versions.new.conn in
-    looked_ours b d _ (looked_ours a b _ c.requires.ours c.in_ok-registry.ensures.queried)
-    c.in_ok-versions.ensures.queried
-
-pub see_moved-requires-clause-ours : goal.see_moved-requires-clause-ours
-see_moved-requires-clause-ours g c =
-    let a = state g.S.Store c.args.conn.now in
-    let b = state g.S.Store c.read_registry.new.conn in
-    let d = state g.S.Store c.read_versions.new.conn in
-    let e = state g.S.Store c.read_added.new.conn in
-    looked_ours d e _
-    (looked_ours b d _ (looked_ours a b _ c.requires.ours c.in_ok-registry.ensures.queried)
-    c.in_ok-versions.ensures.queried) c.in_ok-added.ensures.queried

@@ -5,12 +5,11 @@ use Rattle.sql_rows.specs.Content.{block_row_in, code_row_in, lrn_row_in}
 use Rattle.sql_rows.specs.declared.statement.Table.TheVariants.{Lrn, Code, Block}
 use Rattle.sql_store.specs.Whole.{IsRead, ReadsRegistry}
 use Rattle.sql_store.proofs.WholeLemmas.{registry_told}
-use Rattle.sql_store.proofs.CallLemmas.{looked_ours}
 use Rattle.sql_store.proofs.whole.read_registry.Goals as goal
 
 pub returns-clause-value : goal.returns-clause-value
 returns-clause-value g c up =
-    let db = (state g.S.Store c.args.conn.now).now.trees in
+    let db = (state g.S.Store c.args.db.now.conn).now.trees in
     let fourth = c.in_ok-blocks.ensures.queried.same up in
     let third = c.in_ok-codes.ensures.queried.same fourth.was_open in
     let second = c.in_ok-lrns.ensures.queried.same third.was_open in
@@ -26,22 +25,3 @@ returns-clause-value g c up =
     (c.in_ok-codes.ensures.value fourth.was_open))
     (subst (λ (d : Database). IsRead Block block_row_in d.trees c.in_ok-blocks.blocks) three
     (c.in_ok-blocks.ensures.value up)))
-
-pub read-requires-2-clause-ours : goal.read-requires-2-clause-ours
-read-requires-2-clause-ours g c =
-    looked_ours (state g.S.Store c.args.conn.now) (state g.S.Store c.read.new.conn) _
-    c.requires.ours c.in_ok-carriers.ensures.queried
-
-pub read-requires-3-clause-ours : goal.read-requires-3-clause-ours
-read-requires-3-clause-ours g c =
-    looked_ours (state g.S.Store c.read.new.conn) (state g.S.Store c.read-2.new.conn) _
-    (looked_ours (state g.S.Store c.args.conn.now) (state g.S.Store c.read.new.conn) _
-    c.requires.ours c.in_ok-carriers.ensures.queried) c.in_ok-lrns.ensures.queried
-
-pub read-requires-4-clause-ours : goal.read-requires-4-clause-ours
-read-requires-4-clause-ours g c =
-    looked_ours (state g.S.Store c.read-2.new.conn) (state g.S.Store c.read-3.new.conn) _
-    (looked_ours (state g.S.Store c.read.new.conn) (state g.S.Store c.read-2.new.conn) _
-    (looked_ours (state g.S.Store c.args.conn.now) (state g.S.Store c.read.new.conn) _
-    c.requires.ours c.in_ok-carriers.ensures.queried) c.in_ok-lrns.ensures.queried)
-    c.in_ok-codes.ensures.queried

@@ -5,12 +5,11 @@ use Rattle.sql_rows.specs.Content.{broadcast_in, clock_in, wait_in}
 use Rattle.sql_rows.specs.declared.statement.Table.TheVariants.{Broadcast, Wait, Clock}
 use Rattle.sql_store.specs.Whole.{IsRead, ReadsVersions}
 use Rattle.sql_store.proofs.WholeLemmas.{versions_told}
-use Rattle.sql_store.proofs.CallLemmas.{looked_ours}
 use Rattle.sql_store.proofs.whole.read_versions.Goals as goal
 
 pub returns-clause-value : goal.returns-clause-value
 returns-clause-value g c up =
-    let db = (state g.S.Store c.args.conn.now).now.trees in
+    let db = (state g.S.Store c.args.db.now.conn).now.trees in
     let fourth = c.in_ok-clock.ensures.queried.same up in
     let third = c.in_ok-waits.ensures.queried.same fourth.was_open in
     let second = c.in_ok-broadcasts.ensures.queried.same third.was_open in
@@ -26,22 +25,3 @@ returns-clause-value g c up =
     (c.in_ok-waits.ensures.value fourth.was_open))
     (subst (λ (d : Database). IsRead Clock clock_in d.trees c.in_ok-clock.clock) three
     (c.in_ok-clock.ensures.value up)))
-
-pub read-requires-2-clause-ours : goal.read-requires-2-clause-ours
-read-requires-2-clause-ours g c =
-    looked_ours (state g.S.Store c.args.conn.now) (state g.S.Store c.read.new.conn) _
-    c.requires.ours c.in_ok-versions.ensures.queried
-
-pub read-requires-3-clause-ours : goal.read-requires-3-clause-ours
-read-requires-3-clause-ours g c =
-    looked_ours (state g.S.Store c.read.new.conn) (state g.S.Store c.read-2.new.conn) _
-    (looked_ours (state g.S.Store c.args.conn.now) (state g.S.Store c.read.new.conn) _
-    c.requires.ours c.in_ok-versions.ensures.queried) c.in_ok-broadcasts.ensures.queried
-
-pub read-requires-4-clause-ours : goal.read-requires-4-clause-ours
-read-requires-4-clause-ours g c =
-    looked_ours (state g.S.Store c.read-2.new.conn) (state g.S.Store c.read-3.new.conn) _
-    (looked_ours (state g.S.Store c.read.new.conn) (state g.S.Store c.read-2.new.conn) _
-    (looked_ours (state g.S.Store c.args.conn.now) (state g.S.Store c.read.new.conn) _
-    c.requires.ours c.in_ok-versions.ensures.queried) c.in_ok-broadcasts.ensures.queried)
-    c.in_ok-waits.ensures.queried

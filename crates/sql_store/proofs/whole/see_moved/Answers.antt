@@ -5,12 +5,11 @@ use Rattle.sql_rows.specs.Content.{old_clock_in}
 use Rattle.sql_rows.specs.declared.statement.Table.TheVariants.{OldClock}
 use Rattle.sql_store.specs.Whole.{IsRead}
 use Rattle.sql_store.proofs.WholeLemmas.{moved_told}
-use Rattle.sql_store.proofs.CallLemmas.{looked_ours}
 use Rattle.sql_store.proofs.whole.see_moved.Goals as goal
 
 pub returns-clause-value : goal.returns-clause-value
 returns-clause-value g c up =
-    let db = (state g.S.Store c.args.conn.now).now.trees in
+    let db = (state g.S.Store c.args.db.now.conn).now.trees in
     let second = c.in_ok-clock.ensures.queried.same up in
     let first = c.in_ok-versions.ensures.queried.same second.was_open in
     let blank : c.are_blank.result ≡ true = search rules in
@@ -18,8 +17,3 @@ returns-clause-value g c up =
     second.was_open)
     (subst (λ (d : Database). IsRead OldClock old_clock_in d.trees c.in_ok-clock.clock) first.now
     (c.in_ok-clock.ensures.value up)) (sym c.are_blank.ensures ∙ blank)
-
-pub read-requires-2-clause-ours : goal.read-requires-2-clause-ours
-read-requires-2-clause-ours g c =
-    looked_ours (state g.S.Store c.args.conn.now) (state g.S.Store c.read.new.conn) _
-    c.requires.ours c.in_ok-versions.ensures.queried

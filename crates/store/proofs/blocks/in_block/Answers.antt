@@ -10,4 +10,4 @@ returns c =
     (λ found is.
     in-block-are (content_of c.args.tables.now) (block_of c.args.block) c.in_ok-numbers.numbers is.1
     c.in_ok-numbers.ensures found.items is.0)
-    c.rising.result c.rising.ensures
+    c.ascending.result c.ascending.ensures

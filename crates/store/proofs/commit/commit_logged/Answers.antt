@@ -28,13 +28,13 @@ forget-init c =
 pub forget-requires-clause-last : goal.forget-requires-clause-last
 forget-requires-clause-last c =
     can-take-last (λ mid. IsKeptBelow c.forget.least mid c.forget.tables) c.forget.log.items
-    c.pop.new.self.items c.in-Some.step c.args.tables.now c.in-Some.ensures.items
+    c.pop.new.self.items c.in-Some.entry c.args.tables.now c.in-Some.ensures.items
     c.forget.invariant.left
 
 pub forget-preserved : goal.forget-preserved
 forget-preserved c = record {
   left = last-taken (λ mid. IsKeptBelow c.forget.least mid c.forget.tables) c.forget.log.items
-      c.pop.new.self.items c.in-Some.step c.args.tables.now c.in-Some.ensures.items
+      c.pop.new.self.items c.in-Some.entry c.args.tables.now c.in-Some.ensures.items
       c.forget.invariant.left
       (λ mid. IsKeptBelow c.forget-in-Some.new.least mid c.forget-in-Some.new.tables)
       c.forget-in-Some.ensures.forgotten;
@@ -64,12 +64,12 @@ undo-init c =
 pub undo-requires : goal.undo-requires
 undo-requires c =
     can-take-last (λ mid. IsKept mid c.undo.tables) c.undo.log.items c.pop-in-undo.new.self.items
-    c.in-Some-pop.step c.args.tables.now c.in-Some-pop.ensures.items c.undo.invariant
+    c.in-Some-pop.entry c.args.tables.now c.in-Some-pop.ensures.items c.undo.invariant
 
 pub undo-preserved : goal.undo-preserved
 undo-preserved c =
     last-taken (λ mid. IsKept mid c.undo.tables) c.undo.log.items c.pop-in-undo.new.self.items
-    c.in-Some-pop.step c.args.tables.now c.in-Some-pop.ensures.items c.undo.invariant
+    c.in-Some-pop.entry c.args.tables.now c.in-Some-pop.ensures.items c.undo.invariant
     (λ mid. IsKept mid c.undo-in-Some-pop.new.tables) c.undo-in-Some-pop.ensures
 
 pub returns-in_default-pop-clause-indexed : goal.returns-in_default-pop-clause-indexed

@@ -11,42 +11,43 @@ taken : (c : goal.After-take_version_keys) → AreIndexed c.take_version_keys.ne
 taken c =
     let put = c.put_row_keys.ensures in
     sole-taken c.args.tables.now c.put_row_keys.new.tables c.take_version_keys.new.tables
-    c.write.new.self c.note.new.self c.args.id c.args.row.now c.needed_keys-standing.result
+    c.write.new.self c.note.new.self c.args.id c.args.row.now c.needed_keys-present_keys.result
     c.version_keys-keys.result c.unneeded_keys.result (search rules)
-    c.needed_keys-standing.ensures.own c.needed_keys-standing.ensures.without
+    c.needed_keys-present_keys.ensures.own c.needed_keys-present_keys.ensures.without
     c.version_keys-keys.ensures c.unneeded_keys.ensures put.same put.keeps put.adds_keys
     c.in-Ok.ensures.ok c.in_ok-new.ensures.there c.requires c.take_version_keys.ensures
 
-pub returns-then-stood-clause-indexed : goal.returns-then-stood-clause-indexed
-returns-then-stood-clause-indexed c = (taken c).0
+pub returns-then-replaced-clause-indexed : goal.returns-then-replaced-clause-indexed
+returns-then-replaced-clause-indexed c = (taken c).0
 
-pub returns-then-stood-clause-spares : goal.returns-then-stood-clause-spares
-returns-then-stood-clause-spares c = (taken c).1
+pub returns-then-replaced-clause-spares : goal.returns-then-replaced-clause-spares
+returns-then-replaced-clause-spares c = (taken c).1
 
-pub returns-else-stood-clause-indexed : goal.returns-else-stood-clause-indexed
-returns-else-stood-clause-indexed c =
+pub returns-else-replaced-clause-indexed : goal.returns-else-replaced-clause-indexed
+returns-else-replaced-clause-indexed c =
     let small : c.args.id < 18446744073709551616 = search rules in
     let put = c.put_row_keys.ensures in
     sole-indexed c.args.tables.now c.put_row_keys.new.tables c.args.id c.args.row.now
     c.version_keys-keys.result c.write.new.self small put.same put.keeps c.in-Ok.ensures.ok
     c.version_keys-keys.ensures c.in_ok-new.ensures.there c.requires
 
-pub returns-else-stood-clause-spares : goal.returns-else-stood-clause-spares
-returns-else-stood-clause-spares c =
+pub returns-else-replaced-clause-spares : goal.returns-else-replaced-clause-spares
+returns-else-replaced-clause-spares c =
     let old = c.args.tables.now in
     let put = c.put_row_keys.ensures in
     let new = record c.put_row_keys.new.tables {
       versions = c.write.new.self;
       hints = c.note.new.self;
     } in
-    let standing = c.needed_keys-standing.ensures in
-    let none = standing.without (not-there old c.put_row_keys.new.tables c.args.id put.same
-    (sym c.in-Ok.ensures.stood ∙ c.if-stood.false)) in
-    sole-new c.args.id c.needed_keys-standing.result old new none
-    (left-by old new c.args.id c.args.row.now c.needed_keys-standing.result
-    c.version_keys-keys.result c.needed_keys-standing.result standing.own standing.without
+    let present_keys = c.needed_keys-present_keys.ensures in
+    let none = present_keys.without (not-there old c.put_row_keys.new.tables c.args.id put.same
+    (sym c.in-Ok.ensures.stood ∙ c.if-replaced.false)) in
+    sole-new c.args.id c.needed_keys-present_keys.result old new none
+    (left-by old new c.args.id c.args.row.now c.needed_keys-present_keys.result
+    c.version_keys-keys.result c.needed_keys-present_keys.result present_keys.own
+    present_keys.without
     c.version_keys-keys.ensures
-    (none-unneeded c.needed_keys-standing.result c.version_keys-keys.result none) put.adds_keys
+    (none-unneeded c.needed_keys-present_keys.result c.version_keys-keys.result none) put.adds_keys
     (sole-content old c.put_row_keys.new.tables c.args.id c.args.row.now c.write.new.self put.same
     c.in-Ok.ensures.ok))
 

@@ -1,5 +1,5 @@
 use Rattle.std.proofs.Common.{◌≡◌, ℕ, ◌-◌, List, length, take, sym, arith, rules}
-use Rattle.http_messages.proofs.HeldLemmas.{taken_more}
+use Rattle.http_messages.proofs.BufferLemmas.{taken_more}
 use Rattle.http_messages.proofs.read_buffer.reads.read_once.Goals as goal
 
 pub returns-clause-ok : goal.returns-clause-ok

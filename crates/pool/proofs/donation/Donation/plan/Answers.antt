@@ -4,14 +4,14 @@ use Rattle.numbers.specs.declared.tn.Tn.{Tn}
 use Rattle.model.specs.RefusalNumbers.{number_of}
 use Rattle.pool.specs.Donations.{tn_subject, donation_refusal, AreProtective}
 use Rattle.pool.proofs.BlockRefused.{donation_refused_in}
-use Rattle.pool.proofs.Planned.{refused, answered, handed, refused_as, within, planned}
+use Rattle.pool.proofs.Planned.{refused, answered, returned, refused_as, within, planned}
 use Rattle.pool.proofs.donation.Donation.plan.Goals as goal
 use Rattle.version.specs.Abstraction.{set_of}
 
 pub returns-in_err-check_donor-clause-refused : goal.returns-in_err-check_donor-clause-refused
 returns-in_err-check_donor-clause-refused c =
     let was = c.in_err-check_donor.field-0.0 in
-    handed c.from_residual.result was (donation_refusal c.args.caller.number c.args.self.now
+    returned c.from_residual.result was (donation_refusal c.args.caller.number c.args.self.now
     c.args.facts.now) c.from_residual.ensures.1
     (refused c.args.caller.number c.args.self.now c.args.facts.now (number_of was)
     (sym c.in_err-check_donor.ensures))
@@ -20,7 +20,7 @@ pub returns-in_err-check_block-clause-refused : goal.returns-in_err-check_block-
 returns-in_err-check_block-clause-refused c =
     let was = c.in_err-check_block.field-0.0 in
     let many : c.len.result ≡ length c.in_ok-made.made.items = search rules in
-    handed c.from_residual-in_err-check_block.result was (donation_refusal c.args.caller.number
+    returned c.from_residual-in_err-check_block.result was (donation_refusal c.args.caller.number
     c.args.self.now c.args.facts.now) c.from_residual-in_err-check_block.ensures.1
     (answered c.args.caller.number c.args.self.now c.args.facts.now c.in_ok-used.used
     c.in_ok-made.made.items c.len.result (Some (number_of was))

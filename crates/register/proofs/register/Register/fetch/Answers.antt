@@ -9,38 +9,41 @@ use Rattle.register.proofs.register.Register.fetch.Goals as goal
 
 pub returns-in_err-settle_all-clause-answers : goal.returns-in_err-settle_all-clause-answers
 returns-in_err-settle_all-clause-answers g c = λ usable.
-    means_fault (g.S.Store.content c.args.self.now.store) (g.S.Store.content c.settle_all.new.store)
+    means_fault (g.S.StoreModel.content c.args.self.now.store)
+    (g.S.StoreModel.content c.settle_all.new.store)
     (QuestionFrom c.args.caller.number (Fetch c.args.many))
     (λ downloads. Fetched (map download_of downloads.items))
     c.from_residual.result c.in_err-settle_all.field-0.0 (search rules)
-    (λ st refines. (all_kept (g.S.Store.content c.args.self.now.store)
-    (g.S.Store.content c.settle_all.new.store) (c.in_err-settle_all.ensures.kept usable) st
+    (λ st refines. (all_kept (g.S.StoreModel.content c.args.self.now.store)
+    (g.S.StoreModel.content c.settle_all.new.store) (c.in_err-settle_all.ensures.kept usable) st
     refines).0)
 
 pub returns-clause-preserves : goal.returns-clause-preserves
 returns-clause-preserves g c =
-    owes_after g.S.Store.IsUsable g.S.Store.HasHonestDevice g.S.Store.failed c.args.self.now.store
+    owes_after g.S.StoreModel c.args.self.now.store
     c.settle_all.new.store c.fetch.new.store
-    (g.S.Store.content c.args.self.now.store) (g.S.Store.content c.settle_all.new.store)
+    (g.S.StoreModel.content c.args.self.now.store) (g.S.StoreModel.content c.settle_all.new.store)
     (QuestionFrom c.args.caller.number (Fetch c.args.many))
     tt c.in_ok-settle_all.ensures.preserves
-    (λ middle. all_kept (g.S.Store.content c.args.self.now.store)
-    (g.S.Store.content c.settle_all.new.store) (c.in_ok-settle_all.ensures.kept middle))
-    (λ middle. all_settled (g.S.Store.content c.args.self.now.store)
-    (g.S.Store.content c.settle_all.new.store) (c.in_ok-settle_all.ensures.settled middle))
+    (λ middle. all_kept (g.S.StoreModel.content c.args.self.now.store)
+    (g.S.StoreModel.content c.settle_all.new.store) (c.in_ok-settle_all.ensures.kept middle))
+    (λ middle. all_settled (g.S.StoreModel.content c.args.self.now.store)
+    (g.S.StoreModel.content c.settle_all.new.store) (c.in_ok-settle_all.ensures.settled middle))
     c.fetch.ensures.preserves
 
 pub returns-clause-published : goal.returns-clause-published
 returns-clause-published g c = λ usable.
     let middle = c.fetch.ensures.preserves.usable usable in
-    if_published (g.S.Store.content c.args.self.now.store) (g.S.Store.content c.fetch.new.store)
+    if_published (g.S.StoreModel.content c.args.self.now.store)
+    (g.S.StoreModel.content c.fetch.new.store)
     c.args.caller.number c.args.many (λ v. v.items) c.fetch.result
-    (answers_after (g.S.Store.content c.args.self.now.store)
-    (g.S.Store.content c.settle_all.new.store) (g.S.Store.content c.fetch.new.store)
+    (answers_after (g.S.StoreModel.content c.args.self.now.store)
+    (g.S.StoreModel.content c.settle_all.new.store) (g.S.StoreModel.content c.fetch.new.store)
     (QuestionFrom c.args.caller.number (Fetch c.args.many))
-    (all_kept (g.S.Store.content c.args.self.now.store) (g.S.Store.content c.settle_all.new.store)
+    (all_kept (g.S.StoreModel.content c.args.self.now.store)
+    (g.S.StoreModel.content c.settle_all.new.store)
     (c.in_ok-settle_all.ensures.kept middle))
-    (all_settled (g.S.Store.content c.args.self.now.store)
-    (g.S.Store.content c.settle_all.new.store) (c.in_ok-settle_all.ensures.settled middle))
+    (all_settled (g.S.StoreModel.content c.args.self.now.store)
+    (g.S.StoreModel.content c.settle_all.new.store) (c.in_ok-settle_all.ensures.settled middle))
     (replied (λ downloads. Fetched (map download_of downloads.items)) c.fetch.result)
     (c.fetch.ensures.answers usable))

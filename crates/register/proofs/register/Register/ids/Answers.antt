@@ -9,8 +9,8 @@ use Rattle.register.proofs.register.Register.ids.Goals as goal
 pub returns-clause-answers : goal.returns-clause-answers
 returns-clause-answers g c = λ usable caller.
     let middle = c.ids.ensures.preserves.usable usable in
-    answers_after (g.S.Store.content c.args.self.now.store)
-    (g.S.Store.content c.settle_number.new.store) (g.S.Store.content c.ids.new.store)
+    answers_after (g.S.StoreModel.content c.args.self.now.store)
+    (g.S.StoreModel.content c.settle_number.new.store) (g.S.StoreModel.content c.ids.new.store)
     (QuestionFrom caller (Ids c.args.tn.number))
     (c.in_ok-settle_number.ensures.kept middle) (c.in_ok-settle_number.ensures.settled middle)
     (replied (λ found. Found found.in_force found.opened) c.ids.result)
@@ -19,8 +19,8 @@ returns-clause-answers g c = λ usable caller.
 pub returns-clause-elsewhere : goal.returns-clause-elsewhere
 returns-clause-elsewhere g c = λ usable caller.
     let middle = c.ids.ensures.preserves.usable usable in
-    leaves_after (g.S.Store.content c.args.self.now.store)
-    (g.S.Store.content c.settle_number.new.store) (g.S.Store.content c.ids.new.store)
+    leaves_after (g.S.StoreModel.content c.args.self.now.store)
+    (g.S.StoreModel.content c.settle_number.new.store) (g.S.StoreModel.content c.ids.new.store)
     (QuestionFrom caller (Ids c.args.tn.number))
     (c.in_ok-settle_number.ensures.kept middle) (c.in_ok-settle_number.ensures.settled middle)
     (replied (λ found. Found found.in_force found.opened) c.ids.result)

@@ -10,38 +10,41 @@ use Rattle.register.proofs.register.Register.waiting.Goals as goal
 
 pub returns-in_err-settle_all-clause-answers : goal.returns-in_err-settle_all-clause-answers
 returns-in_err-settle_all-clause-answers g c = λ usable.
-    means_fault (g.S.Store.content c.args.self.now.store) (g.S.Store.content c.settle_all.new.store)
+    means_fault (g.S.StoreModel.content c.args.self.now.store)
+    (g.S.StoreModel.content c.settle_all.new.store)
     (QuestionFrom c.args.caller.number Waiting)
     (λ subjects. Awaited (map subject_of subjects.items))
     c.from_residual.result c.in_err-settle_all.field-0.0 (search rules)
-    (λ st refines. (all_kept (g.S.Store.content c.args.self.now.store)
-    (g.S.Store.content c.settle_all.new.store) (c.in_err-settle_all.ensures.kept usable) st
+    (λ st refines. (all_kept (g.S.StoreModel.content c.args.self.now.store)
+    (g.S.StoreModel.content c.settle_all.new.store) (c.in_err-settle_all.ensures.kept usable) st
     refines).0)
 
 pub returns-clause-preserves : goal.returns-clause-preserves
 returns-clause-preserves g c =
-    owes_after g.S.Store.IsUsable g.S.Store.HasHonestDevice g.S.Store.failed c.args.self.now.store
+    owes_after g.S.StoreModel c.args.self.now.store
     c.settle_all.new.store c.waiting.new.store
-    (g.S.Store.content c.args.self.now.store) (g.S.Store.content c.settle_all.new.store)
+    (g.S.StoreModel.content c.args.self.now.store) (g.S.StoreModel.content c.settle_all.new.store)
     (QuestionFrom c.args.caller.number Waiting)
     tt c.in_ok-settle_all.ensures.preserves
-    (λ middle. all_kept (g.S.Store.content c.args.self.now.store)
-    (g.S.Store.content c.settle_all.new.store) (c.in_ok-settle_all.ensures.kept middle))
-    (λ middle. all_settled (g.S.Store.content c.args.self.now.store)
-    (g.S.Store.content c.settle_all.new.store) (c.in_ok-settle_all.ensures.settled middle))
+    (λ middle. all_kept (g.S.StoreModel.content c.args.self.now.store)
+    (g.S.StoreModel.content c.settle_all.new.store) (c.in_ok-settle_all.ensures.kept middle))
+    (λ middle. all_settled (g.S.StoreModel.content c.args.self.now.store)
+    (g.S.StoreModel.content c.settle_all.new.store) (c.in_ok-settle_all.ensures.settled middle))
     c.waiting.ensures.preserves
 
 pub returns-clause-published : goal.returns-clause-published
 returns-clause-published g c = λ usable.
     let middle = c.waiting.ensures.preserves.usable usable in
-    if_all_but (g.S.Store.content c.args.self.now.store) (g.S.Store.content c.waiting.new.store)
+    if_all_but (g.S.StoreModel.content c.args.self.now.store)
+    (g.S.StoreModel.content c.waiting.new.store)
     c.args.caller.number (λ v. map subject_of v.items) c.waiting.result
-    (answers_after (g.S.Store.content c.args.self.now.store)
-    (g.S.Store.content c.settle_all.new.store) (g.S.Store.content c.waiting.new.store)
+    (answers_after (g.S.StoreModel.content c.args.self.now.store)
+    (g.S.StoreModel.content c.settle_all.new.store) (g.S.StoreModel.content c.waiting.new.store)
     (QuestionFrom c.args.caller.number Waiting)
-    (all_kept (g.S.Store.content c.args.self.now.store) (g.S.Store.content c.settle_all.new.store)
+    (all_kept (g.S.StoreModel.content c.args.self.now.store)
+    (g.S.StoreModel.content c.settle_all.new.store)
     (c.in_ok-settle_all.ensures.kept middle))
-    (all_settled (g.S.Store.content c.args.self.now.store)
-    (g.S.Store.content c.settle_all.new.store) (c.in_ok-settle_all.ensures.settled middle))
+    (all_settled (g.S.StoreModel.content c.args.self.now.store)
+    (g.S.StoreModel.content c.settle_all.new.store) (c.in_ok-settle_all.ensures.settled middle))
     (replied (λ subjects. Awaited (map subject_of subjects.items)) c.waiting.result)
     (c.waiting.ensures.answers usable))

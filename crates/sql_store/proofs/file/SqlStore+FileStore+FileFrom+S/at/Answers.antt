@@ -33,7 +33,7 @@ returns-in-Ok-opened-clause-taken g c = λ clean db holds.
     let opened = c.in-Ok.ensures.opened before in
     let finds = c.in-Ok.ensures.found before in
     subst (λ t. IsTakenAs (windows_of c.args.windows.now) t
-    (file_state c.in-Ok-opened.it.conn).now.trees) (ap (λ (d : Database). d.trees) opened.0.clean
+    (file_state c.in-Ok-opened.it.db.conn).now.trees) (ap (λ (d : Database). d.trees) opened.0.clean
     ∙ finds.holds db holds) (c.in-Ok-opened.ensures.taken clean)
 
 pub returns-in-Err-opened-clause-refused : goal.returns-in-Err-opened-clause-refused

@@ -8,7 +8,7 @@ use Rattle.sql_store.proofs.store.SqlStore.adopt.Goals as goal
 pub returns-in-Ok-opened-clause-taken : goal.returns-in-Ok-opened-clause-taken
 returns-in-Ok-opened-clause-taken g c = λ clean.
     subst (λ db. IsTakenAs (windows_of c.args.windows.now) db
-    (state g.S.Store c.in-Ok-opened.it.conn).now.trees)
+    (state g.S.Store c.in-Ok-opened.it.db.conn).now.trees)
     (c.in-Ok.ensures.trees (c.in-Ok-opened.ensures.honest clean))
     (c.in-Ok-opened.ensures.taken clean)
 

@@ -9,4 +9,4 @@ migrate-requires-clause-old g c = λ up.
     let s = state g.S.Store c.args.conn in
     let clean : HasCleanDisk s = clean_if_open s.is_clean s.is_open (g.met.S.Store.shut_if_dirty _)
     up in
-    opened_form s (c.requires.opened clean) c.args.form c.requires.form
+    opened_form s (c.requires.opened clean) c.args.schema_version c.requires.form

@@ -11,7 +11,8 @@ returns-in-Ok-clause-taken g c = λ clean.
     let s = state g.S.Store c.args.conn in
     let was = c.requires.opened (c.in-Ok.ensures.honest clean) in
     let has = sym c.schema.ensures.value ∙ c.in-Some.ensures in
-    taken_moved _ _ _ c.in-Some.form (sound_as s was (schema_of c.in-Some.form) has)
+    taken_moved _ _ _ c.in-Some.schema_version (sound_as s was (schema_of c.in-Some.schema_version)
+    has)
     (c.in-Ok.ensures.moved (c.in-Ok.ensures.«open» clean))
 
 pub returns-in-Err-clause-refused : goal.returns-in-Err-clause-refused
@@ -19,16 +20,16 @@ returns-in-Err-clause-refused g c = λ clean.
     let s = state g.S.Store c.args.conn in
     let was = c.requires.opened (c.in-Err.ensures.err_honest clean) in
     let has = sym c.schema.ensures.value ∙ c.in-Some.ensures in
-    let sound = sound_as s was (schema_of c.in-Some.form) has in
+    let sound = sound_as s was (schema_of c.in-Some.schema_version) has in
     record {
       kept = λ lists stands. c.in-Err.ensures.err stands.0 stands.1;
       crash = λ lists clean db may. elim (c.in-Err.ensures.crash clean db may) [
         | inl before ↦ inl (g.met.S.Store.settled c.args.conn.store db was.opens.is_open before
             ∙ sym (ap (λ (d : Database). d.trees) was.opens.clean))
-        | inr moved ↦ inr (c.in-Some.form, sound, moved)
+        | inr moved ↦ inr (c.in-Some.schema_version, sound, moved)
       ];
       differ = λ told stands. record {
-        form = c.in-Some.form;
+        form = c.in-Some.schema_version;
         sound = sound;
         others = c.in-Err.ensures.differ told stands.0 stands.1;
       };

@@ -5,8 +5,8 @@ use Rattle.sql_store.specs.Store.{clean_if_open}
 use Rattle.sql_store.proofs.OpeningLemmas.{opened_ours}
 use Rattle.sql_store.proofs.store.SqlStore.with_tables.Goals as goal
 
-pub invariant_of-result : goal.invariant_of-result
-invariant_of-result g c =
+pub invariant_of-db : goal.invariant_of-db
+invariant_of-db g c =
     let s = state g.S.Store c.args.conn in
     let ok : IsTrue c.is_ours.result = search rules in
     record {

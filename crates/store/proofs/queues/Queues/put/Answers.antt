@@ -15,28 +15,30 @@ invariant_of-self-in-Ok c =
     (wait_key_of c.args.key) c.self.invariant (Some (subject_of c.args.subject)) (Some tt) refl
     (λ _. small)
     (order-written c.self.inside.order c.insert.new.self c.args.key (Some tt)
-    c.in_ok-stood.ensures.updates.0))
+    c.in_ok-was_there.ensures.updates.0))
 
 pub invariant_of-self-then-is_none : goal.invariant_of-self-then-is_none
 invariant_of-self-then-is_none c =
-    let none : c.in_ok-stood.stood ≡ None = search rules in
+    let none : c.in_ok-was_there.was_there ≡ None = search rules in
     subst (λ m. AreOrdered m (order_of c.remove.new.self)) (sym c.in-Err.ensures.err)
     (ordered-back c.self.inside.waits (order_of c.self.inside.order) (order_of c.remove.new.self)
     (wait_key_of c.args.key) c.self.invariant
-    (order-at c.self.inside.order c.args.key c.in_ok-stood.stood c.in_ok-stood.ensures.old
+    (order-at c.self.inside.order c.args.key c.in_ok-was_there.was_there
+    c.in_ok-was_there.ensures.old
     ∙ ap is_some none)
     (order-gone (order_of c.self.inside.order) (order_of c.insert.new.self)
     (order_of c.remove.new.self) (wait_key_of c.args.key) (Some tt)
     (order-written c.self.inside.order c.insert.new.self c.args.key (Some tt)
-    c.in_ok-stood.ensures.updates.0)
+    c.in_ok-was_there.ensures.updates.0)
     (order-written c.insert.new.self c.remove.new.self c.args.key None c.remove.ensures.updates.0)))
 
 pub invariant_of-self-else-is_none : goal.invariant_of-self-else-is_none
 invariant_of-self-else-is_none c =
-    let there : is_some c.in_ok-stood.stood ≡ true = search rules in
+    let there : is_some c.in_ok-was_there.was_there ≡ true = search rules in
     subst (λ m. AreOrdered m (order_of c.insert.new.self)) (sym c.in-Err.ensures.err)
     (ordered-again c.self.inside.waits (order_of c.self.inside.order) (order_of c.insert.new.self)
     (wait_key_of c.args.key) c.self.invariant
-    (order-at c.self.inside.order c.args.key c.in_ok-stood.stood c.in_ok-stood.ensures.old ∙ there)
+    (order-at c.self.inside.order c.args.key c.in_ok-was_there.was_there
+    c.in_ok-was_there.ensures.old ∙ there)
     (order-written c.self.inside.order c.insert.new.self c.args.key (Some tt)
-    c.in_ok-stood.ensures.updates.0))
+    c.in_ok-was_there.ensures.updates.0))

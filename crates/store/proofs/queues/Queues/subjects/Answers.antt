@@ -14,10 +14,10 @@ pub loop-key-preserved-in-Some-get : goal.loop-key-preserved-in-Some-get
 loop-key-preserved-in-Some-get c =
     let next : c.loop-key.key-iterator ≡ (c.in-Some.key.now, c.in-Some.field-0-1.now)
     ∷ c.next.new.self = search rules in
-    let told : Some (subject_of c.in-Some-get.subject) ≡ get c.args.self.now
+    let subject_is : Some (subject_of c.in-Some-get.subject) ≡ get c.args.self.now
     (wait_key_of c.in-Some.key.now) = search rules in
     gathered-step c.args.self.now (c.in-Some.key.now, c.in-Some.field-0-1.now) c.next.new.self
-    c.loop-key.subjects c.insert.new.self c.in-Some-get.subject told
+    c.loop-key.subjects c.insert.new.self c.in-Some-get.subject subject_is
     c.in_ok-insert.ensures.updates.0
     ∙ ap (λ es. gathered c.args.self.now es (subjects_of c.loop-key.subjects)) (sym next)
     ∙ c.loop-key.invariant
@@ -38,4 +38,4 @@ returns c =
     c.new.result.start c.new.result.end (search rules) (search rules)
     (subst (λ m. AreOrdered m (order_of c.self.inside.order)) c.self.view_is c.self.invariant)
     c.into_iter-key-iterator.result part all found.items is.0 is.1)
-    c.rising.result c.rising.ensures
+    c.ascending.result c.ascending.ensures

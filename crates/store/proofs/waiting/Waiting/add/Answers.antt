@@ -1,5 +1,5 @@
-use Rattle.std.proofs.Common.{◌≡◌, Bool, true, false, sym, ◌∙◌, subst, refl, map}
-use Rattle.std.specs.Prelude.{◌==◌, not}
+use Rattle.std.proofs.Common.{◌≡◌, true, sym, ◌∙◌, subst, refl, map}
+use Rattle.std.specs.Prelude.{◌==◌}
 use Rattle.numbers.specs.Abstraction.{subject_of, key_of}
 use Rattle.numbers.proofs.SubjectKeys.{subject_key-exact}
 use Rattle.settle.specs.Abstraction.{spid_of}

@@ -4,5 +4,5 @@ use Rattle.store.proofs.waiting.Waiting.take.Goals as goal
 
 pub returns : goal.returns
 returns c =
-    without c.args.carrier.number c.args.self.now.carriers.items c.take_out.new.carriers.items
-    (subject_of c.args.self.now.subject) c.take_out.ensures
+    without c.args.carrier.number c.args.self.now.carriers.items c.remove_carrier.new.carriers.items
+    (subject_of c.args.self.now.subject) c.remove_carrier.ensures

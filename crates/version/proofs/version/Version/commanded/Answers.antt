@@ -7,14 +7,14 @@ use Rattle.version.proofs.version.Version.commanded.Goals as goal
 
 pub returns-then-matches-clause-state : goal.returns-then-matches-clause-state
 returns-then-matches-clause-state c = λ st id is.
-    command_refused_in st (set_of c.args.present.now) (windows_of c.args.held.now)
-    c.args.caller.number c.args.minute.number id (command_model c.args.command) c.args.told
+    command_refused_in st (set_of c.args.present.now) (windows_of c.args.windows.now)
+    c.args.caller.number c.args.minute.number id (command_model c.args.command) c.args.facts
     c.args.self.now is
     _ (search rules)
 
 pub returns-clause-state : goal.returns-clause-state
 returns-clause-state c = λ st id is.
-    command_refused_in st (set_of c.args.present.now) (windows_of c.args.held.now)
-    c.args.caller.number c.args.minute.number id (command_model c.args.command) c.args.told
+    command_refused_in st (set_of c.args.present.now) (windows_of c.args.windows.now)
+    c.args.caller.number c.args.minute.number id (command_model c.args.command) c.args.facts
     c.args.self.now is
     _ (search rules)

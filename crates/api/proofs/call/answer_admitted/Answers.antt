@@ -1,0 +1,46 @@
+use Rattle.std.proofs.Common.{ap, Err, rules}
+use Rattle.requests.specs.Calls.{called_of, reply_of}
+use Rattle.json_api.specs.Forms.{RegisterCall}
+use Rattle.api.proofs.StepLemmas.{blamed, blames_since, refused_as, refused_carried, reply_carried, short_carried}
+use Rattle.api.proofs.call.answer_admitted.Goals as goal
+
+pub returns-in_err-bounds-clause-performs : goal.returns-in_err-bounds-clause-performs
+returns-in_err-bounds-clause-performs g c = λ u st s admits.
+    refused_as (g.S.StoreModel.failed c.args.register.now.store)
+    (g.S.StoreModel.failed c.reserve_reply.new.register.store)
+    (g.S.StoreModel.content c.reserve_reply.new.register.store) st c.args.caller.number
+    (RegisterCall (called_of c.args.call.now)) c.from_residual.result _ c.in_err-bounds.field-0.0
+    (search rules)
+    (short_carried (g.S.StoreModel.failed c.args.register.now.store)
+    (g.S.StoreModel.failed c.reserve_reply.new.register.store)
+    (g.S.StoreModel.content c.reserve_reply.new.register.store) st c.args.caller.number
+    (called_of c.args.call.now) c.in_err-bounds.field-0.0
+    (c.in_err-bounds.ensures.kept u st s) (c.in_err-bounds.ensures.unavailable u st s))
+
+pub returns-in_err-reply-clause-performs : goal.returns-in_err-reply-clause-performs
+returns-in_err-reply-clause-performs g c = λ u st s admits.
+    let from = g.S.StoreModel.failed c.args.register.now.store in
+    let to = g.S.StoreModel.failed c.answer.new.self.store in
+    let mid = g.S.StoreModel.content c.reserve_reply.new.register.store in
+    let new = g.S.StoreModel.content c.answer.new.self.store in
+    let refusal = c.in_err-reply.field-0.0 in
+    refused_as from to new st c.args.caller.number (RegisterCall (called_of c.args.call.now))
+    c.from_residual-in_err-reply.result _ refusal (search rules)
+    (refused_carried from to new st c.args.caller.number (called_of c.args.call.now) admits refusal
+    mid (c.in_err-reply.ensures.answers u)
+    (blames_since from (g.S.StoreModel.failed c.reserve_reply.new.register.store) to mid mid refusal
+    c.in_ok-bounds.ensures.preserves.rises c.in_err-reply.ensures.preserves.rises (λ x y. y)
+    (λ st s e. blamed c.in_err-reply.ensures.preserves u st s (ap Err e)))
+    (c.in_ok-bounds.ensures.kept (c.answer.ensures.preserves.usable u) st s))
+
+pub returns-clause-performs : goal.returns-clause-performs
+returns-clause-performs g c = λ u st s admits.
+    let middle = c.answer.ensures.preserves.usable u in
+    reply_carried (g.S.StoreModel.failed c.args.register.now.store)
+    (g.S.StoreModel.failed c.answer.new.self.store) (g.S.StoreModel.content c.answer.new.self.store)
+    st
+    c.args.caller.number (called_of c.args.call.now) admits
+    (g.S.StoreModel.content c.reserve_reply.new.register.store) (reply_of c.in_ok-reply.reply)
+    c.in_ok-bounds.bounds c.put_reply.result _
+    (c.in_ok-bounds.ensures.kept middle st s) (c.in_ok-bounds.ensures.bounds middle st s)
+    (c.in_ok-reply.ensures.answers u) c.put_reply.ensures.text c.put_reply.ensures.more

@@ -1,0 +1,14 @@
+use Rattle.std.proofs.Common.{rules, ◌≡◌, ◌∙◌, sym, ap, Some}
+use Rattle.std.specs.FinMap.{get}
+use Rattle.model.specs.Content.{VersionRow}
+use Rattle.store.proofs.Found.{subject-is}
+use Rattle.store.proofs.reads.hinted.Goals as goal
+
+pub returns-then-eq : goal.returns-then-eq
+returns-then-eq c =
+    let at : get c.args.tables.now.versions c.in_ok-id.id ≡ Some c.in_ok-row.row.now =
+    search rules in (
+      at ∙ ap (λ (r : VersionRow). Some r) (sym c.copied.ensures),
+      ap (λ (r : VersionRow). r.holds) c.copied.ensures ∙ sym c.holds.ensures
+          ∙ subject-is c.holds.result c.args.subject (sym c.eq.ensures ∙ c.if-eq.true),
+    )
