@@ -9,8 +9,11 @@ import csv
 import os
 import subprocess
 import sys
+from pathlib import Path
 
-PROGRAM = "crates/npacd/out/npacd"
+sys.path.insert(0, str(Path(__file__).resolve().parents[1] / "bench"))
+from lib.program import PROGRAM
+
 HEADERS = {
     "bulk": "caller,action,subject,old,new,due,lrn,cic,flag",
     "bulk-report": "row,subject,result,id",

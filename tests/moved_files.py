@@ -20,7 +20,9 @@ from pathlib import Path
 import stories
 
 TOP = Path(__file__).resolve().parent.parent
-PROGRAM = TOP / "crates" / "npacd" / "out" / "npacd"
+sys.path.insert(0, str(TOP / "bench"))
+from lib.program import PROGRAM
+
 STATEMENTS = TOP / "crates" / "sql_tests" / "src" / "earlier.rt"
 # The statements of every file, before its own.
 BEGUN = ("SCHEMA", "REGISTRY")
@@ -129,7 +131,7 @@ def found_in_all():
 
 def main():
     if not os.path.isfile(PROGRAM):
-        sys.exit(f"{PROGRAM.relative_to(TOP)} is not there: build it first")
+        sys.exit(f"{PROGRAM} is not there: build it first")
     found = found_in_all()
     wrong = [what for what, well in found.items() if not well]
     print(*wrong, f"moved files, by stock SQLite: {len(found) - len(wrong)} as wanted, {len(wrong)} otherwise", sep="\n")

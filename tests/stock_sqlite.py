@@ -1,4 +1,7 @@
+#!/usr/bin/env python3
 """Tests a register's file with stock SQLite, and the program with files that were changed by hand.
+
+    tests/stock_sqlite.py      (build first: cd crates/npacd && rt run -- --help)
 
 The expected rows are worked out from docs/RULES.md and docs/FILES.md for the messages below. tests/moved_files.py tests the files that
 the program has migrated, and its answers then.
@@ -9,8 +12,9 @@ import sqlite3
 import subprocess
 import sys
 import tempfile
+from pathlib import Path
 
-sys.path.insert(0, "bench")
+sys.path.insert(0, str(Path(__file__).resolve().parents[1] / "bench"))
 from lib.messages import message
 from lib.program import PROGRAM, WINDOWS
 from moved_files import found_in_all
@@ -180,4 +184,5 @@ def main():
     sys.exit(1 if wrong else 0)
 
 
-main()
+if __name__ == "__main__":
+    main()

@@ -1,4 +1,7 @@
-"""Wrong bodies that the prover has to refuse, all of a crate's in one check.
+#!/usr/bin/env python3
+"""Tests that the prover refuses wrong bodies, all of a crate's in one check.
+
+    tests/wrong_bodies.py [--changed] [NAME..]      (all crates with wrong bodies, if none is named)
 
 A proof sees the other functions of its crate by their contracts alone, so wrong bodies of different functions do not meet. They are put
 into one copy of the crate, which is checked once. One of them is refused where its own function has a goal of its own that is not
@@ -335,6 +338,7 @@ def in_lanes(tasks):
 
 
 def main():
+    os.chdir(os.path.dirname(os.path.dirname(os.path.abspath(__file__))))
     crates = read_crates()
     only_changed = "--changed" in sys.argv[1:]
     names = [it for it in sys.argv[1:] if it != "--changed"] or [it for it in crates if os.path.isdir(f"crates/{it}/wrong-bodies")]

@@ -6,10 +6,12 @@ import socket
 import subprocess
 import time
 from contextlib import contextmanager
+from pathlib import Path
 from typing import NamedTuple
 
-PROGRAM = "crates/npacd/out/npacd"
-WINDOWS = "crates/npacd/data/w.toml"
+TOP = Path(__file__).resolve().parents[2]
+PROGRAM = str(TOP / "crates/npacd/out/npacd")
+WINDOWS = str(TOP / "crates/npacd/data/w.toml")
 
 
 def command_line(*words, program=PROGRAM):
