@@ -11,7 +11,7 @@ use Rattle.register.specs.Refinement.{Refines}
 use Rattle.http_messages.specs.Parsing.{IsNextMessage, ParsesAs, EndOfInput, WholeMessage}
 use Rattle.http_messages.specs.ReadBuffer.{buffered_bytes, remaining_input}
 use Rattle.http_messages.specs.Reading.{HasNoWholeMessage, IsRead, IsReadAhead, IsReadTo}
-use Rattle.http_messages.specs.Sending.{AppendsFront}
+use Rattle.http_messages.specs.Sending.{AppendsPrefix}
 use Rattle.http_messages.specs.declared.fault.MessageFault.{MessageFault}
 use Rattle.http_messages.specs.declared.read_buffer.ReadBuffer.{ReadBuffer}
 use Rattle.http_messages.specs.declared.message.NextMessage.{NextMessage}
@@ -421,7 +421,7 @@ module _ (offered : Bool) (from between : ℕ) (old mid : Content)
 
       part_of : (next : NextMessage) → Came next
           → IfSome left (λ rest. IsRead (Ok (Some next)) rest unread) → Answered next
-          → AppendsFront has has' text
+          → AppendsPrefix has has' text
           → (st : State) (input : List ℕ) → Going offered from between st mid input left had has
           ticks_before remaining_ticks k
           → AfterPartialResponse offered from to st new (trace' input) k
@@ -486,7 +486,7 @@ module _ (offered : Bool) (from between : ℕ) (old mid : Content)
 
       pub partly : (next : NextMessage) → Came next
           → IfSome left (λ rest. IsRead (Ok (Some next)) rest unread) → Answered next
-          → AppendsFront has has' text
+          → AppendsPrefix has has' text
           → (st : State) → Refines old st
           → IfSome all (λ input. FailsAt (fault.Write k) offered from to st new (trace' input))
       partly next comes reads responds sent st s =

@@ -1,5 +1,5 @@
 -- A query's URI has at most one reading and one number.
-use Rattle.std.proofs.Common.{◌≡◌, ℕ, List, ◌∷◌, Option, Some, None, option_map, true, false, inl, inr, sym, ◌∙◌}
+use Rattle.std.proofs.Common.{◌≡◌, ℕ, List, ◌∷◌, Some, None, option_map, true, false, inl, inr, sym, ◌∙◌}
 use Rattle.numbers.specs.Texts.{tn_text}
 use Rattle.numbers.proofs.DigitLemmas.{digits_of-injective}
 use Rattle.telnp.specs.declared.fault.TelFault.{TelFault}

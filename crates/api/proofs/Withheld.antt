@@ -11,7 +11,7 @@ use Rattle.model.specs.declared.refusal.Refusal.{Refusal}
 use Rattle.model.specs.declared.refusal.Refusal.TheVariants.{Storage, NoMemory}
 use Rattle.register.specs.Refinement.{Refines}
 use Rattle.http_messages.specs.Parsing.{IsNextMessage}
-use Rattle.http_messages.specs.Sending.{AppendsFront}
+use Rattle.http_messages.specs.Sending.{AppendsPrefix}
 use Rattle.http_messages.specs.declared.message.NextMessage.{NextMessage}
 use Rattle.json_api.specs.Failures.{failure_text}
 use Rattle.json_api.specs.RefusalTexts.{refusal_text}
@@ -55,7 +55,7 @@ module _ (offered : Bool) (from : ℕ) (old : Content) (all had : Option (List �
             sent),
       )) (past st s)
 
-  pub further_partly : (has has' : Option (List ℕ)) (text : List ℕ) → AppendsFront has has' text
+  pub further_partly : (has has' : Option (List ℕ)) (text : List ℕ) → AppendsPrefix has has' text
       → Past has → Stops has'
   further_partly has has' text sent past =
       stops has' (further has has' (take sent.0 text) sent.2 past)
@@ -117,7 +117,7 @@ module _ (offered : Bool) (from : ℕ) (old : Content) (all had : Option (List �
             absurd is_unavailable
 
     pub stopped_partly : (has' : Option (List ℕ)) (next : NextMessage)
-        → IfSome left (λ rest. IsNextMessage rest next body left') → AppendsFront has has' text
+        → IfSome left (λ rest. IsNextMessage rest next body left') → AppendsPrefix has has' text
         → IsUnavailableResponse next text → Stops has'
     unfolding until_of
     stopped_partly has' next comes sent is_unavailable st s =
@@ -125,7 +125,7 @@ module _ (offered : Bool) (from : ℕ) (old : Content) (all had : Option (List �
         (part_of has' next comes sent is_unavailable st) (progress st s).1
       where
         part_of : (has' : Option (List ℕ)) (next : NextMessage)
-            → IfSome left (λ rest. IsNextMessage rest next body left') → AppendsFront has has' text
+            → IfSome left (λ rest. IsNextMessage rest next body left') → AppendsPrefix has has' text
             → IsUnavailableResponse next text → (st : State) (input : List ℕ)
             → Going offered from between st mid input left had has ticks_before remaining_ticks k
             → WritesUntil offered from st input ticks_before had has'

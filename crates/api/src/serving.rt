@@ -4,7 +4,7 @@ ghost use Rattle.numbers.specs.declared.minute.Minute.{Minute as MinuteImpl};
 ghost use Rattle.model.specs.State.{State};
 ghost use Rattle.register.specs.Refinement.{Refines};
 ghost use Rattle.http_messages.specs.Parsing.{IsNextOrEnd, IsTaken};
-ghost use Rattle.http_messages.specs.ReadBuffer.{buffered_bytes, remaining_input};
+ghost use Rattle.http_messages.specs.ReadBuffer.{remaining_input};
 ghost use Rattle.json_api.specs.ResponseBuffers.{HasCapacity};
 ghost use Rattle.http_messages.specs.Reading.{IsRead};
 ghost use Rattle.api.specs.Serving.{IsUnavailableResponse, RefinesReachable, Responds, Serves, end_of, WritesUntil};
@@ -191,112 +191,6 @@ fn next_of<R: Read>(
     }
 }
 
-/// The buffers of a connection: input not yet consumed, the current response, and the router.
-#[derive(Drop)]
-struct Buffers {
-    buffer: ReadBuffer,
-    response: ResponseBuffer,
-    router: Router<Route>,
-}
-
-impl Buffers {
-    // Allocates empty buffers. Returns `None` if an allocation fails.
-    fn new(alloc: Global) -> Option<Buffers>
-        ensures size { IfSome result (λ made. vec_len made.buffer.bytes ≡ 8192) }
-        ensures empty { IfSome result (λ made. buffered_bytes made.buffer ≡ []) }
-        ensures capacity { IfSome result (λ made. HasCapacity 512 made.response) }
-        ensures router { IfSome result (λ made. made.router ≡ table) }
-    {
-        match (
-            ReadBuffer::new(alloc),
-            ResponseBuffer::new(alloc),
-            router(alloc),
-        ) {
-            (Ok(buffer), Ok(response), Ok(router)) => Some(Buffers {
-                buffer,
-                response,
-                router,
-            }),
-            _ => None,
-        }
-    }
-}
-
-// Like `serve`, with buffers in which nothing has been read yet.
-fn serve_with<S: Store, T: Ticks, R: Read, W: Write>(
-    alloc: Global,
-    register: &mut Register<S>,
-    ticks: &mut T,
-    options: &Options,
-    reader: &mut R,
-    writer: &mut W,
-    buffers: &mut Buffers,
-) -> Result<Served, Fault>
-    requires size { vec_len buffers.old.buffer.bytes ≡ 8192 }
-    requires empty { buffered_bytes buffers.old.buffer ≡ [] }
-    requires capacity { HasCapacity 512 buffers.old.response }
-    requires router { buffers.old.router ≡ table }
-    ensures serves { S.IsUsable register.new.store → (st : State)
-        → Refines (S.content register.old.store) st
-        → IfSome (R.remaining reader.old)
-        (λ input. Serves result options.now.clock_route (S.failed register.old.store)
-        (S.failed register.new.store) st (S.content register.new.store)
-        (record {
-          input = input;
-          unread = R.remaining reader.new;
-          ticks_before = T.remaining ticks.old;
-          ticks_after = T.remaining ticks.new;
-          written_before = W.contents writer.old;
-          written_after = W.contents writer.new;
-        })) }
-    ensures until { S.IsUsable register.old.store → S.HasHonestDevice register.new.store
-        → S.IsUsable register.new.store
-        ⊎ ((st : State) → Refines (S.content register.old.store) st
-        → IfSome (R.remaining reader.old)
-        (λ input. WritesUntil options.now.clock_route (S.failed register.old.store) st input
-        (T.remaining ticks.old) (W.contents writer.old) (W.contents writer.new))) }
-    ensures state { S.IsUsable register.new.store → (st : State)
-        → Refines (S.content register.old.store) st
-        → RefinesReachable st (S.content register.new.store) }
-    ensures usable { S.IsUsable register.new.store → S.IsUsable register.old.store }
-    ensures rises { S.failed register.old.store ≤ S.failed register.new.store }
-    ensures honest { S.HasHonestDevice register.new.store → S.HasHonestDevice register.old.store }
-{
-    let Buffers {
-        buffer,
-        response,
-        router,
-    } = buffers;
-    let clock = options.clock_route;
-    let mut body = Vec::new(alloc);
-    let mut headers = [EMPTY_HEADER_SPAN; FIELD_LIMIT];
-    let mut at_hand = None;
-    for count in 0..u64::MAX {
-        let next = match next_of(at_hand, buffer, &mut headers, router, reader, &mut body) {
-            Ok(Some(next)) => next,
-            Ok(None) => {
-                let end = End::Input;
-                return Ok(Served { count, end });
-            }
-            Err(NextFault::Read) => return Err(Fault::Read(count)),
-            Err(NextFault::Memory) => return Err(Fault::Memory(count)),
-        };
-        let end = respond(alloc, register, clock, ticks, next, &body, response);
-        at_hand = next_buffered(buffer, &mut headers, router, &mut body);
-        // Flush before a read: it may block on a client that is waiting for these responses.
-        let flushes = end.is_some() || at_hand.is_none();
-        match send_all(writer, response.text.as_bytes(), flushes) {
-            Ok(()) => {}
-            Err(_) => return Err(Fault::Write(count)),
-        }
-        if let Some(end) = end {
-            let count = count + 1;
-            return Ok(Served { count, end });
-        }
-    }
-    Err(Fault::Memory(u64::MAX))
-}
-
 /// Serves the messages of `reader` in order, and writes their responses to `writer`.
 ///
 /// Before a message is executed, the clock moves to the next minute of `ticks`; a minute below the
@@ -357,16 +251,39 @@ pub fn serve<S: Store, T: Ticks, R: Read, W: Write>(
     ensures rises { S.failed register.old.store ≤ S.failed register.new.store }
     ensures honest { S.HasHonestDevice register.new.store → S.HasHonestDevice register.old.store }
 {
-    let Some(mut buffers) = Buffers::new(alloc) else {
+    let (Ok(mut buffer), Ok(mut response), Ok(router)) = (
+        ReadBuffer::new(alloc),
+        ResponseBuffer::new(alloc),
+        router(alloc),
+    ) else {
         return Err(Fault::Memory(0));
     };
-    serve_with(
-        alloc,
-        register,
-        ticks,
-        options,
-        reader,
-        writer,
-        &mut buffers,
-    )
+    let clock = options.clock_route;
+    let mut body = Vec::new(alloc);
+    let mut headers = [EMPTY_HEADER_SPAN; FIELD_LIMIT];
+    let mut ready = None;
+    for count in 0..u64::MAX {
+        let next = match next_of(ready, &mut buffer, &mut headers, &router, reader, &mut body) {
+            Ok(Some(next)) => next,
+            Ok(None) => {
+                let end = End::Input;
+                return Ok(Served { count, end });
+            }
+            Err(NextFault::Read) => return Err(Fault::Read(count)),
+            Err(NextFault::Memory) => return Err(Fault::Memory(count)),
+        };
+        let end = respond(alloc, register, clock, ticks, next, &body, &mut response);
+        ready = next_buffered(&mut buffer, &mut headers, &router, &mut body);
+        // Flush before a read: it may block on a client that is waiting for these responses.
+        let flushes = end.is_some() || ready.is_none();
+        match send_all(writer, response.text.as_bytes(), flushes) {
+            Ok(()) => {}
+            Err(_) => return Err(Fault::Write(count)),
+        }
+        if let Some(end) = end {
+            let count = count + 1;
+            return Ok(Served { count, end });
+        }
+    }
+    Err(Fault::Memory(u64::MAX))
 }

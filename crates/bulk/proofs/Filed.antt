@@ -5,7 +5,7 @@ use Rattle.std.proofs.KnownBytes.{Appends-nil}
 use Rattle.model.specs.Content.{Content}
 use Rattle.model.specs.State.{State}
 use Rattle.register.specs.Refinement.{Refines}
-use Rattle.http_messages.specs.Sending.{AppendsFront}
+use Rattle.http_messages.specs.Sending.{AppendsPrefix}
 use Rattle.bulk.specs.Faults.{IsUnread}
 use Rattle.bulk.specs.Requests.{header}
 use Rattle.bulk.specs.Report.{report_header}
@@ -37,7 +37,7 @@ no_first_read has (inr u) = inr u
 -- The report's header broke off.
 pub header_broken : (st : State) (rows : List Row) (new : Content) (had has : Option (List ℕ))
     (fault : BulkFault) → fault.kind ≡ Write → fault.rows ≡ 0 → Refines new st
-    → AppendsFront had has report_header → Reports st rows new had has (Err fault)
+    → AppendsPrefix had has report_header → Reports st rows new had has (Err fault)
 header_broken st rows new had has fault kind none s sent = inr (record {
   kind = kind;
   rows = none;

@@ -17,3 +17,5 @@ mod Ranging
 mod Runs
 mod Sending
 pub mod Wishes
+mod Examples
+mod AuditExamples

@@ -9,7 +9,7 @@ use Rattle.model.specs.Machine.{next, state_after as machine_after}
 use Rattle.model.specs.State.{State}
 use Rattle.model.specs.Refusals.{Input}
 use Rattle.register.specs.Refinement.{Refines}
-use Rattle.http_messages.specs.Sending.{AppendsFront}
+use Rattle.http_messages.specs.Sending.{AppendsPrefix}
 use Rattle.bulk.specs.Report.{Task, Bad, CommandTask, input_for, line_of, lines_of, next_state, state_after}
 use Rattle.bulk.specs.Faults.{IsUnavailableKind, IsUnread}
 use Rattle.bulk.specs.Running.{RefinesReachable, DoesAll, DoesFirst, BreaksAt, FailsIn, RunsTo, SendsOne}
@@ -178,7 +178,7 @@ one_done st task new had has from s sent = record {
 }
 
 pub one_broken : (st : State) (task : Task) (new : Content) (had has : Option (List ℕ)) (from : ℕ)
-    → Refines new (next_state st task) → AppendsFront had has (line_of st task)
+    → Refines new (next_state st task) → AppendsPrefix had has (line_of st task)
     → BreaksAt st (task ∷ []) new had has from from
 one_broken st task new had has from s sent = record {
   first = [];
@@ -211,7 +211,7 @@ one_sent st task new had has count text (Ok k) e s sent =
     let P : ℕ → Type 0 = λ n. DoesAll st (task ∷ []) new had has count n in subst P (sym sent.1) h
 one_sent st task new had has count text (Err fault) e s sent =
     broken_at st task new had has count fault.kind fault.rows sent.1 sent.2
-    (one_broken st task new had has count s (subst (AppendsFront had has) e sent.0))
+    (one_broken st task new had has count s (subst (AppendsPrefix had has) e sent.0))
 
 -- Nothing was executed, because the device or an allocation failed.
 pub short_stop : (kind : FaultKind) (st : State) (tasks : List Task) (new : Content)

@@ -6,7 +6,7 @@ use Rattle.std.proofs.KnownBytes.{Appends-trans}
 use Rattle.std.proofs.Math.Seq.{take-suc, drop-cons}
 use Rattle.std.proofs.lemmas.List.{take-append-drop, length-map, length-take-le, take_all, get_or-map}
 use Rattle.std.proofs.lemmas.List.Folds.{concat-append}
-use Rattle.http_messages.specs.Sending.{AppendsFront}
+use Rattle.http_messages.specs.Sending.{AppendsPrefix}
 use Rattle.bulk.specs.Files.{AreSent, EndsWithin, IsSentPart, file_text}
 
 -- The lines so far, and one more.
@@ -31,7 +31,7 @@ sent_next had mid has lines i text within is before now =
 pub sent_part :
     (had mid has : Option (List ℕ)) (lines : List (List ℕ)) (i : ℕ) (text : List ℕ)
     → i < length lines → get_or lines i [] ≡ text →
-    AreSent had mid (take i lines) → AppendsFront mid has text → IsSentPart had has lines i
+    AreSent had mid (take i lines) → AppendsPrefix mid has text → IsSentPart had has lines i
 sent_part had mid has lines i text within is before now = record {
   before = take i lines;
   line = text;
@@ -88,5 +88,5 @@ part_behind had mid has first lines (Ok count) before h = tt
 part_behind had mid has first lines (Err count) before h = inr (mid, before, h)
 
 pub part_of_first : (had has : Option (List ℕ)) (first : List ℕ) (lines : List (List ℕ))
-    → AppendsFront had has first → EndsWithin had has first lines 0
+    → AppendsPrefix had has first → EndsWithin had has first lines 0
 part_of_first had has first lines h = inl (refl, (h.0, h.2))

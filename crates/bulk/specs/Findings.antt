@@ -11,7 +11,7 @@ use Rattle.numbers.specs.Abstraction.{subject_of}
 use Rattle.numbers.specs.declared.ported.Subject.{Subject as SubjectImpl}
 use Rattle.model.specs.Copies.{copy_of_rows}
 use Rattle.model.specs.Laws.{AreSubjectsSorted}
-use Rattle.model.specs.Machine.{each_once}
+use Rattle.model.specs.Machine.{distinct_subjects}
 use Rattle.model.specs.State.{State, Download, InForce, all_in_force, queue}
 use Rattle.bulk.specs.declared.finding.Finding.{Finding}
 use Rattle.bulk.specs.declared.finding.Finding.TheVariants.{Waiting, Missing, Extra, Different}
@@ -46,7 +46,7 @@ finding_of false (Some routing) (Some copy) = if same_routing routing copy then 
 
 -- The subjects with downloads pending for a carrier.
 abbrev pub awaited : State → (carrier : ℕ) → List Subject
-awaited st carrier = each_once (map (λ (d : Download). d.subject) (queue st carrier))
+awaited st carrier = distinct_subjects (map (λ (d : Download). d.subject) (queue st carrier))
 
 abbrev pub finding_at : State → (carrier : ℕ) → (copy : List InForce) → Subject → Option Finding
 finding_at st carrier copy s =

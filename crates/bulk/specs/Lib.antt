@@ -12,6 +12,3 @@ pub mod Findings
 pub mod Audits
 pub mod Sides
 pub mod Comparing
-pub mod WorkedStates
-pub mod Examples
-pub mod AuditExamples

@@ -6,7 +6,7 @@ use Rattle.model.specs.Content.{Content}
 use Rattle.model.specs.Machine.{state_after as machine_after}
 use Rattle.model.specs.State.{State}
 use Rattle.model.specs.Refusals.{Input}
-use Rattle.http_messages.specs.Sending.{AppendsFront}
+use Rattle.http_messages.specs.Sending.{AppendsPrefix}
 use Rattle.register.specs.Refinement.{Refines}
 use Rattle.bulk.specs.Faults.{IsUnread}
 use Rattle.bulk.specs.Files.{AreSent}
@@ -22,7 +22,7 @@ use Rattle.bulk.specs.declared.fault.FaultKind.TheVariants.{BadHeader, BadFile, 
 abbrev pub SendsOne : (had has : Option (List ℕ)) → (text : List ℕ) → (count : ℕ)
     → Result ℕ BulkFault → Type 0
 SendsOne had has text count (Ok k) = Appends had has text × (k ≡ count + 1)
-SendsOne had has text count (Err fault) = AppendsFront had has text × (fault.kind ≡ Write)
+SendsOne had has text count (Err fault) = AppendsPrefix had has text × (fault.kind ≡ Write)
     × (fault.rows ≡ count)
 
 -- Holds if all tasks were executed, after `from` lines.

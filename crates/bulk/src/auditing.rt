@@ -95,10 +95,8 @@ fn compare_file<R: Read + Drop>(
     ensures kinds { IfErr result (λ kind. kind ≢ FaultKind.Storage) }
 {
     let mut reader = open(alloc, reader);
-    match read_copy(alloc, &mut reader) {
-        Ok(entries) => compare(alloc, side, &entries),
-        Err(kind) => Err(kind),
-    }
+    let entries = read_copy(alloc, &mut reader)?;
+    compare(alloc, side, &entries)
 }
 
 /// Compares a carrier's copy, a file in the format of an export, with the register. Writes the

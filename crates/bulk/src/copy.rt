@@ -174,8 +174,6 @@ pub fn read_copy<R: Read>(
         → HasRows R.remaining reader.old rows → IsNotRead kind rows) }
     ensures kinds { IfErr result (λ kind. kind ≢ FaultKind.Storage) }
 {
-    match read_copy_header(alloc, reader) {
-        Ok(()) => read_entries(alloc, reader),
-        Err(kind) => Err(kind),
-    }
+    read_copy_header(alloc, reader)?;
+    read_entries(alloc, reader)
 }

@@ -4,7 +4,7 @@ ghost use Rattle.bulk.specs.Making.{outcome_line};
 ghost use Rattle.bulk.specs.Report.{report_line};
 ghost use Rattle.std.specs.Io.KnownBytes.{Appends};
 ghost use Rattle.delivery.specs.Mirrors.{in_force_of};
-ghost use Rattle.http_messages.specs.Sending.{AppendsFront};
+ghost use Rattle.http_messages.specs.Sending.{AppendsPrefix};
 ghost use Rattle.numbers.specs.Texts.{subject_text};
 ghost use Rattle.numbers.specs.Abstraction.{routing_of, subject_of};
 ghost use Rattle.bulk.specs.Exports.{in_force_line, routing_fields};
@@ -147,7 +147,7 @@ impl LineBuffer {
     pub fn send<W: Write>(&self, writer: &mut W) -> Result<(), FaultKind>
         ensures ok { OnOk result
             (Appends (W.contents writer.old) (W.contents writer.new) (string_bytes self.now.text)) }
-        ensures err { OnErr result (AppendsFront (W.contents writer.old) (W.contents writer.new)
+        ensures err { OnErr result (AppendsPrefix (W.contents writer.old) (W.contents writer.new)
             (string_bytes self.now.text)) }
         ensures kind { IfErr result (λ kind. kind ≡ FaultKind.Write) }
     {

@@ -3,7 +3,7 @@ ghost use Rattle.std.specs.Prelude.{◌≡◌, List, ◌+◌, ◌<◌, ◌≤◌
 ghost use Rattle.std.specs.Io.KnownBytes.{Appends};
 ghost use Rattle.csv.specs.Records.{fields_of};
 ghost use Rattle.model.specs.State.{State};
-ghost use Rattle.http_messages.specs.Sending.{AppendsFront};
+ghost use Rattle.http_messages.specs.Sending.{AppendsPrefix};
 ghost use Rattle.register.specs.Refinement.{Refines};
 ghost use Rattle.settle.specs.StoreContract.{PreservesStore, ReportsStorage};
 ghost use Rattle.bulk.specs.Faults.{FailsWith};
@@ -88,10 +88,7 @@ fn run_request<S: Store, W: Write>(
     let numbers = request.numbers;
     for number in numbers.first.number..numbers.last.number + 1 {
         let tn = numbers.at(number);
-        match run_number(register, line, writer, row, request, tn, written) {
-            Ok(count) => written = count,
-            Err(fault) => return Err(fault),
-        }
+        written = run_number(register, line, writer, row, request, tn, written)?;
     }
     Ok(written)
 }

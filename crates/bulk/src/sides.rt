@@ -87,15 +87,12 @@ fn set_sides(
     all: &mut BTreeMap<Subject, Sides>,
     subject: Subject,
     sides: Sides,
-) -> Result<(), FaultKind>
+) -> Result<(), AllocError>
     ensures set { OnOk result ((s : SubjectImpl) → sides_at all.new s
         ≡ if subject_eq (subject_of subject) (subject_of s) then sides else sides_at all.old s) }
-    ensures memory { IfErr result (λ kind. kind ≡ FaultKind.NoMemory) }
 {
-    match all.insert(subject, sides) {
-        Ok(_) => Ok(()),
-        Err(_) => Err(FaultKind::NoMemory),
-    }
+    all.insert(subject, sides)?;
+    Ok(())
 }
 
 /// Adds the versions in force to the sides.

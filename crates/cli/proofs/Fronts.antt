@@ -5,11 +5,11 @@ use Rattle.std.proofs.lemmas.List.{length-append, take-append-le}
 use Rattle.std.proofs.Math.Seq.{take-append-add}
 use Rattle.std.specs.Prelude.{OnErr, Result, Ok, Err}
 use Rattle.std.specs.Io.KnownBytes.{Appends}
-use Rattle.http_messages.specs.Sending.{AppendsFront}
+use Rattle.http_messages.specs.Sending.{AppendsPrefix}
 
 -- A prefix of the first text is a prefix of both.
-pub front_of_first : (had has : Option (List ℕ)) (xs ys : List ℕ) → AppendsFront had has xs
-    → AppendsFront had has (xs ++ ys)
+pub front_of_first : (had has : Option (List ℕ)) (xs ys : List ℕ) → AppendsPrefix had has xs
+    → AppendsPrefix had has (xs ++ ys)
 front_of_first had has xs ys (n, fits, written) = (
   n,
   omega (arith, length-append xs ys, fits),
@@ -18,7 +18,7 @@ front_of_first had has xs ys (n, fits, written) = (
 
 -- The first text and a prefix of the second are a prefix of both.
 pub front_behind : (had mid has : Option (List ℕ)) (xs ys : List ℕ) → Appends had mid xs
-    → AppendsFront mid has ys → AppendsFront had has (xs ++ ys)
+    → AppendsPrefix mid has ys → AppendsPrefix had has (xs ++ ys)
 front_behind had mid has xs ys first (n, fits, written) = (
   length xs + n,
   omega (arith, length-append xs ys, fits),

@@ -1,7 +1,7 @@
 -- The report of the program as it ends, and its exit status.
 use Rattle.std.specs.Prelude.{◌≡◌, ◌⊎◌, ℕ, List, [], ◌∷◌, ◌++◌, codes, Option, Result, Ok, Err}
 use Rattle.std.specs.Io.KnownBytes.{Appends, Keeps}
-use Rattle.http_messages.specs.Sending.{AppendsFront}
+use Rattle.http_messages.specs.Sending.{AppendsPrefix}
 use Rattle.clap.specs.Faults.{fault_of}
 use Rattle.clap.specs.Kinds.{IsAmong}
 use Rattle.clap.specs.declared.error.kind.ErrorKind.TheVariants as kind
@@ -19,7 +19,7 @@ line_of name = codes "npacd: " ++ name ++ 10 ∷ []
 -- status is 3.
 abbrev pub ReportsText : List ℕ → ℕ → (had has : Option (List ℕ)) → (status : ℕ) → Type 0
 ReportsText text wanted had has status = ((status ≡ wanted) × Appends had has text)
-    ⊎ ((status ≡ 3) × AppendsFront had has text)
+    ⊎ ((status ≡ 3) × AppendsPrefix had has text)
 
 -- Holds if a fault was reported with its own status.
 abbrev pub ReportsFault : Fault → (had has : Option (List ℕ)) → (status : ℕ) → Type 0
@@ -90,7 +90,7 @@ EndsMistaken words had has status = (status ≡ 2) × IsNoLine words
 -- written.
 abbrev pub EndsFailed : (had has : Option (List ℕ)) → (status : ℕ) → Type 0
 EndsFailed had has status =
-    (status ≡ 3) × (HasReported 3 had has ⊎ ((text : List ℕ) × AppendsFront had has text))
+    (status ≡ 3) × (HasReported 3 had has ⊎ ((text : List ℕ) × AppendsPrefix had has text))
 
 -- Holds if the program ends so, by what it reported on the errors.
 abbrev pub Ends : (words : List (List ℕ)) → (had has : Option (List ℕ)) → (status : ℕ) → Type 0

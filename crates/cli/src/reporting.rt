@@ -1,7 +1,7 @@
 //! Reports how the program ends, and returns its exit status.
 ghost use Rattle.std.specs.Prelude.{◌≡◌, OnErr, OnOk, string_bytes};
 ghost use Rattle.std.specs.Io.KnownBytes.{Appends};
-ghost use Rattle.http_messages.specs.Sending.{AppendsFront};
+ghost use Rattle.http_messages.specs.Sending.{AppendsPrefix};
 ghost use Rattle.cli.specs.Reporting.{ReportsFault, ReportsMistake, ReportsOutcome, ReportsUsage, line_of};
 
 use crate::fault::Fault;
@@ -14,7 +14,7 @@ use std::io::Write;
 fn write_line<E: Write>(errors: &mut E, name: &str) -> io::Result<()>
     ensures ok { OnOk result (Appends (E.contents errors.old) (E.contents errors.new)
         (line_of name.now)) }
-    ensures err { OnErr result (AppendsFront (E.contents errors.old) (E.contents errors.new)
+    ensures err { OnErr result (AppendsPrefix (E.contents errors.old) (E.contents errors.new)
         (line_of name.now)) }
 {
     send_all(errors, "npacd: ".as_bytes(), false)?;

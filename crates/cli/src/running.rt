@@ -19,7 +19,7 @@ use crate::reporting::{report_outcome, report_usage};
 use api::{End, NoTicks, Options, Served, serve};
 use bulk::{BulkFault, FaultKind, audit, export, run_file};
 use numbers::Spid;
-use register::{OpenFault, Register, law_of_new_stores};
+use register::{OpenFault, Register};
 use settle::Store;
 use sql_store::{FileFault, SqlStore, StoreAt, UnopenedAt};
 use sqlite::{Start, Unknown};
@@ -113,7 +113,6 @@ fn feed_over<S: Store, R: Read, W: Write + Drop>(
         (writer_contents W.contents writer.old) (W.contents (writer_inner writer.new)))
         (writer_buffer writer.new) result.1) }
 {
-    law_of_new_stores();
     match Register::open(alloc, store, windows) {
         Ok(register) => {
             let mut register = register;

@@ -4,9 +4,11 @@ use Rattle.std.proofs.lemmas.Bool.{eqb-true}
 use Rattle.std.specs.Prelude.{IfSome, ◌==◌}
 use Rattle.std.specs.Io.KnownBytes.{IsAtEnd, Keeps, prepend_known}
 use Rattle.httparse.specs.Grammar.{LineEnd, lf, crlf, print_blank}
+use Rattle.httparse.specs.Spans.{RequestOverflows}
 use Rattle.http_messages.specs.Blank.{blank_after, is_blank}
 use Rattle.http_messages.specs.NextHead.{HasOnlyEmptyLines}
 use Rattle.http_messages.specs.Head.{IsBlank, IsEmptyLines}
+use Rattle.http_messages.proofs.UniqueHeads.{overflow_not_lines}
 
 lines_are_blank : (ends : List LineEnd) → blank_after false (print_blank ends) ≡ true
 lines_are_blank [] = refl
@@ -76,8 +78,8 @@ not_blank_end bytes (Some more) e end =
     let same : bytes ++ more ≡ bytes = ap (λ (t : List ℕ). bytes ++ t) end ∙ append-nil bytes in
     λ blank. not_lines bytes e (subst IsBlank same blank)
 
-pub not_blank_bad : (bytes : List ℕ) (r : Option (List ℕ)) → ((more : List ℕ) (ends : List LineEnd)
-    → ¬ (bytes ++ more ≡ print_blank ends))
+pub not_blank_bad : (bytes : List ℕ) (r : Option (List ℕ)) → RequestOverflows 64 bytes
     → IfSome (prepend_known bytes r) (λ input. ¬ (IsBlank input))
-not_blank_bad bytes r f =
-    known bytes r (λ input. ¬ (IsBlank input)) (λ more blank. f more blank.0.0 blank.0.1)
+not_blank_bad bytes r over =
+    known bytes r (λ input. ¬ (IsBlank input))
+    (λ more blank. overflow_not_lines bytes more blank.0.0 over blank.0.1)

@@ -1,5 +1,5 @@
 -- The buffered bytes, as reads add to them and consumers drop them.
-use Rattle.std.proofs.Common.{◌≡◌, ℕ, ◌+◌, ◌-◌, ◌≤◌, List, ◌++◌, length, take, drop, ap, ◌∙◌, sym, arith, append_assoc, append-nil, [], ◌∷◌, refl, Option, Some, None, length-drop}
+use Rattle.std.proofs.Common.{◌≡◌, ℕ, ◌+◌, ◌-◌, ◌≤◌, List, ◌++◌, length, take, drop, ap, ◌∙◌, sym, arith, append_assoc, append-nil, Option, Some, None, length-drop}
 use Rattle.std.specs.Io.KnownBytes.{Keeps, prepend_known}
 use Rattle.std.specs.Vec.{with_items}
 use Rattle.http_messages.specs.ReadBuffer.{ReadsAt, buffered_bytes}

@@ -8,3 +8,4 @@ mod NumberLemmas
 mod ParseLemmas
 mod PathLemmas
 mod ReadLemmas
+mod UniqueHeads

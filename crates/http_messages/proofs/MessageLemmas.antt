@@ -1,5 +1,5 @@
 -- What the buffered bytes say of the start of the input.
-use Rattle.std.proofs.Common.{◌≡◌, ℕ, ◌<◌, ◌≤◌, List, [], ◌∷◌, ◌++◌, length, take, drop, Option, Some, None, refl, sym, ap, ◌∙◌, subst, arith, length-append, vec_len}
+use Rattle.std.proofs.Common.{◌≡◌, ℕ, ◌<◌, ◌≤◌, List, ◌++◌, length, take, drop, Option, Some, None, refl, sym, ap, ◌∙◌, subst, arith, length-append, vec_len}
 use Rattle.std.specs.Prelude.{IfSome}
 use Rattle.std.specs.Io.KnownBytes.{Consumes, Keeps, prepend_known}
 use Rattle.std.proofs.KnownBytes.{Consumes-nil, Keeps-refl}
@@ -8,7 +8,7 @@ use Rattle.httparse.specs.Grammar.{RequestHead, ReadsRequest, print_request}
 use Rattle.httparse.proofs.GrammarLemmas.{ReadsRequest-append}
 use Rattle.http_messages.specs.Parsing.{IsRequestOf, IsCutShort, IsNextMessage, ParsesAs, RefusedMessage, RefusesHead}
 use Rattle.http_messages.specs.Fields.{body_length}
-use Rattle.http_messages.specs.Head.{HasHead, IsBlank}
+use Rattle.http_messages.specs.Head.{HasHead}
 use Rattle.http_messages.specs.ReadBuffer.{buffered_bytes}
 use Rattle.http_messages.specs.declared.fault.MessageFault.{MessageFault}
 use Rattle.http_messages.specs.declared.fault.MessageFault.TheVariants.{BadRequest, NoPath, BadMethod, TooLarge, BadHead, CutBody}
@@ -17,6 +17,7 @@ use Rattle.http_messages.specs.declared.message.Request.{Request}
 use Rattle.http_messages.specs.declared.message.NextMessage.TheVariants.{Message}
 use Rattle.http_messages.proofs.BodyLemmas.{more_taken}
 use Rattle.http_messages.proofs.BufferLemmas.{buffered_length}
+use Rattle.http_messages.proofs.UniqueHeads.{head_not_blank, one_head}
 use Rattle.numbers.proofs.Small.{no_members}
 
 pub buffered_short : (buffer : ReadBuffer) → vec_len buffer.bytes ≡ 8192
@@ -119,40 +120,31 @@ cut_made (Some input) (Some more) bytes bytes' len h request x asks small e shor
   short = subst (λ (t : List ℕ). length (t ++ more) < request.length) e short;
 }
 
--- Holds if no input begins with two heads.
-abbrev pub OneHead : Type 0
-OneHead = (s : List ℕ) (h k : RequestHead) (r q : List ℕ) → HasHead s h r → HasHead s k q
-    → (h ≡ k) × (r ≡ q)
-
-abbrev pub HeadsAreNoLines : Type 0
-HeadsAreNoLines = (s : List ℕ) (h : RequestHead) (rest : List ℕ) → HasHead s h rest → ¬ (IsBlank s)
-
-refused_here : (input rest : List ℕ) (h : RequestHead) (fault : MessageFault) → OneHead
-    → HeadsAreNoLines → HasHead input h rest → RefusesHead h fault
+refused_here : (input rest : List ℕ) (h : RequestHead) (fault : MessageFault)
+    → HasHead input h rest → RefusesHead h fault
     → ParsesAs input (RefusedMessage fault)
-refused_here input rest h BadHead one lines x refuses =
+refused_here input rest h BadHead x refuses =
     record {
-      not_blank = lines input h rest x;
-      none = λ k q y. ap body_length (one input k h q rest y x).0 ∙ refuses;
+      not_blank = head_not_blank input h rest x;
+      none = λ k q y. ap body_length (one_head input k h q rest y x).0 ∙ refuses;
     }
-refused_here input rest h TooLarge one lines x refuses = record {
+refused_here input rest h TooLarge x refuses = record {
   head = h;
   rest = rest;
   front = x;
   large = refuses;
 }
-refused_here input rest h CutBody one lines x refuses = absurd refuses
-refused_here input rest h BadRequest one lines x refuses = absurd refuses
-refused_here input rest h NoPath one lines x refuses = absurd refuses
-refused_here input rest h BadMethod one lines x refuses = absurd refuses
+refused_here input rest h CutBody x refuses = absurd refuses
+refused_here input rest h BadRequest x refuses = absurd refuses
+refused_here input rest h NoPath x refuses = absurd refuses
+refused_here input rest h BadMethod x refuses = absurd refuses
 
 pub refused_made : (all r : Option (List ℕ)) (bytes : List ℕ) (len : ℕ) (h : RequestHead)
-    (fault : MessageFault) → OneHead → HeadsAreNoLines
+    (fault : MessageFault)
     → HasBufferedHead all r bytes len h → RefusesHead h fault
     → IfSome all (λ input. ParsesAs input (RefusedMessage fault))
-refused_made None r bytes len h fault one lines x refuses = tt
-refused_made (Some input) None bytes len h fault one lines x refuses = absurd x.keeps
-refused_made (Some input) (Some more) bytes len h fault one lines x refuses =
-    refused_here input (drop len bytes ++ more) h fault one lines (input_head input more bytes len h
-    x)
-    refuses
+refused_made None r bytes len h fault x refuses = tt
+refused_made (Some input) None bytes len h fault x refuses = absurd x.keeps
+refused_made (Some input) (Some more) bytes len h fault x refuses =
+    refused_here input (drop len bytes ++ more) h fault
+    (input_head input more bytes len h x) refuses

@@ -11,7 +11,7 @@ use Rattle.http_messages.specs.Head.{HasHead, IsBlank, IsBad}
 use Rattle.http_messages.specs.declared.fault.MessageFault.{MessageFault}
 use Rattle.http_messages.specs.declared.fault.MessageFault.TheVariants.{BadRequest, NoPath, BadMethod, TooLarge, BadHead, CutBody}
 use Rattle.http_messages.specs.declared.message.Request.{Request}
-use Rattle.http_messages.proofs.MessageLemmas.{OneHead, HeadsAreNoLines}
+use Rattle.http_messages.proofs.UniqueHeads.{head_not_blank, one_head}
 use Rattle.numbers.proofs.Small.{some_is}
 
 -- ---- one provider for a text
@@ -76,11 +76,11 @@ parts (x ∷ a) (y ∷ b) r q l e =
     let more = parts a b r q (omega (arith, l)) (ap (drop 1) e) in
     (λ i. first i ∷ more.0 i, more.1)
 
-one_message : (input : List ℕ) (a b : Request) (body text rest left : List ℕ) → OneHead
+one_message : (input : List ℕ) (a b : Request) (body text rest left : List ℕ)
     → IsMessage input a body rest → IsMessage input b text left
     → WholeMessage a body rest ≡ WholeMessage b text left
-one_message input a b body text rest left one x y =
-    let heads = one input x.head y.head (body ++ rest) (text ++ left) x.front y.front in
+one_message input a b body text rest left x y =
+    let heads = one_head input x.head y.head (body ++ rest) (text ++ left) x.front y.front in
     let asked = one_request y.head a b (subst (λ (h : RequestHead). IsRequestOf h a) heads.0 x.asks)
     y.asks in
     let split = parts body text rest left (x.whole ∙ ap (λ (r : Request). r.length) asked
@@ -94,10 +94,10 @@ abbrev GivesLength : List ℕ → ℕ → ℕ → Type 0
 GivesLength input size after = (h : RequestHead) × (rest : List ℕ) × HasHead input h rest
     × (body_length h ≡ Some size) × (after ≡ length rest)
 
-one_size : (input : List ℕ) (n m k l : ℕ) → OneHead → GivesLength input n k → GivesLength input m l
+one_size : (input : List ℕ) (n m k l : ℕ) → GivesLength input n k → GivesLength input m l
     → (n ≡ m) × (k ≡ l)
-one_size input n m k l one x y =
-    let heads = one input x.0 y.0 x.1 y.1 x.2 y.2 in
+one_size input n m k l x y =
+    let heads = one_head input x.0 y.0 x.1 y.1 x.2 y.2 in
     (some_is n m (sym x.3 ∙ ap body_length heads.0 ∙ y.3), x.4 ∙ ap length heads.1 ∙ sym y.4)
 
 large_length : (input : List ℕ) → IsTooLarge input → (n : ℕ) × (k : ℕ) × GivesLength input n k
@@ -136,12 +136,12 @@ whole_length input request body rest x =
 bad_length : (input : List ℕ) (n k : ℕ) → IsBad input → GivesLength input n k → ⊥
 bad_length input n k bad x = none_number n (sym (bad.none x.0 x.1 x.2) ∙ x.3)
 
-module _ (input : List ℕ) (one : OneHead) (lines : HeadsAreNoLines) where
+module _ (input : List ℕ) where
   large_short : IsTooLarge input → IsCutShort input → ⊥
   large_short x y =
       let a = large_length input x in
       let b = short_length input y in
-      absurd (omega (arith, (one_size input a.0 b.0 a.1 b.1 one a.2 b.2).0, a.3, b.3))
+      absurd (omega (arith, (one_size input a.0 b.0 a.1 b.1 a.2 b.2).0, a.3, b.3))
 
   bad_is : (g : MessageFault) → IsBad input → ParsesAs input (RefusedMessage g) → BadHead ≡ g
   bad_is BadHead x y = refl
@@ -179,8 +179,8 @@ module _ (input : List ℕ) (one : OneHead) (lines : HeadsAreNoLines) where
 
   not_done : (f : MessageFault) → ParsesAs input (RefusedMessage f) → IsBlank input → ⊥
   not_done BadHead x y = x.not_blank y
-  not_done TooLarge x y = lines input x.head x.rest x.front y
-  not_done CutBody x y = lines input x.head x.rest x.front y
+  not_done TooLarge x y = head_not_blank input x.head x.rest x.front y
+  not_done CutBody x y = head_not_blank input x.head x.rest x.front y
   not_done BadRequest x y = x
   not_done NoPath x y = x
   not_done BadMethod x y = x
@@ -193,11 +193,11 @@ module _ (input : List ℕ) (one : OneHead) (lines : HeadsAreNoLines) where
   not_whole TooLarge request body rest x y =
       let a = large_length input x in
       let b = whole_length input request body rest y in
-      absurd (omega (arith, (one_size input a.0 b.0 a.1 b.1 one a.2 b.2).0, a.3, b.3))
+      absurd (omega (arith, (one_size input a.0 b.0 a.1 b.1 a.2 b.2).0, a.3, b.3))
   not_whole CutBody request body rest x y =
       let a = short_length input x in
       let b = whole_length input request body rest y in
-      let same = one_size input a.0 b.0 a.1 b.1 one a.2 b.2 in
+      let same = one_size input a.0 b.0 a.1 b.1 a.2 b.2 in
       absurd (omega (arith, same.0, same.1, a.4, b.4))
   not_whole BadRequest request body rest x y = x
   not_whole NoPath request body rest x y = x
@@ -207,12 +207,12 @@ module _ (input : List ℕ) (one : OneHead) (lines : HeadsAreNoLines) where
   one_parse EndOfInput EndOfInput x y = refl
   one_parse EndOfInput (RefusedMessage g) x y = absurd (not_done g y x)
   one_parse EndOfInput (WholeMessage q text left) x y =
-      absurd (lines input y.head (text ++ left) y.front x)
+      absurd (head_not_blank input y.head (text ++ left) y.front x)
   one_parse (RefusedMessage f) EndOfInput x y = absurd (not_done f x y)
   one_parse (RefusedMessage f) (RefusedMessage g) x y = ap RefusedMessage (one_fault f g x y)
   one_parse (RefusedMessage f) (WholeMessage q text left) x y = absurd (not_whole f q text left x y)
   one_parse (WholeMessage r body rest) EndOfInput x y =
-      absurd (lines input x.head (body ++ rest) x.front y)
+      absurd (head_not_blank input x.head (body ++ rest) x.front y)
   one_parse (WholeMessage r body rest) (RefusedMessage g) x y = absurd (not_whole g r body rest y x)
   one_parse (WholeMessage r body rest) (WholeMessage q text left) x y =
-      one_message input r q body text rest left one x y
+      one_message input r q body text rest left x y

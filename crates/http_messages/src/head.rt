@@ -151,22 +151,3 @@ pub fn read_head(buf: &[u8], headers: &[HeaderSpan], spans: &RequestSpans) -> Op
         len: spans.len,
     })
 }
-
-/// States that a head that was found is the only head of the whole input. If the first 8,192 bytes,
-/// or the whole input, begin with no head, the input has none. Empty lines have no head.
-pub fn head_is_unique()
-    ensures found { (buf more : List ℕ) (h : RequestHead)
-        → ReadsRequest buf h (drop (length (print_request h)) buf) → length buf ≤ 8192
-        → length h.fields ≤ 64
-        → HasHead (buf ++ more) h (drop (length (print_request h)) (buf ++ more)) }
-    ensures only { (s : List ℕ) (h k : RequestHead) (r q : List ℕ) → HasHead s h r → HasHead s k q
-        → (h ≡ k) × (r ≡ q) }
-    ensures full { (buf more : List ℕ) (h : RequestHead) (rest : List ℕ) → length buf ≡ 8192
-        → HasNoRequest buf → ¬ (HasHead (buf ++ more) h rest) }
-    ensures blank { (buf more : List ℕ) (ends : List LineEnd) → RequestOverflows 64 buf
-        → ¬ (buf ++ more ≡ print_blank ends) }
-    ensures ended { (s : List ℕ) (h : RequestHead) (rest : List ℕ) → HasNoRequest s
-        → ¬ (HasHead s h rest) }
-    ensures begun { (s : List ℕ) (h : RequestHead) (rest : List ℕ) → HasHead s h rest
-        → ¬ (IsBlank s) }
-{}

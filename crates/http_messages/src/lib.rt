@@ -4,6 +4,7 @@
 mod body;
 mod fault;
 mod head;
+mod laws;
 mod message;
 mod next_head;
 mod paths;
@@ -12,7 +13,8 @@ mod send;
 
 pub use fault::MessageFault;
 pub use head::read_number;
-pub use message::{NextFault, NextMessage, Request, next_buffered, next_message, parse_is_unique};
+pub use laws::parse_is_unique;
+pub use message::{NextFault, NextMessage, Request, next_buffered, next_message};
 pub use paths::{BlockPath, Method, Route, VersionPath, allows_method, offered_route, router};
 pub use read_buffer::ReadBuffer;
 pub use send::send_all;

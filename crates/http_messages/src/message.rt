@@ -2,7 +2,7 @@
 ghost use Rattle.std.specs.Prelude.{◌≡◌, ℕ, ◌≤◌, List, length, vec_len, vec_capacity, Option, IfOk, IfErr, IfSome, OnOk};
 ghost use Rattle.httparse.specs.Grammar.{RequestHead};
 ghost use Rattle.httparse.specs.Spans.{IsRequestAt, IsRequestWithin};
-ghost use Rattle.http_messages.specs.Parsing.{Parsed, ParsesAs, IsCaller, IsNamed, IsNextOrEnd, IsRequestOf, IsTaken, RefusesHead};
+ghost use Rattle.http_messages.specs.Parsing.{IsCaller, IsNamed, IsNextOrEnd, IsRequestOf, IsTaken, RefusesHead};
 ghost use Rattle.http_messages.specs.Fields.{IsFound, IsFoundWithin};
 ghost use Rattle.http_messages.specs.ReadBuffer.{remaining_input};
 ghost use Rattle.http_messages.specs.Reading.{IsRead};
@@ -10,7 +10,7 @@ ghost use Rattle.http_messages.specs.Table.{table};
 
 use crate::body::{read_body, take_buffered};
 use crate::fault::MessageFault;
-use crate::head::{HeadParse, Occurrence, head_is_unique, parse_head, read_head};
+use crate::head::{HeadParse, Occurrence, parse_head, read_head};
 use crate::next_head::{HeadOutcome, next_head};
 use crate::paths::{Method, Route, method_of, route_of};
 use crate::read_buffer::ReadBuffer;
@@ -102,13 +102,6 @@ fn request_of(
     })
 }
 
-/// States that an input parses in one way only.
-pub fn parse_is_unique()
-    ensures { (input : List ℕ) (a b : Parsed) → ParsesAs input a → ParsesAs input b → a ≡ b }
-{
-    head_is_unique();
-}
-
 fn reserve(body: &mut Vec<u8>, length: usize) -> Result<(), AllocError>
     ensures empty { vec_len body.new ≡ 0 }
     ensures room { OnOk result (length ≤ vec_capacity body.new) }
@@ -187,10 +180,7 @@ pub fn next_message<R: Read>(
     };
     let request = match request_of(buffer.buffered(), headers, &spans, router) {
         Ok(request) => request,
-        Err(fault) => {
-            head_is_unique();
-            return Ok(Some(NextMessage::Refused(fault)));
-        }
+        Err(fault) => return Ok(Some(NextMessage::Refused(fault))),
     };
     buffer.discard(spans.len);
     if reserve(body, request.length).is_err() {

@@ -8,7 +8,7 @@ ghost use Rattle.http_messages.specs.Blank.{is_blank};
 ghost use Rattle.http_messages.specs.NextHead.{IsHeadAt, HasOnlyEmptyLines, HasNoHead};
 ghost use Rattle.http_messages.specs.Head.{IsBlank};
 
-use crate::head::{HeadParse, head_is_unique, parse_head};
+use crate::head::{HeadParse, parse_head};
 use crate::read_buffer::ReadBuffer;
 use httparse::spans::{HeaderSpan, RequestSpans};
 use std::io;
@@ -63,14 +63,10 @@ pub fn next_head<R: Read>(
     'reads: loop {
         match parse_head(buffer.buffered(), headers) {
             HeadParse::Head(spans) => return Ok(HeadOutcome::Head(spans)),
-            HeadParse::Bad => {
-                head_is_unique();
-                return Ok(HeadOutcome::Bad);
-            }
+            HeadParse::Bad => return Ok(HeadOutcome::Bad),
             HeadParse::More => {}
         }
         if buffer.len() == buffer.bytes.len() {
-            head_is_unique();
             return Ok(HeadOutcome::Bad);
         }
         if buffer.fill(reader)? == 0 {

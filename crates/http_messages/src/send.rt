@@ -2,7 +2,7 @@
 ghost use Rattle.std.specs.Prelude.{◌≡◌, ◌≢◌, ℕ, ◌≤◌, List, length, take, ◌++◌, IfOk, IfErr, OnOk, OnErr};
 ghost use Rattle.std.specs.Io.KnownBytes.{Appends, Keeps};
 ghost use Rattle.std.specs.IoError.{error_kind};
-ghost use Rattle.http_messages.specs.Sending.{AppendsFront};
+ghost use Rattle.http_messages.specs.Sending.{AppendsPrefix};
 
 use std::io;
 use std::io::{ErrorKind, Write};
@@ -48,7 +48,7 @@ fn flush<W: Write>(writer: &mut W) -> io::Result<()>
 pub fn send_all<W: Write>(writer: &mut W, text: &[u8], flushes: bool) -> io::Result<()>
     ensures ok { OnOk result (Appends (W.contents writer.old) (W.contents writer.new) text.now) }
     ensures err { OnErr result
-        (AppendsFront (W.contents writer.old) (W.contents writer.new) text.now) }
+        (AppendsPrefix (W.contents writer.old) (W.contents writer.new) text.now) }
     ensures retried { IfErr result (λ e. error_kind e ≢ ErrorKind.Interrupted) }
 {
     let mut at = 0;

@@ -71,13 +71,14 @@ caught_up_apart w now r apart =
 
 pub not_over : (now : ℕ) (v : Version) → now < limit → ((d : ℕ) → deadline v ≡ Some d → now < d)
     → is_expired now v v.status ≡ false
-not_over now v early later =
+not_over now v before_limit later =
     by_cases (deadline v) refl (least_below_is (λ j. is_expired j v v.status) limit)
   where
     by_cases : (o : Option ℕ) → deadline v ≡ o
         → IsLeastBelow (λ j. is_expired j v v.status) limit (deadline v)
         → is_expired now v v.status ≡ false
-    by_cases None e is = (subst (IsLeastBelow (λ j. is_expired j v v.status) limit) e is) now early
+    by_cases None e is = (subst (IsLeastBelow (λ j. is_expired j v v.status) limit) e is) now
+        before_limit
     by_cases (Some d) e is = (subst (IsLeastBelow (λ j. is_expired j v v.status) limit) e is).2 now
         (later d e)
 
@@ -141,6 +142,6 @@ nothing_is_due st c rep none = record {
   where
     quiet : (s : Subject) → IsQuiet st.now (rep.subjects s).kept.versions
     quiet s = quiet_each st.now (rep.subjects s).kept.versions
-        (λ v found. not_over st.now v rep.early (λ d is. none v.id (row_of s v)
+        (λ v found. not_over st.now v rep.before_limit (λ d is. none v.id (row_of s v)
         (shown_row c s (rep.subjects s).kept (rep.subjects s).rows_match v.id v found) d is))
         (kept_apart st c rep s)

@@ -13,7 +13,7 @@ use Rattle.model.specs.Judge.{judge, judged_for, judged}
 use Rattle.model.specs.History.{Request, CommandRequest, AcknowledgementRequest, Entry, carriers, carrier_named, carrier_added, effect, replay_step, replay_of, replay, lacks_old_create, lacks_new_create, subjects_made_by, subjects_made, next_id, next_after, id_among, made_version, with_made, version_after_request, donor_of, assigned_block, present_set}
 use Rattle.model.specs.State.{State, record_now, version_of_id, SubjectVersion, set_now, next_of, made_now}
 use Rattle.model.specs.Conditions.{limit}
-use Rattle.model.specs.Refusals.{RequestFrom, refusal, second_of, ids_are_out}
+use Rattle.model.specs.Refusals.{RequestFrom, refusal, second_of, ids_run_out}
 use Rattle.model.specs.Machine.{accepted, IsHistory, HasHistory}
 use Rattle.numbers.proofs.Small.{impossible, no_takeover, or_second, some_is, equal_number}
 use Rattle.model.proofs.Accepted.{AcceptedCommand, accepted_command}
@@ -128,7 +128,7 @@ not_past : (n : ℕ) → n ≤ limit → nat_lt limit (n + 0) ≡ false
 not_past n below = grind (arith, nat_tests)
 
 create_fits : (st : State) (tn : ℕ) (lacks : Version → Bool) →
-    (is_none (second_of st tn lacks) && ids_are_out st 1) ≡ false →
+    (is_none (second_of st tn lacks) && ids_run_out st 1) ≡ false →
     next_of st ≤ limit →
     nat_lt limit (next_of st + length
     (if list_any lacks (record_now st (Number tn)).versions then [] else Number tn ∷ [])) ≡ false
@@ -140,7 +140,7 @@ create_fits st tn lacks room below =
         (if b then [] else Number tn ∷ [])) ≡ false
     by_cases true e = not_past (next_of st) below
     by_cases false e =
-        and_rest (is_none (second_of st tn lacks)) (ids_are_out st 1)
+        and_rest (is_none (second_of st tn lacks)) (ids_run_out st 1)
         (ap is_none (none_lacks lacks (record_now st (Number tn)).versions e)) room
 
 -- The versions that an accepted command makes have ids within the limit.

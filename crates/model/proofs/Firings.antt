@@ -367,7 +367,7 @@ stays-first w a b r P before quiet stays m after other = by_cases (sides m)
 
     by_cases : (suc m ≤ b) ⊎ ((m ≡ b) ⊎ (suc b ≤ m))
         → judge w (suc m) (judged w a m r) ≡ judged w a m r
-    by_cases (inl early) = stays-before w a b r quiet m after early
+    by_cases (inl before_limit) = stays-before w a b r quiet m after before_limit
     by_cases (inr (inl same)) = absurd (other.0 (ap suc same))
     by_cases (inr (inr late)) =
         let passed : judged w a m r ≡ judged w (suc b) m (judge w (suc b) r) =

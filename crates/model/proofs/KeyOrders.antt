@@ -6,7 +6,7 @@ use Rattle.std.specs.Ordering.{nat_cmp, ordering_then}
 use Rattle.std.specs.Cmp.{IsTotalOrder, nat_cmp_total}
 use Rattle.std.proofs.lemmas.Cmp.{then_total, on_total}
 use Rattle.std.specs.FinMap.{IsAntisymmetric, nat_cmp-IsAntisymmetric}
-use Rattle.model.specs.Content.{BroadcastKey, WaitKey, broadcast_cmp, wait_cmp}
+use Rattle.model.specs.Content.{BroadcastKey, WaitKey, broadcast_cmp, wait_cmp, broadcast_key, wait_key}
 
 pub both_equal : (a b : Ordering) → ordering_then a b ≡ Equal → (a ≡ Equal) × (b ≡ Equal)
 both_equal Equal b e = (refl, e)
@@ -21,10 +21,8 @@ broadcast_total =
 pub broadcast_exact : IsAntisymmetric broadcast_cmp
 broadcast_exact a b e =
     let p = both_equal (nat_cmp a.id b.id) (nat_cmp a.attempt b.attempt) e in
-    λ i. record {
-      id = nat_cmp-IsAntisymmetric a.id b.id p.0 i;
-      attempt = nat_cmp-IsAntisymmetric a.attempt b.attempt p.1 i;
-    }
+    λ i. broadcast_key (nat_cmp-IsAntisymmetric a.id b.id p.0 i) (nat_cmp-IsAntisymmetric a.attempt
+    b.attempt p.1 i)
 
 pub wait_total : IsTotalOrder wait_cmp
 wait_total =
@@ -40,9 +38,6 @@ wait_exact a b e =
     let q = both_equal (nat_cmp a.minute b.minute) (ordering_then (nat_cmp a.id b.id)
     (nat_cmp a.attempt b.attempt)) p.1 in
     let r = both_equal (nat_cmp a.id b.id) (nat_cmp a.attempt b.attempt) q.1 in
-    λ i. record {
-      carrier = nat_cmp-IsAntisymmetric a.carrier b.carrier p.0 i;
-      minute = nat_cmp-IsAntisymmetric a.minute b.minute q.0 i;
-      id = nat_cmp-IsAntisymmetric a.id b.id r.0 i;
-      attempt = nat_cmp-IsAntisymmetric a.attempt b.attempt r.1 i;
-    }
+    λ i. wait_key (nat_cmp-IsAntisymmetric a.carrier b.carrier p.0 i)
+    (nat_cmp-IsAntisymmetric a.minute b.minute q.0 i) (nat_cmp-IsAntisymmetric a.id b.id r.0 i)
+    (nat_cmp-IsAntisymmetric a.attempt b.attempt r.1 i)

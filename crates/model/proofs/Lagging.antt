@@ -9,7 +9,7 @@ use Rattle.model.specs.Judge.{judged_version, judge, judged_for, caught_up}
 use Rattle.model.specs.Concerns.{has_id}
 use Rattle.model.specs.History.{subject_of_id}
 use Rattle.model.specs.State.{State, record_now, version_of_id, of_its_subject, set_now, made_now}
-use Rattle.model.specs.Content.{Content, VersionRow, RowsMatch, RowsCatchUp, Represents, row_of, of_subject, subject_if, stored_wait}
+use Rattle.model.specs.Content.{Content, VersionRow, RowsMatch, RowsCatchUp, Represents, row_of, of_subject, subject_if, stored_wait, wait_key}
 use Rattle.model.proofs.Lists.{everywhere}
 use Rattle.model.proofs.Ids.{changed-has_id}
 use Rattle.model.proofs.Sound.{judged_version-id}
@@ -88,12 +88,8 @@ module _ (c : Content) (t : Subject) (r : Record) (shows : RowsMatch c t r) (id 
   pub no_version : of_subject t (λ (x : VersionRow). x.subject) (get c.versions id) ≡ None
   no_version = shows.versions id ∙ ap (option_map (row_of t)) free
 
-  pub no_wait : (carrier minute attempt : ℕ) → of_subject t (λ u. u) (get c.waits (record {
-    carrier = carrier;
-    minute = minute;
-    id = id;
-    attempt = attempt;
-  })) ≡ None
+  pub no_wait : (carrier minute attempt : ℕ)
+      → of_subject t (λ u. u) (get c.waits (wait_key carrier minute id attempt)) ≡ None
   no_wait carrier minute attempt = shows.waits carrier minute id attempt
       ∙ ap (λ o. option_and_then (stored_wait t carrier minute)
       (option_and_then (λ (u : Version). find (λ x. x.attempt == attempt) u.broadcasts) o)) free
@@ -167,12 +163,8 @@ module _ (st : State) (c : Content) (represents : Represents c st) where
           ap (of_its_subject s) (without_id id (record_now st s).versions (no_row_at id none s))
 
   -- The subject of a pending download has a version with its id.
-  pub wait_has_id : (carrier minute id attempt : ℕ) (s : Subject) → get c.waits (record {
-    carrier = carrier;
-    minute = minute;
-    id = id;
-    attempt = attempt;
-  }) ≡ Some s →
+  pub wait_has_id : (carrier minute id attempt : ℕ) (s : Subject)
+      → get c.waits (wait_key carrier minute id attempt) ≡ Some s →
       has_id id (record_now st s).versions ≡ true
   wait_has_id carrier minute id attempt s found =
       by_cases (has_id id (record_now st s).versions) refl
@@ -180,12 +172,8 @@ module _ (st : State) (c : Content) (represents : Represents c st) where
       by_cases : (b : Bool) → has_id id (record_now st s).versions ≡ b → b ≡ true
       by_cases true e = refl
       by_cases false e =
-          let none : of_subject s (λ u. u) (get c.waits (record {
-            carrier = carrier;
-            minute = minute;
-            id = id;
-            attempt = attempt;
-          })) ≡ None =
+          let none : of_subject s (λ u. u) (get c.waits (wait_key carrier minute id attempt))
+          ≡ None =
           no_wait c s (represents.subjects s).kept (represents.subjects s).rows_match id
           (kept_free st.windows (set_now st) c st.now s (record_now st s) (represents.subjects s) id
           (without_id id (record_now st s).versions e)) carrier minute attempt in

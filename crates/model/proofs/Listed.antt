@@ -6,8 +6,8 @@ use Rattle.numbers.specs.Subjects.{Subject, subject_eq, subject_key, subject_lt}
 use Rattle.numbers.proofs.SubjectKeys.{subject_key-exact}
 use Rattle.model.specs.Versions.{Version, in_force, version_with, version_in_force}
 use Rattle.model.specs.State.{State, InForce, record_now, all_in_force, made_now}
-use Rattle.model.specs.Machine.{with_subject, each_once}
-use Rattle.model.specs.Laws.{IsReachable, AllAbove, AreSubjectsSorted, IsOfForce, InForceIsListed, EachIsOnce}
+use Rattle.model.specs.Machine.{with_subject, distinct_subjects}
+use Rattle.model.specs.Laws.{IsReachable, AllAbove, AreSubjectsSorted, IsRowInForce, InForceIsListed, SubjectsAreDistinct}
 use Rattle.numbers.proofs.Small.{true-false, is_less, less_is}
 use Rattle.model.proofs.Lists.{Among, filtered-to, found-among, found-there, contained, contains-among, all_of}
 use Rattle.model.proofs.Ids.{same_subject, found_given}
@@ -72,7 +72,7 @@ module _ (st : State) (is : IsReachable st) where
   rows_rise = listed-rise (record_now st) 1 (made_now st) alone
 
   -- A row is that of its subject's version in force.
-  pub row_is : (r : InForce) → Among r (all_in_force st) → IsOfForce st r
+  pub row_is : (r : InForce) → Among r (all_in_force st) → IsRowInForce st r
   row_is r there =
       let row = listed-row (record_now st) 1 (made_now st) r there in
       let stands : version_in_force (record_now st row.e.subject) ≡ Some row.e.version =
@@ -102,7 +102,7 @@ module _ (st : State) (is : IsReachable st) where
 pub force_is_listed : InForceIsListed
 force_is_listed st is = (
   subjects_rise (all_in_force st) (rows_rise st is),
-  all_of (IsOfForce st) (all_in_force st) (row_is st is),
+  all_of (IsRowInForce st) (all_in_force st) (row_is st is),
   (λ s v stands. contained (all_in_force st) (record { subject = s; routing = v.routing })
       (row_there st is s v stands)),
 )
@@ -195,22 +195,24 @@ with-to s (t ∷ ts) x is = by_cases (λ there. with-to s ts x there) (subject_l
     by_cases later false false e (inr (inl f)) = inl f
     by_cases later false false e (inr (inr there)) = inr (later (inr there))
 
-once-rises : (ss : List Subject) → AreSubjectsSorted (each_once ss)
+once-rises : (ss : List Subject) → AreSubjectsSorted (distinct_subjects ss)
 once-rises [] = tt
-once-rises (s ∷ ss) = with-rises s (each_once ss) (once-rises ss)
+once-rises (s ∷ ss) = with-rises s (distinct_subjects ss) (once-rises ss)
 
-once-from : (ss : List Subject) (x : Subject) → Among x (each_once ss) → Among x ss
+once-from : (ss : List Subject) (x : Subject) → Among x (distinct_subjects ss) → Among x ss
 once-from [] x is = is
-once-from (s ∷ ss) x is = by_cases (λ there. once-from ss x there) (with-from s (each_once ss) x is)
+once-from (s ∷ ss) x is =
+    by_cases (λ there. once-from ss x there) (with-from s (distinct_subjects ss) x is)
   where
-    by_cases : (Among x (each_once ss) → Among x ss) → Among x (s ∷ each_once ss) → Among x (s ∷ ss)
+    by_cases : (Among x (distinct_subjects ss) → Among x ss) → Among x (s ∷ distinct_subjects ss)
+        → Among x (s ∷ ss)
     by_cases later (inl e) = inl e
     by_cases later (inr there) = inr (later there)
 
-once-to : (ss : List Subject) (x : Subject) → Among x ss → Among x (each_once ss)
+once-to : (ss : List Subject) (x : Subject) → Among x ss → Among x (distinct_subjects ss)
 once-to [] x is = is
-once-to (s ∷ ss) x (inl e) = with-to s (each_once ss) x (inl e)
-once-to (s ∷ ss) x (inr is) = with-to s (each_once ss) x (inr (once-to ss x is))
+once-to (s ∷ ss) x (inl e) = with-to s (distinct_subjects ss) x (inl e)
+once-to (s ∷ ss) x (inr is) = with-to s (distinct_subjects ss) x (inr (once-to ss x is))
 
 -- Subjects that ascend do so by their keys.
 pub subjects-ascend : (ss : List Subject) → AreSubjectsSorted ss → ascending.Rise subject_key ss
@@ -221,11 +223,11 @@ subjects-ascend (s ∷ ss) rise = (above ss rise.0, subjects-ascend ss rise.1)
     above [] all = tt
     above (t ∷ ts) all = (less_is (subject_key s) (subject_key t) all.0, above ts all.1)
 
-pub each_is_once : EachIsOnce
+pub each_is_once : SubjectsAreDistinct
 each_is_once ss = (
   once-rises ss,
   (λ s. (
-    (λ there. contained ss s (once-from ss s (contains-among (each_once ss) s there))),
-    (λ there. contained (each_once ss) s (once-to ss s (contains-among ss s there))),
+    (λ there. contained ss s (once-from ss s (contains-among (distinct_subjects ss) s there))),
+    (λ there. contained (distinct_subjects ss) s (once-to ss s (contains-among ss s there))),
   )),
 )

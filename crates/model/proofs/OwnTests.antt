@@ -9,7 +9,7 @@ use Rattle.model.specs.History.{CommandRequest, AcknowledgementRequest}
 use Rattle.model.specs.OnVersion.{version_tests, is_number}
 use Rattle.model.specs.State.{State, SubjectVersion, is_carrier, version_of_id, set_now}
 use Rattle.model.specs.Refusals.{ClockMoment, RequestFrom, QuestionFrom, Question, Knows, tests, own_tests, has_open, owns, first_refusal, holds_at}
-use Rattle.model.specs.Laws.{RefusedByOwnTests, LeastIsMet}
+use Rattle.model.specs.Laws.{RefusedByOwnTests, FirstRefusalIsLeast}
 use Rattle.numbers.proofs.Small.{and_first, and_second, some_is}
 
 pub refused_by_own_tests : RefusedByOwnTests
@@ -136,7 +136,7 @@ unfolding tests
 of_question st caller Knows k n = least (tests st (QuestionFrom caller Knows)) 0 k n refl
 of_question st caller q k n = least (tests st (QuestionFrom caller q)) 0 k n refl
 
-pub least_is_met : LeastIsMet
+pub least_is_met : FirstRefusalIsLeast
 unfolding tests
 least_is_met st (RequestFrom caller (CommandRequest c)) k n = of_command st caller c k n
 least_is_met st (RequestFrom caller (AcknowledgementRequest id attempt)) k n =

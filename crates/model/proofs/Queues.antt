@@ -8,7 +8,7 @@ use Rattle.numbers.specs.Subjects.{Subject}
 use Rattle.model.specs.Versions.{Broadcast, Version, Record, is_among, is_withdrawn, unacknowledged, waiters, version_with}
 use Rattle.model.specs.History.{subject_of_id}
 use Rattle.model.specs.State.{State, SubjectVersion, Download, record_now, of_its_subject, versions_made, all_versions, version_of_id, download, downloads_of, is_before, inserted, sorted, queue, made_now}
-use Rattle.model.specs.Laws.{AllBehind, IsQueueSorted, IsSentTo, QueueIsWhatWaits}
+use Rattle.model.specs.Laws.{AllLater, IsQueueSorted, IsSentTo, QueueIsPending}
 use Rattle.model.specs.Machine.{HasHistory}
 use Rattle.model.proofs.Lists.{Among, mapped-from, filtered-from, flat-from, found-among, contained, all_of}
 use Rattle.model.proofs.Shown.{id_found}
@@ -41,23 +41,23 @@ before_or a b differs p = by_cases (a.id == b.id) refl (a.attempt == b.attempt) 
     by_cases true e false f = grind (arith, nat_tests)
     by_cases false e t f = grind (arith, nat_tests)
 
-pub behind_each : (d : Download) (xs : List Download) (x : Download) → AllBehind d xs → Among x xs
+pub behind_each : (d : Download) (xs : List Download) (x : Download) → AllLater d xs → Among x xs
     → is_before d x ≡ true
 behind_each d [] x all there = absurd there
 behind_each d (y ∷ ys) x all (inl e) = subst (λ z. is_before d z ≡ true) (sym e) all.0
 behind_each d (y ∷ ys) x all (inr there) = behind_each d ys x all.1 there
 
-behind_more : (a b : Download) (xs : List Download) → is_before a b ≡ true → AllBehind b xs
-    → AllBehind a xs
+behind_more : (a b : Download) (xs : List Download) → is_before a b ≡ true → AllLater b xs
+    → AllLater a xs
 behind_more a b [] p all = tt
 behind_more a b (x ∷ xs) p all = (before_trans a b x p all.0, behind_more a b xs p all.1)
 
-behind_inserted : (a d : Download) (es : List Download) → is_before a d ≡ true → AllBehind a es
-    → AllBehind a (inserted d es)
+behind_inserted : (a d : Download) (es : List Download) → is_before a d ≡ true → AllLater a es
+    → AllLater a (inserted d es)
 behind_inserted a d [] p all = (p, tt)
 behind_inserted a d (e ∷ es) p all = by_cases (is_before d e) (behind_inserted a d es p all.1)
   where
-    by_cases : (b : Bool) → AllBehind a (inserted d es) → AllBehind a (if b then d ∷ e ∷ es
+    by_cases : (b : Bool) → AllLater a (inserted d es) → AllLater a (if b then d ∷ e ∷ es
         else e ∷ inserted d es)
     by_cases true later = (p, all)
     by_cases false later = (all.0, later)
@@ -292,7 +292,7 @@ module _ (st : State) (is : HasHistory st) (c : ℕ) where
       subst (λ x. Among x (queue st c)) (sym sent.is) (queued-to st is sent.at.subject c
       sent.at.version sent.broadcast version.0 broadcast.0 waits)
 
-pub queue_is_what_waits : QueueIsWhatWaits
+pub queue_is_what_waits : QueueIsPending
 queue_is_what_waits st is c = (
   queue_rises st is.history c,
   all_of (IsSentTo st c) (queue st c) (sent_to st is.history c),

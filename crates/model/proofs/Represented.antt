@@ -10,7 +10,7 @@ use Rattle.model.specs.Judge.{judge, judged_for}
 use Rattle.model.specs.History.{replay_of}
 use Rattle.model.specs.State.{State, first_state, record_now, set_now}
 use Rattle.model.specs.Machine.{HasHistory}
-use Rattle.model.specs.Content.{IsReachableRecord, Content, RowsMatch, RowsCatchUp, SameRows, Represents, VersionRow, BroadcastRow, of_subject, empty_content, broadcast_cmp, wait_cmp}
+use Rattle.model.specs.Content.{IsReachableRecord, Content, RowsMatch, RowsCatchUp, SameRows, Represents, VersionRow, BroadcastRow, of_subject, empty_content, broadcast_cmp, wait_cmp, broadcast_key, wait_key}
 use Rattle.model.specs.Laws.{IsQuiet}
 use Rattle.model.proofs.Settling.{fired_at_deadline, caught_up-quiet}
 
@@ -21,7 +21,7 @@ pub empty-represents : (w : Windows) → AreWindows w → Represents empty_conte
 unfolding replay_of judged_for judge
 empty-represents w windows = record {
   windows = windows;
-  early = omega arith;
+  before_limit = omega arith;
   history = tt;
   clock = (refl, refl);
   sets = λ k. get-empty nat_cmp k;
@@ -35,13 +35,9 @@ empty-represents w windows = record {
       versions = λ id. ap (of_subject s (λ (v : VersionRow). v.subject)) (get-empty nat_cmp id);
       broadcasts =
           λ id attempt. ap (of_subject s (λ (b : BroadcastRow). b.subject))
-          (get-empty broadcast_cmp (record { id = id; attempt = attempt }));
-      waits = λ carrier minute id attempt. ap (of_subject s (λ t. t)) (get-empty wait_cmp (record {
-        carrier = carrier;
-        minute = minute;
-        id = id;
-        attempt = attempt;
-      }));
+          (get-empty broadcast_cmp (broadcast_key id attempt));
+      waits = λ carrier minute id attempt. ap (of_subject s (λ t. t))
+          (get-empty wait_cmp (wait_key carrier minute id attempt));
     };
     reached = record { entries = []; until = 0; are_entries = tt; minutes = []; is = refl };
     catches_up = refl;

@@ -70,6 +70,17 @@ pub record WaitKey : Type 0 where
   pub id : ℕ
   pub attempt : ℕ
 
+abbrev pub broadcast_key : (id attempt : ℕ) → BroadcastKey
+broadcast_key id attempt = record { id = id; attempt = attempt }
+
+abbrev pub wait_key : (carrier minute id attempt : ℕ) → WaitKey
+wait_key carrier minute id attempt = record {
+  carrier = carrier;
+  minute = minute;
+  id = id;
+  attempt = attempt;
+}
+
 abbrev pub broadcast_cmp : BroadcastKey → BroadcastKey → Ordering
 broadcast_cmp a b = ordering_then (nat_cmp a.id b.id) (nat_cmp a.attempt b.attempt)
 
@@ -174,18 +185,11 @@ pub record RowsMatch (c : Content) (s : Subject) (r : Record) : Type 0 where
   pub versions : (id : ℕ) → of_subject s (λ (v : VersionRow). v.subject) (get c.versions id)
       ≡ option_map (row_of s) (version_with id r)
   pub broadcasts : (id attempt : ℕ) →
-      of_subject s (λ (b : BroadcastRow). b.subject) (get c.broadcasts (record {
-        id = id;
-        attempt =
-            attempt;
-      })) ≡ option_and_then (stored_broadcast s) (broadcast_with id attempt r)
+      of_subject s (λ (b : BroadcastRow). b.subject) (get c.broadcasts (broadcast_key id attempt))
+      ≡ option_and_then (stored_broadcast s) (broadcast_with id attempt r)
   pub waits : (carrier minute id attempt : ℕ) →
-      of_subject s (λ t. t) (get c.waits (record {
-        carrier = carrier;
-        minute = minute;
-        id = id;
-        attempt = attempt;
-      })) ≡ option_and_then (stored_wait s carrier minute) (broadcast_with id attempt r)
+      of_subject s (λ t. t) (get c.waits (wait_key carrier minute id attempt))
+      ≡ option_and_then (stored_wait s carrier minute) (broadcast_with id attempt r)
 
 -- The record, judged at each of these minutes, the last of the list first.
 abbrev pub judged_at : WindowSet → List ℕ → Record → Record
@@ -238,7 +242,7 @@ stored_set (Some row) st number =
 -- record as judged up to now. The rows of the registry may not lag.
 pub record Represents (c : Content) (st : State) : Type 0 where
   pub windows : AreWindows st.windows
-  pub early : st.now < limit
+  pub before_limit : st.now < limit
   pub history : HasHistory st
   pub clock : ClockRowMatches c.clock st
   pub sets : (k : ℕ) → get c.sets k ≡ stored_set c.clock st k
@@ -267,24 +271,9 @@ pub record SameRows (s : Subject) (old new : Content) : Type 0 where
   pub versions : (id : ℕ) → of_subject s (λ (v : VersionRow). v.subject) (get new.versions id)
       ≡ of_subject s (λ (v : VersionRow). v.subject) (get old.versions id)
   pub broadcasts : (id attempt : ℕ) →
-      of_subject s (λ (b : BroadcastRow). b.subject) (get new.broadcasts (record {
-        id = id;
-        attempt = attempt;
-      }))
-      ≡ of_subject s (λ (b : BroadcastRow). b.subject) (get old.broadcasts (record {
-        id = id;
-        attempt = attempt;
-      }))
+      of_subject s (λ (b : BroadcastRow). b.subject) (get new.broadcasts (broadcast_key id attempt))
+      ≡ of_subject s (λ (b : BroadcastRow). b.subject)
+      (get old.broadcasts (broadcast_key id attempt))
   pub waits : (carrier minute id attempt : ℕ) →
-      of_subject s (λ t. t) (get new.waits (record {
-        carrier = carrier;
-        minute = minute;
-        id = id;
-        attempt = attempt;
-      }))
-      ≡ of_subject s (λ t. t) (get old.waits (record {
-        carrier = carrier;
-        minute = minute;
-        id = id;
-        attempt = attempt;
-      }))
+      of_subject s (λ t. t) (get new.waits (wait_key carrier minute id attempt))
+      ≡ of_subject s (λ t. t) (get old.waits (wait_key carrier minute id attempt))

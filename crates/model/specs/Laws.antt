@@ -14,7 +14,7 @@ use Rattle.model.specs.State.{State, Server, ByVersion, ByBlock, InPool, ByCode,
 use Rattle.model.specs.Conditions.{holds_of}
 use Rattle.model.specs.OnVersion.{version_tests, is_number}
 use Rattle.model.specs.Refusals.{Input, RequestFrom, refusal, tests, has_open, owns, first_refusal, holds_at}
-use Rattle.model.specs.Machine.{Shown, accepted, next, out, id_of_create, each_once, HasHistory}
+use Rattle.model.specs.Machine.{Shown, accepted, next, out, id_of_create, distinct_subjects, HasHistory}
 use Rattle.model.specs.Copies.{copy_handed}
 use Rattle.model.specs.Content.{Represents, empty_content}
 
@@ -37,8 +37,8 @@ DeadlineSuffices =
     caught_up w now (judge w d r) ≡ caught_up w now r
 
 -- The empty content represents the first state.
-abbrev pub EmptyIsFirst : Type 0
-EmptyIsFirst = (w : Windows) → AreWindows w → Represents empty_content (first_state w)
+abbrev pub EmptyRepresentsFirst : Type 0
+EmptyRepresentsFirst = (w : Windows) → AreWindows w → Represents empty_content (first_state w)
 
 -- Holds if some run of the machine leads to the state.
 pub record IsReachable (st : State) : Type 0 where
@@ -140,19 +140,19 @@ RefusedByOwnTests =
     (is_carrier st caller) (version_of_id st id)
 
 -- The refusal of any input has the least number whose test holds.
-abbrev pub LeastIsMet : Type 0
-LeastIsMet = (st : State) (input : Input) (k n : ℕ) → refusal st input ≡ Some k
+abbrev pub FirstRefusalIsLeast : Type 0
+FirstRefusalIsLeast = (st : State) (input : Input) (k n : ℕ) → refusal st input ≡ Some k
     → holds_at n (tests st input) ≡ true → k ≤ n
 
 -- Holds if no download about s is pending for the carrier.
-abbrev pub NothingWaits : State → ℕ → Subject → Type 0
-NothingWaits st c s = list_any (λ (d : Download). subject_eq d.subject s) (queue st c) ≡ false
+abbrev pub NothingIsPending : State → ℕ → Subject → Type 0
+NothingIsPending st c s = list_any (λ (d : Download). subject_eq d.subject s) (queue st c) ≡ false
 
 -- In every reachable state a registered carrier's copy of a subject is what was published to it, if
 -- no download about the subject is pending for it.
 abbrev pub CopyIsPublished : Type 0
 CopyIsPublished = (st : State) → IsReachable st → (c : ℕ) (s : Subject) → is_carrier st c ≡ true
-    → NothingWaits st c s → copy_of st.windows c s st.history ≡ published st c s
+    → NothingIsPending st c s → copy_of st.windows c s st.history ≡ published st c s
 
 -- Whether a version with this status is in force and not sending: active, disconnect-pending or
 -- partial-failure.
@@ -182,14 +182,14 @@ CopyIsInForce = (st : State) → IsReachable st → (c : ℕ) → is_carrier st 
     → copy_of st.windows c s st.history ≡ steady_routing (record_now st s)
 
 -- Holds if each of these downloads is later than d, by minute, id and attempt.
-abbrev pub AllBehind : Download → List Download → Type 0
-AllBehind d [] = ⊤
-AllBehind d (x ∷ xs) = (is_before d x ≡ true) × AllBehind d xs
+abbrev pub AllLater : Download → List Download → Type 0
+AllLater d [] = ⊤
+AllLater d (x ∷ xs) = (is_before d x ≡ true) × AllLater d xs
 
 -- Holds if the downloads ascend by minute, id and attempt, without duplicates.
 abbrev pub IsQueueSorted : List Download → Type 0
 IsQueueSorted [] = ⊤
-IsQueueSorted (d ∷ ds) = AllBehind d ds × IsQueueSorted ds
+IsQueueSorted (d ∷ ds) = AllLater d ds × IsQueueSorted ds
 
 -- Holds if the download is of a broadcast that was sent to the carrier, is not withdrawn, and that
 -- the carrier has not acknowledged.
@@ -205,8 +205,8 @@ pub record IsSentTo (st : State) (c : ℕ) (d : Download) : Type 0 where
 
 -- In every reachable state a carrier's queue ascends by minute, id and attempt, and has exactly
 -- those downloads.
-abbrev pub QueueIsWhatWaits : Type 0
-QueueIsWhatWaits = (st : State) → IsReachable st → (c : ℕ) → IsQueueSorted (queue st c)
+abbrev pub QueueIsPending : Type 0
+QueueIsPending = (st : State) → IsReachable st → (c : ℕ) → IsQueueSorted (queue st c)
     × All (IsSentTo st c) (queue st c) × ((d : Download) → IsSentTo st c d
     → Contains (queue st c) d)
 
@@ -227,7 +227,7 @@ AreSubjectsSorted [] = ⊤
 AreSubjectsSorted (s ∷ ss) = AllAbove s ss × AreSubjectsSorted ss
 
 -- Holds if the row is that of the version in force of its subject.
-pub record IsOfForce (st : State) (r : InForce) : Type 0 where
+pub record IsRowInForce (st : State) (r : InForce) : Type 0 where
   pub version : Version
   pub stands : version_in_force (record_now st r.subject) ≡ Some version
   pub routing : r.routing ≡ version.routing
@@ -238,15 +238,15 @@ abbrev pub InForceIsListed : Type 0
 InForceIsListed =
     (st : State) → IsReachable st
     → AreSubjectsSorted (map (λ (r : InForce). r.subject) (all_in_force st))
-    × All (IsOfForce st) (all_in_force st)
+    × All (IsRowInForce st) (all_in_force st)
     × ((s : Subject) (v : Version) → version_in_force (record_now st s) ≡ Some v
     → Contains (all_in_force st) (record { subject = s; routing = v.routing }))
 
--- `each_once` returns the same subjects, ascending, without duplicates.
-abbrev pub EachIsOnce : Type 0
-EachIsOnce = (ss : List Subject) → AreSubjectsSorted (each_once ss)
-    × ((s : Subject) → (Contains (each_once ss) s → Contains ss s)
-    × (Contains ss s → Contains (each_once ss) s))
+-- `distinct_subjects` returns the same subjects, ascending, without duplicates.
+abbrev pub SubjectsAreDistinct : Type 0
+SubjectsAreDistinct = (ss : List Subject) → AreSubjectsSorted (distinct_subjects ss)
+    × ((s : Subject) → (Contains (distinct_subjects ss) s → Contains ss s)
+    × (Contains ss s → Contains (distinct_subjects ss) s))
 
 -- ---- who serves a number, and commands on its block
 

@@ -99,9 +99,9 @@ with_subject s (t ∷ ts) = if subject_lt s t then s ∷ t ∷ ts else (if subje
     else t ∷ with_subject s ts)
 
 -- The subjects, ascending, without duplicates.
-abbrev pub each_once : List Subject → List Subject
-each_once [] = []
-each_once (s ∷ ss) = with_subject s (each_once ss)
+abbrev pub distinct_subjects : List Subject → List Subject
+distinct_subjects [] = []
+distinct_subjects (s ∷ ss) = with_subject s (distinct_subjects ss)
 
 -- The answer to an input that is not refused. `st` is the state before the input, `new` the state
 -- after it.
@@ -117,7 +117,7 @@ answer_of st new (QuestionFrom caller (Query tn)) =
     else Closed)
 answer_of st new (QuestionFrom caller AllInForce) = Rows (all_in_force st)
 answer_of st new (QuestionFrom caller Waiting) =
-    Awaited (each_once (map (λ (d : Download). d.subject) (queue st caller)))
+    Awaited (distinct_subjects (map (λ (d : Download). d.subject) (queue st caller)))
 answer_of st new (QuestionFrom caller (Ids tn)) =
     Found (option_map (λ (v : Version). v.id) (version_in_force (record_now st (Number tn))))
     (option_map (λ (v : Version). v.id) (open_version (Number tn) (record_now st (Number tn))))

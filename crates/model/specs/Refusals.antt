@@ -89,8 +89,8 @@ has_open_port st block =
     && is_none (version_in_force (record_now st e.subject))) (all_versions st)
 
 -- Whether this many more versions would pass the last id.
-abbrev pub ids_are_out : State → ℕ → Bool
-ids_are_out st versions = nat_lt limit (next_of st + versions)
+abbrev pub ids_run_out : State → ℕ → Bool
+ids_run_out st versions = nat_lt limit (next_of st + versions)
 
 -- ---- tests of a command
 
@@ -147,7 +147,7 @@ module _ (st : State) (caller : ℕ) where
       ∷ (15, holds_of (λ (v : Version). is_another_due due v.due) second)
       ∷ (18, not authorized && holds_of (λ (v : Version). v.spent) second)
       ∷ (19, not authorized && is_late_conflict (set_now st).windows st.now due)
-      ∷ (28, is_none second && ids_are_out st 1) ∷ []
+      ∷ (28, is_none second && ids_run_out st 1) ∷ []
   own_tests (NewProviderCreate tn old_provider new_provider due lrn cic) =
       let second = second_of st tn (lacks_new_create old_provider new_provider) in
       (1, one_is_unknown st (old_provider ∷ new_provider ∷ caller ∷ []))
@@ -159,7 +159,7 @@ module _ (st : State) (caller : ℕ) where
       ∷ (12, is_none second && number_is_busy st tn)
       ∷ (14, is_none second && is_past st.now due)
       ∷ (15, holds_of (λ (v : Version). is_another_due due v.due) second)
-      ∷ (28, is_none second && ids_are_out st 1) ∷ []
+      ∷ (28, is_none second && ids_run_out st 1) ∷ []
   own_tests (OnVersion id c) =
       let found = version_of_id st id in
       (1, not (is_carrier st caller))
@@ -173,7 +173,7 @@ module _ (st : State) (caller : ℕ) where
       ∷ (23, has_open_port st block) ∷ (24, is_some (donor_of block st.history))
       ∷ (
         28,
-        ids_are_out st (length (subjects_made_by (CommandRequest (Donate block used lrn cic))
+        ids_run_out st (length (subjects_made_by (CommandRequest (Donate block used lrn cic))
             (record_now st))),
       ) ∷ []
   own_tests (Assign block holder lrn cic) =
@@ -183,7 +183,7 @@ module _ (st : State) (caller : ℕ) where
       ∷ (7, not (owns st lrn holder)) ∷ (10, is_none (donor_of block st.history))
       ∷ (23, has_open_port st block)
       ∷ (24, holds_of (λ (v : Version). takes_block v.status) last)
-      ∷ (28, ids_are_out st 1) ∷ []
+      ∷ (28, ids_run_out st 1) ∷ []
   own_tests (Release block) =
       let last = last_version (record_now st (Block block)) in
       (1, is_stranger st caller)

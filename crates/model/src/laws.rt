@@ -1,11 +1,11 @@
 //! Laws of the history machine, each the contract of a function that does nothing.
-ghost use Rattle.model.specs.Laws.{MinutesCompose, DeadlineSuffices, EmptyIsFirst, NoTwoActive, AtMostTwoFirings, InForceIsRouted, VersionIsShown, RefusedByOwnTests, LeastIsMet, CopyIsPublished, CopyIsInForce, CopyIsHanded, QueueIsWhatWaits, InForceIsListed, EachIsOnce, DonationKeepsService, AssignmentKeepsService, ReleaseKeepsService, NoPortUnderBlock};
+ghost use Rattle.model.specs.Laws.{MinutesCompose, DeadlineSuffices, EmptyRepresentsFirst, NoTwoActive, AtMostTwoFirings, InForceIsRouted, VersionIsShown, RefusedByOwnTests, FirstRefusalIsLeast, CopyIsPublished, CopyIsInForce, CopyIsHanded, QueueIsPending, InForceIsListed, SubjectsAreDistinct, DonationKeepsService, AssignmentKeepsService, ReleaseKeepsService, NoPortUnderBlock};
 
 /// States the laws of minutes that a register with deadlines relies on.
 pub fn laws_of_minutes()
     ensures compose { MinutesCompose }
     ensures deadline { DeadlineSuffices }
-    ensures first { EmptyIsFirst }
+    ensures first { EmptyRepresentsFirst }
 {}
 
 /// States that in every reachable state a subject has at most one version in force and at most one
@@ -35,7 +35,7 @@ pub fn law_of_answers()
 /// others. The refusal of any input has the least number whose test holds.
 pub fn law_of_refusals()
     ensures own { RefusedByOwnTests }
-    ensures least { LeastIsMet }
+    ensures least { FirstRefusalIsLeast }
 {}
 
 /// States what a registered carrier's copy is, in every reachable state. If no download about a
@@ -53,14 +53,14 @@ pub fn law_of_copies()
 /// of broadcasts that were sent to the carrier, are not withdrawn, and that it has not
 /// acknowledged.
 pub fn law_of_queues()
-    ensures { QueueIsWhatWaits }
+    ensures { QueueIsPending }
 {}
 
 /// States that the list of what is in force has exactly the versions in force, ascending by
 /// subject, without duplicates. The subjects of a queue are listed ascending, without duplicates.
 pub fn law_of_lists()
     ensures in_force { InForceIsListed }
-    ensures once { EachIsOnce }
+    ensures once { SubjectsAreDistinct }
 {}
 
 /// States when commands on a block keep the service of a number. A donation does not change who

@@ -20,5 +20,5 @@ SimulatesStep old new input (Some reply) = (st : State) → Refines old st → (
     × Refines new (next st input)
 
 -- Holds if an empty content represents the first state of every set of windows.
-abbrev pub NewStoresAreCurrent : Type 0
-NewStoresAreCurrent = (w : Windows) → AreWindows w → Represents empty_content (first_state w)
+abbrev pub EmptyStoresRepresentFirst : Type 0
+EmptyStoresRepresentFirst = (w : Windows) → AreWindows w → Represents empty_content (first_state w)

@@ -13,7 +13,7 @@ use version::{NumberInUse, Version};
 /// What the registry and the rows say of a block.
 #[derive(Drop)]
 pub struct BlockRead {
-    /// The carrier for which the block's code is open.
+    /// The carrier that holds the block's code.
     pub code_holder: Option<Spid>,
     /// The block's row, if the block is donated.
     pub row: Option<BlockRow>,

@@ -11,7 +11,7 @@ use Rattle.model.specs.Statuses.{Send}
 use Rattle.model.specs.Windows.{WindowSet}
 use Rattle.model.specs.Versions.{Record}
 use Rattle.model.specs.Changes.{routing_sent}
-use Rattle.model.specs.Content.{Content, VersionRow, BroadcastRow, BroadcastKey, WaitKey, broadcast_cmp, wait_cmp, RowsMatch, of_subject}
+use Rattle.model.specs.Content.{Content, VersionRow, BroadcastRow, BroadcastKey, WaitKey, broadcast_cmp, wait_cmp, RowsMatch, of_subject, broadcast_key, wait_key}
 use Rattle.settle.specs.Changes.{Changes, AppliesChanges, put_rows, same_broadcast, same_wait}
 use Rattle.settle.specs.Sending.{SendingVersion, begun_version, begun_broadcast, begun_waits, send_changes, sends_changes}
 use Rattle.numbers.proofs.Small.{numbers_turned, grouped}
@@ -156,16 +156,9 @@ same_shows changes old one other is its w s r shows = record {
   versions = λ k. ap (of_subject s (λ (v : VersionRow). v.subject)) (its.versions k
       ∙ sym (is.versions k)) ∙ shows.versions k;
   broadcasts =
-      λ k a. ap (of_subject s (λ (b : BroadcastRow). b.subject)) (its.broadcasts (record {
-        id = k;
-        attempt = a;
-      }) ∙ sym (is.broadcasts (record { id = k; attempt = a }))) ∙ shows.broadcasts k a;
-  waits = λ c m k a. ap (of_subject s (λ t. t)) (its.waits (record {
-    carrier = c;
-    minute = m;
-    id =
-        k;
-    attempt = a;
-  }) ∙ sym (is.waits (record { carrier = c; minute = m; id = k; attempt = a })))
+      λ k a. ap (of_subject s (λ (b : BroadcastRow). b.subject)) (its.broadcasts (broadcast_key k a)
+      ∙ sym (is.broadcasts (broadcast_key k a))) ∙ shows.broadcasts k a;
+  waits = λ c m k a. ap (of_subject s (λ t. t)) (its.waits (wait_key c m k a)
+      ∙ sym (is.waits (wait_key c m k a)))
       ∙ shows.waits c m k a;
 }

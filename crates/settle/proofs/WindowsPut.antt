@@ -9,7 +9,7 @@ use Rattle.model.specs.Versions.{Version, Record, last_version}
 use Rattle.model.specs.History.{CommandRequest, set_of_number, next_id, donor_of}
 use Rattle.model.specs.State.{State, set_now, record_now, next_of}
 use Rattle.model.specs.Refusals.{RequestFrom, refusal}
-use Rattle.model.specs.Content.{Content, ClockRow, VersionRow, BroadcastRow, Represents, ClockRowMatches, SameRows, of_subject, stored_set}
+use Rattle.model.specs.Content.{Content, ClockRow, VersionRow, BroadcastRow, Represents, ClockRowMatches, SameRows, of_subject, stored_set, broadcast_key, wait_key}
 use Rattle.model.proofs.Represented.{same_rows_show}
 use Rattle.model.proofs.SettingWindows.{after_windows, windows-record, windows-next_id, windows-history, windows-lag}
 use Rattle.settle.specs.Changes.{AppliesChanges, no_changes, clock_after}
@@ -79,19 +79,15 @@ module _ (st : State) (old new : Content) (caller : ℕ) (windows : Windows) (cl
     versions = λ id. ap (of_subject s (λ (v : VersionRow). v.subject)) (changed.versions id);
     broadcasts =
         λ id attempt. ap (of_subject s (λ (b : BroadcastRow). b.subject))
-        (changed.broadcasts (record { id = id; attempt = attempt }));
-    waits = λ carrier minute id attempt. ap (of_subject s (λ t. t)) (changed.waits (record {
-      carrier = carrier;
-      minute = minute;
-      id = id;
-      attempt = attempt;
-    }));
+        (changed.broadcasts (broadcast_key id attempt));
+    waits = λ carrier minute id attempt. ap (of_subject s (λ t. t))
+        (changed.waits (wait_key carrier minute id attempt));
   }
 
   pub windows_put-represents : Represents new (after_windows st caller windows)
   windows_put-represents = record {
     windows = rep.windows;
-    early = rep.early;
+    before_limit = rep.before_limit;
     history = windows-history st caller windows are rep.history ok;
     clock = subst (λ o. ClockRowMatches o (after_windows st caller windows)) (sym clock_new) refl;
     sets = λ k. sets_new k ∙ sym (ap (λ o. stored_set o (after_windows st caller windows) k)

@@ -6,7 +6,7 @@ use Rattle.numbers.specs.declared.code_id.CodeId.{CodeId}
 use Rattle.numbers.specs.declared.lrn.Lrn.{Lrn}
 use Rattle.numbers.specs.declared.spid.Spid.{Spid}
 use Rattle.model.specs.Abstraction.{status_of}
-use Rattle.model.specs.Content.{BlockRow, VersionRow, ClockRow, BroadcastKey, WaitKey, subject_if}
+use Rattle.model.specs.Content.{BlockRow, VersionRow, ClockRow, BroadcastKey, WaitKey, subject_if, broadcast_key, wait_key}
 use Rattle.version.specs.Abstraction.{set_of}
 pub use Rattle.delivery.specs.Broadcasts.{row_of as broadcast_row_of}
 use Rattle.settle.specs.declared.rows.VersionRow.TheInside.{Inside}
@@ -59,12 +59,7 @@ clock_row_of r = record {
 }
 
 abbrev pub broadcast_key_of : BroadcastKeyImpl → BroadcastKey
-broadcast_key_of k = record { id = k.id; attempt = k.attempt }
+broadcast_key_of k = broadcast_key k.id k.attempt
 
 abbrev pub wait_key_of : WaitKeyImpl → WaitKey
-wait_key_of k = record {
-  carrier = k.carrier.number;
-  minute = k.minute.number;
-  id = k.id;
-  attempt = k.attempt;
-}
+wait_key_of k = wait_key k.carrier.number k.minute.number k.id k.attempt

@@ -1,5 +1,5 @@
 -- A version that is stored reads as it was.
-use Rattle.std.proofs.Common.{◌≡◌, ℕ, pos, negsuc, ◌∷◌, Option, Some, None, Bool, true, false, cond, nat_lt, nat_le, ◌<◌, ◌≤◌, ◌/◌, ◌%◌, ◌*◌, ◌+◌, refl, ap, arith, IsTrue, IfSome}
+use Rattle.std.proofs.Common.{◌≡◌, ℕ, pos, negsuc, ◌∷◌, Option, Some, None, Bool, true, false, cond, nat_lt, ◌<◌, ◌≤◌, ◌/◌, ◌%◌, ◌*◌, ◌+◌, refl, ap, arith, IsTrue, IfSome}
 use Rattle.std.specs.Prelude.{option_map, ◌&&◌}
 use Rattle.std.specs.Cmp.{signed_Decides}
 use Rattle.sqlite.specs.declared.types.Value.{Value}

@@ -1,7 +1,6 @@
 -- The tests of the statements are comparisons of keys.
-use Rattle.std.proofs.Common.{◌≡◌, ℕ, pos, negsuc, List, [], ◌∷◌, Bool, true, false, Option, Some, refl, sym, ap, ◌∙◌, arith, true≢false, Less, Equal, Greater}
+use Rattle.std.proofs.Common.{◌≡◌, ℕ, pos, negsuc, List, [], ◌∷◌, Bool, true, false, Option, Some, refl, sym, ap, ◌∙◌, arith, true≢false}
 use Rattle.std.specs.Prelude.{◌&&◌}
-use Rattle.std.specs.declared.cmp.Ordering.{Ordering}
 use Rattle.std.specs.Ordering.{nat_cmp, is_eq, int_cmp}
 use Rattle.std.specs.Cmp.{nat_cmp_total, eq_by_cmp_equiv, tied_itself}
 use Rattle.std.specs.List.{list_all}
@@ -17,7 +16,7 @@ use Rattle.sqlite.specs.Collation.TheVariants.{Binary}
 use Rattle.sqlite_value.proofs.OrderLemmas.{value_cmp-Int, value_cmp-Text, value_cmp_total}
 use Rattle.numbers.specs.Texts.{spid_text}
 use Rattle.numbers.specs.declared.spid.Spid.{Spid}
-use Rattle.model.specs.Content.{BroadcastKey, WaitKey, broadcast_cmp, wait_cmp}
+use Rattle.model.specs.Content.{BroadcastKey, WaitKey, broadcast_cmp, wait_cmp, wait_key}
 use Rattle.sql_rows.specs.Values.{number_in, spid_in, spid_value}
 use Rattle.sql_rows.specs.Versions.{version_entry}
 use Rattle.sql_rows.specs.Content.{next_entry, carrier_entry, lrn_entry, code_entry, block_entry, broadcast_entry, wait_entry, set_entry, clock_entry}
@@ -154,12 +153,7 @@ wait_params s minute id attempt =
     spid_value s.number ∷ Int (pos minute) ∷ Int (pos id) ∷ Int (pos attempt) ∷ []
 
 abbrev pub key_with : Spid → (minute id attempt : ℕ) → WaitKey
-key_with s minute id attempt = record {
-  carrier = s.number;
-  minute = minute;
-  id = id;
-  attempt = attempt;
-}
+key_with s minute id attempt = wait_key s.number minute id attempt
 
 pub wait_tests : (s : Spid) (minute id attempt : ℕ)
     → Tests wait_cmp wait_entry (key_with s minute id attempt)

@@ -20,15 +20,16 @@ use Rattle.numbers.specs.declared.ported.Subject.{Subject as SubjectImpl}
 use Rattle.model.specs.Content.{VersionRow, BroadcastKey, BroadcastRow, WaitKey, subject_if}
 use Rattle.settle.specs.Abstraction.{spid_of, broadcast_key_of, broadcast_row_of, wait_key_of}
 use Rattle.settle.specs.declared.rows.NumberedRow.{NumberedRow}
+use Rattle.settle.specs.declared.rows.BroadcastKey.{BroadcastKey as BroadcastKeyImpl}
+use Rattle.settle.specs.declared.rows.WaitKey.{WaitKey as WaitKeyImpl}
+use Rattle.delivery.specs.declared.broadcast.Broadcast.{Broadcast as BroadcastImpl}
 use Rattle.sql_rows.specs.Shaped.{AreShaped}
 use Rattle.sql_rows.specs.Values.{bool_from, found_in, number_in, spid_in, spid_value, subject_in, subject_number, subject_value}
 use Rattle.sql_rows.specs.Versions.{version_in, shown_of}
-use Rattle.sql_rows.specs.Content.{content_in, bare_in, carrier_in, carrier_shown, broadcast_in, broadcast_shown, wait_in, wait_shown}
+use Rattle.sql_rows.specs.Content.{content_in, bare_in, carrier_in, carrier_shown, broadcast_in, broadcast_shown, wait_in, wait_shown, keyed}
 use Rattle.sql_rows.specs.Found.{IsListAnswer}
 use Rattle.sql_rows.specs.Once.{HasUniqueKeys}
 use Rattle.sql_rows.specs.Statements.{query_test, shown_by}
-use Rattle.sql_rows.specs.declared.keyed.KeyedBroadcast.{KeyedBroadcast}
-use Rattle.sql_rows.specs.declared.keyed.KeyedWait.{KeyedWait}
 use Rattle.sql_rows.specs.declared.statement.Table.TheVariants.{Carrier, Broadcast, Wait, Version}
 use Rattle.sql_rows.specs.declared.statement.Query.TheVariants.{All, BroadcastsByOpen, WaitsAbout, WaitsFor, WaitsOf, InForceAmong, OpenAmong}
 use Rattle.sql_rows.proofs.Backs.{subject_back}
@@ -46,11 +47,11 @@ use Rattle.numbers.proofs.Small.{and_both, true_both}
 abbrev pub carrier_seen : Spid → ℕ × Unit {0}
 carrier_seen c = (spid_of c, tt)
 
-abbrev pub wait_seen : KeyedWait → WaitKey × Subject
-wait_seen w = (wait_key_of w.key, subject_of w.subject)
+abbrev pub wait_seen : WaitKeyImpl × SubjectImpl → WaitKey × Subject
+wait_seen w = keyed wait_key_of subject_of w
 
-abbrev pub broadcast_seen : KeyedBroadcast → BroadcastKey × BroadcastRow
-broadcast_seen b = (broadcast_key_of b.key, broadcast_row_of b.broadcast)
+abbrev pub broadcast_seen : BroadcastKeyImpl × BroadcastImpl → BroadcastKey × BroadcastRow
+broadcast_seen b = keyed broadcast_key_of broadcast_row_of b
 
 abbrev pub version_seen : NumberedRow → ℕ × VersionRow
 version_seen v = (v.id, v.row)
@@ -161,7 +162,7 @@ module _ (db : Trees) (once : HasUniqueKeys db) where
       (listed carrier_seen carrier_in carrier_shown _ (db 0) h.0 items
       (plain_answer 0 (query_test (All Carrier)) (shown_by Carrier) (overlay db []) [] h.0 h.1) h.2)
 
-  pub waits_for_picked : (s : Spid) (items : List KeyedWait)
+  pub waits_for_picked : (s : Spid) (items : List (WaitKeyImpl × SubjectImpl))
       → IsListAnswer WaitsFor wait_in db (spid_value s.number ∷ []) (map wait_seen items)
       → Picks wait_seen (content_in db).waits (λ k v. k.carrier ≡ s.number) items
   waits_for_picked s items h =
@@ -171,7 +172,7 @@ module _ (db : Trees) (once : HasUniqueKeys db) where
       (plain_answer 10 (query_test WaitsFor) (shown_by Wait) (overlay db [])
       (spid_value s.number ∷ []) h.0 h.1) h.2)
 
-  pub waits_of_picked : (id attempt : ℕ) (items : List KeyedWait)
+  pub waits_of_picked : (id attempt : ℕ) (items : List (WaitKeyImpl × SubjectImpl))
       → IsListAnswer WaitsOf wait_in db (Int (pos id) ∷ Int (pos attempt) ∷ [])
       (map wait_seen items) → Picks wait_seen (content_in db).waits (λ k v. (k.id ≡ id)
       × (k.attempt ≡ attempt)) items
@@ -181,7 +182,7 @@ module _ (db : Trees) (once : HasUniqueKeys db) where
       (listed wait_seen wait_in wait_shown _ (db 10) h.0 items (plain_answer 10 (query_test WaitsOf)
       (shown_by Wait) (overlay db []) (Int (pos id) ∷ Int (pos attempt) ∷ []) h.0 h.1) h.2)
 
-  pub waits_about_picked : (c : Spid) (s : SubjectImpl) (items : List KeyedWait)
+  pub waits_about_picked : (c : Spid) (s : SubjectImpl) (items : List (WaitKeyImpl × SubjectImpl))
       → IsListAnswer WaitsAbout wait_in db (subject_value (subject_of s) ∷ spid_value c.number ∷ [])
       (map wait_seen items)
       → Picks wait_seen (content_in db).waits (λ k v. (k.carrier ≡ c.number) × (v ≡ subject_of s))
@@ -193,7 +194,7 @@ module _ (db : Trees) (once : HasUniqueKeys db) where
       (plain_answer 10 (query_test WaitsAbout) (shown_by Wait) (overlay db [])
       (subject_value (subject_of s) ∷ spid_value c.number ∷ []) h.0 h.1) h.2)
 
-  pub broadcasts_picked : (items : List KeyedBroadcast)
+  pub broadcasts_picked : (items : List (BroadcastKeyImpl × BroadcastImpl))
       → IsListAnswer BroadcastsByOpen broadcast_in db (Int (pos 1) ∷ []) (map broadcast_seen items)
       → Picks broadcast_seen (content_in db).broadcasts (λ k v. v.is_open ≡ true) items
   broadcasts_picked items h =

@@ -3,7 +3,6 @@ use Rattle.std.proofs.Common.{◌≡◌, ℕ, ◌+◌, ◌*◌, ◌/◌, ◌%◌
 use Rattle.std.specs.Prelude.{◌&&◌}
 use Rattle.numbers.specs.Texts.{spid_text}
 use Rattle.sql_rows.specs.Values.{spid_from}
-use Rattle.std.proofs.lemmas.Bool.Decides.{nat_tests}
 use Rattle.numbers.specs.Spids.{is_spid_character}
 use Rattle.numbers.proofs.SpidLemmas.{small_character}
 

@@ -1,5 +1,5 @@
 -- The effects of the writing statements on the tables.
-use Rattle.std.proofs.Common.{◌≡◌, ◌≢◌, ◌⊎◌, inl, inr, ℕ, List, [], ◌∷◌, map, filter, slice_get, Bool, true, false, not, Some, None, Ok, Err, Result, refl, sym, ap, subst, ◌∙◌, ◌&&◌, true≢false}
+use Rattle.std.proofs.Common.{◌≡◌, ◌≢◌, ℕ, List, [], ◌∷◌, map, filter, slice_get, Bool, true, false, not, Some, None, Ok, Result, refl, sym, ap, subst, ◌∙◌, ◌&&◌, true≢false}
 use Rattle.std.specs.Prelude.{if◌then◌else◌, MatchBool}
 use Rattle.std.specs.List.{AllByRecursion}
 use Rattle.sqlite.specs.declared.types.Value.TheVariants.{Null}

@@ -7,7 +7,7 @@ use Rattle.std.specs.List.{filter_map}
 use Rattle.std.specs.FinMap.{FinMap, from_entries, get}
 use Rattle.sqlite.specs.Order.{Row, column}
 use Rattle.sqlite.specs.Tree.{Trees}
-use Rattle.model.specs.Content.{Content, BlockRow, VersionRow, BroadcastRow, BroadcastKey, WaitKey, ClockRow, broadcast_cmp, wait_cmp}
+use Rattle.model.specs.Content.{Content, BlockRow, VersionRow, BroadcastRow, BroadcastKey, WaitKey, ClockRow, broadcast_cmp, wait_cmp, broadcast_key, wait_key}
 use Rattle.model.specs.Windows.{Windows}
 use Rattle.numbers.specs.Subjects.{Subject}
 use Rattle.numbers.specs.Routings.{Routing}
@@ -26,6 +26,10 @@ content_of R read rows = from_entries (filter_map read rows)
 
 abbrev pub pair : {K V : Type 0} → K → V → K × V
 pair k v = (k, v)
+
+-- The model of a row with its key.
+abbrev pub keyed : {A B K V : Type 0} → (A → K) → (B → V) → A × B → K × V
+keyed key row r = (key r.0, row r.1)
 
 -- ---- rows as a query shows them, and as stored
 
@@ -85,9 +89,6 @@ next_shown r = column r 0 ∷ column r 2 ∷ column r 3 ∷ []
 abbrev pub next_entry : Row → Option (ℕ × Routing)
 next_entry r = next_row_in (next_shown r)
 
-abbrev pub broadcast_key : ℕ → ℕ → BroadcastKey
-broadcast_key id attempt = record { id = id; attempt = attempt }
-
 abbrev pub broadcast_in : Row → Option (BroadcastKey × BroadcastRow)
 broadcast_in r =
     option_and_then
@@ -114,14 +115,6 @@ broadcast_shown r = column r 1 ∷ column r 2 ∷ column r 3 ∷ column r 4 ∷ 
 
 abbrev pub broadcast_entry : Row → Option (BroadcastKey × BroadcastRow)
 broadcast_entry r = broadcast_in (broadcast_shown r)
-
-abbrev pub wait_key : ℕ → ℕ → ℕ → ℕ → WaitKey
-wait_key carrier minute id attempt = record {
-  carrier = carrier;
-  minute = minute;
-  id = id;
-  attempt = attempt;
-}
 
 abbrev pub wait_in : Row → Option (WaitKey × Subject)
 wait_in r =

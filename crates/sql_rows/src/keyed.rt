@@ -30,113 +30,85 @@ impl FromRow for Spid {
     }
 }
 
-/// A routing number, and the carrier that registered it.
-#[derive(Clone, Copy, Debug, PartialEq, Eq)]
-pub struct KeyedLrn {
-    pub lrn: Lrn,
-    pub owner: Spid,
-}
-
-impl FromRow for KeyedLrn {
+// A routing number, and the carrier that registered it.
+impl FromRow for (Lrn, Spid) {
     ghost use Rattle.std.specs.Prelude.{ℕ};
     ghost use Rattle.settle.specs.Abstraction.{lrn_of, spid_of};
-    ghost use Rattle.sql_rows.specs.Content.{lrn_row_in};
+    ghost use Rattle.sql_rows.specs.Content.{keyed, lrn_row_in};
 
     ghost Seen = { ℕ × ℕ };
 
-    ghost seen = { λ o. (lrn_of o.lrn, spid_of o.owner) };
+    ghost seen = { keyed lrn_of spid_of };
 
     ghost seen_in = { lrn_row_in };
 
-    fn read(row: &Row) -> Option<KeyedLrn> {
-        Some(KeyedLrn {
-            lrn: lrn_at(row, 0)?,
-            owner: spid_at(row, 1)?,
-        })
+    fn read(row: &Row) -> Option<(Lrn, Spid)> {
+        Some((lrn_at(row, 0)?, spid_at(row, 1)?))
     }
 }
 
-/// A code, and its holder.
-#[derive(Clone, Copy, Debug, PartialEq, Eq)]
-pub struct KeyedCode {
-    pub code: CodeId,
-    pub owner: Spid,
-}
-
-impl FromRow for KeyedCode {
+// A code, and its holder.
+impl FromRow for (CodeId, Spid) {
     ghost use Rattle.std.specs.Prelude.{ℕ};
     ghost use Rattle.settle.specs.Abstraction.{code_of, spid_of};
-    ghost use Rattle.sql_rows.specs.Content.{code_row_in};
+    ghost use Rattle.sql_rows.specs.Content.{code_row_in, keyed};
 
     ghost Seen = { ℕ × ℕ };
 
-    ghost seen = { λ o. (code_of o.code, spid_of o.owner) };
+    ghost seen = { keyed code_of spid_of };
 
     ghost seen_in = { code_row_in };
 
-    fn read(row: &Row) -> Option<KeyedCode> {
-        Some(KeyedCode {
-            code: code_at(row, 0)?,
-            owner: spid_at(row, 1)?,
-        })
+    fn read(row: &Row) -> Option<(CodeId, Spid)> {
+        Some((code_at(row, 0)?, spid_at(row, 1)?))
     }
 }
 
-/// A donated block, and its row.
-#[derive(Clone, Copy, Debug, PartialEq, Eq)]
-pub struct KeyedBlock {
-    pub block: BlockId,
-    pub row: BlockRow,
-}
-
-impl FromRow for KeyedBlock {
+// A donated block, and its row.
+impl FromRow for (BlockId, BlockRow) {
     ghost use Rattle.std.specs.Prelude.{ℕ};
     ghost use Rattle.model.specs.Content.{BlockRow as BlockModel};
     ghost use Rattle.settle.specs.Abstraction.{block_of, block_row_of};
-    ghost use Rattle.sql_rows.specs.Content.{block_row_in};
+    ghost use Rattle.sql_rows.specs.Content.{block_row_in, keyed};
 
     ghost Seen = { ℕ × BlockModel };
 
-    ghost seen = { λ b. (block_of b.block, block_row_of b.row) };
+    ghost seen = { keyed block_of block_row_of };
 
     ghost seen_in = { block_row_in };
 
-    fn read(row: &Row) -> Option<KeyedBlock> {
-        Some(KeyedBlock {
-            block: block_at(row, 0)?,
-            row: BlockRow {
+    fn read(row: &Row) -> Option<(BlockId, BlockRow)> {
+        let block = block_at(row, 0)?;
+        Some((
+            block,
+            BlockRow {
                 donor: spid_at(row, 1)?,
                 last: number_or_null_at(row, 2)?,
             },
-        })
+        ))
     }
 }
 
-/// A broadcast, and its key.
-#[derive(Clone, Copy, Debug, PartialEq, Eq)]
-pub struct KeyedBroadcast {
-    pub key: BroadcastKey,
-    pub broadcast: Broadcast,
-}
-
-impl FromRow for KeyedBroadcast {
+// A broadcast, and its key.
+impl FromRow for (BroadcastKey, Broadcast) {
     ghost use Rattle.model.specs.Content.{BroadcastKey as KeyModel, BroadcastRow as BroadcastModel};
     ghost use Rattle.settle.specs.Abstraction.{broadcast_key_of, broadcast_row_of};
-    ghost use Rattle.sql_rows.specs.Content.{broadcast_in};
+    ghost use Rattle.sql_rows.specs.Content.{broadcast_in, keyed};
 
     ghost Seen = { KeyModel × BroadcastModel };
 
-    ghost seen = { λ b. (broadcast_key_of b.key, broadcast_row_of b.broadcast) };
+    ghost seen = { keyed broadcast_key_of broadcast_row_of };
 
     ghost seen_in = { broadcast_in };
 
-    fn read(row: &Row) -> Option<KeyedBroadcast> {
-        Some(KeyedBroadcast {
-            key: BroadcastKey {
-                id: number_at(row, 0)?,
-                attempt: number_at(row, 1)?,
-            },
-            broadcast: Broadcast {
+    fn read(row: &Row) -> Option<(BroadcastKey, Broadcast)> {
+        let key = BroadcastKey {
+            id: number_at(row, 0)?,
+            attempt: number_at(row, 1)?,
+        };
+        Some((
+            key,
+            Broadcast {
                 minute: minute_at(row, 2)?,
                 subject: subject_at(row, 3)?,
                 action: action_at(row, 4)?,
@@ -144,78 +116,58 @@ impl FromRow for KeyedBroadcast {
                 is_open: bool_at(row, 7)?,
                 is_acknowledged: bool_at(row, 8)?,
             },
-        })
+        ))
     }
 }
 
-/// A pending download, and its subject.
-#[derive(Clone, Copy, Debug, PartialEq, Eq)]
-pub struct KeyedWait {
-    pub key: WaitKey,
-    pub subject: Subject,
-}
-
-impl FromRow for KeyedWait {
+// A pending download, and its subject.
+impl FromRow for (WaitKey, Subject) {
     ghost use Rattle.model.specs.Content.{WaitKey as KeyModel};
     ghost use Rattle.numbers.specs.Subjects.{Subject as SubjectModel};
     ghost use Rattle.numbers.specs.Abstraction.{subject_of};
     ghost use Rattle.settle.specs.Abstraction.{wait_key_of};
-    ghost use Rattle.sql_rows.specs.Content.{wait_in};
+    ghost use Rattle.sql_rows.specs.Content.{keyed, wait_in};
 
     ghost Seen = { KeyModel × SubjectModel };
 
-    ghost seen = { λ w. (wait_key_of w.key, subject_of w.subject) };
+    ghost seen = { keyed wait_key_of subject_of };
 
     ghost seen_in = { wait_in };
 
-    fn read(row: &Row) -> Option<KeyedWait> {
-        Some(KeyedWait {
-            key: WaitKey {
-                carrier: spid_at(row, 0)?,
-                minute: minute_at(row, 1)?,
-                id: number_at(row, 2)?,
-                attempt: number_at(row, 3)?,
-            },
-            subject: subject_at(row, 4)?,
-        })
+    fn read(row: &Row) -> Option<(WaitKey, Subject)> {
+        let key = WaitKey {
+            carrier: spid_at(row, 0)?,
+            minute: minute_at(row, 1)?,
+            id: number_at(row, 2)?,
+            attempt: number_at(row, 3)?,
+        };
+        Some((key, subject_at(row, 4)?))
     }
 }
 
-/// The routing that a version is sending, and the version's id.
-#[derive(Clone, Copy, Debug, PartialEq, Eq)]
-pub struct KeyedRouting {
-    pub id: u64,
-    pub routing: Routing,
-}
-
-impl FromRow for KeyedRouting {
+// A version's id, and the routing that the version is sending.
+impl FromRow for (u64, Routing) {
     ghost use Rattle.std.specs.Prelude.{ℕ};
     ghost use Rattle.numbers.specs.Routings.{Routing as RoutingModel};
     ghost use Rattle.numbers.specs.Abstraction.{routing_of};
-    ghost use Rattle.sql_rows.specs.Content.{next_row_in};
+    ghost use Rattle.sql_rows.specs.Content.{keyed, next_row_in};
 
     ghost Seen = { ℕ × RoutingModel };
 
-    ghost seen = { λ r. (r.id, routing_of r.routing) };
+    ghost seen = { keyed (λ id. id) routing_of };
 
     ghost seen_in = { next_row_in };
 
-    fn read(row: &Row) -> Option<KeyedRouting> {
+    fn read(row: &Row) -> Option<(u64, Routing)> {
         let id = number_at(row, 0)?;
         match routing_at(row, 1, 2)? {
-            Some(routing) => Some(KeyedRouting { id, routing }),
+            Some(routing) => Some((id, routing)),
             None => None,
         }
     }
 }
 
-/// A set of windows, stored under its number.
-#[derive(Clone, Copy, Debug, PartialEq, Eq)]
-pub struct KeyedSet {
-    pub set: WindowSet,
-}
-
-impl FromRow for KeyedSet {
+impl FromRow for WindowSet {
     ghost use Rattle.std.specs.Prelude.{ℕ};
     ghost use Rattle.model.specs.Windows.{Windows as WindowsModel};
     ghost use Rattle.version.specs.Abstraction.{windows_of};
@@ -223,16 +175,14 @@ impl FromRow for KeyedSet {
 
     ghost Seen = { ℕ × WindowsModel };
 
-    ghost seen = { λ s. (s.set.number, windows_of s.set.windows) };
+    ghost seen = { λ s. (s.number, windows_of s.windows) };
 
     ghost seen_in = { set_in };
 
-    fn read(row: &Row) -> Option<KeyedSet> {
-        Some(KeyedSet {
-            set: WindowSet {
-                number: set_number_at(row, 0)?,
-                windows: windows_at(row, 1)?,
-            },
+    fn read(row: &Row) -> Option<WindowSet> {
+        Some(WindowSet {
+            number: set_number_at(row, 0)?,
+            windows: windows_at(row, 1)?,
         })
     }
 }
@@ -245,33 +195,28 @@ pub struct StoredClock {
     pub present: u16,
 }
 
-/// The clock's row, and its number.
-#[derive(Clone, Copy, Debug, PartialEq, Eq)]
-pub struct KeyedClock {
-    pub number: u64,
-    pub row: StoredClock,
-}
-
-impl FromRow for KeyedClock {
+// The number of the clock's row, and the row.
+impl FromRow for (u64, StoredClock) {
     ghost use Rattle.std.specs.Prelude.{ℕ};
     ghost use Rattle.sql_rows.specs.Clocks.{StoredClock as ClockModel, clock_of};
-    ghost use Rattle.sql_rows.specs.Content.{clock_in};
+    ghost use Rattle.sql_rows.specs.Content.{clock_in, keyed};
 
     ghost Seen = { ℕ × ClockModel };
 
-    ghost seen = { λ c. (c.number, clock_of c.row) };
+    ghost seen = { keyed (λ number. number) clock_of };
 
     ghost seen_in = { clock_in };
 
-    fn read(row: &Row) -> Option<KeyedClock> {
-        Some(KeyedClock {
-            number: only_at(row, 0)?,
-            row: StoredClock {
+    fn read(row: &Row) -> Option<(u64, StoredClock)> {
+        let number = only_at(row, 0)?;
+        Some((
+            number,
+            StoredClock {
                 minute: minute_at(row, 1)?,
                 next_id: number_at(row, 2)?,
                 present: set_number_at(row, 3)?,
             },
-        })
+        ))
     }
 }
 

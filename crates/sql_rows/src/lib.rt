@@ -14,10 +14,7 @@ mod version_row;
 
 pub use fault::Fault;
 pub use from_row::{FromRow, all, sole};
-pub use keyed::{
-    KeyedBlock, KeyedBroadcast, KeyedClock, KeyedCode, KeyedLrn, KeyedRouting, KeyedSet, KeyedWait,
-    OldClock, StoredClock,
-};
+pub use keyed::{OldClock, StoredClock};
 pub use migration::{NewTable, OldTable, SchemaVersion, index_text};
 pub use params::{
     block_params, broadcast_key, broadcast_params, clock_params, fits_block, is_set_number,

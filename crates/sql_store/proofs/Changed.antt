@@ -178,9 +178,9 @@ singly m = record m {
 
 lists_keep : (ch : Changes) (c : Content) → singly (lists ch c) ≡ singly c
 lists_keep ch c =
-    keeps_all singly (λ k. without_wait (wait_key_of k)) (λ k c. refl) (items_of ch.taken_waits) _
+    keeps_all singly (λ k. without_wait (wait_key_of k)) (λ k c. refl) (items_of ch.deleted_waits) _
     ∙ keeps_all singly (λ k. without_broadcast (broadcast_key_of k)) (λ k c. refl)
-    (items_of ch.taken_broadcasts) _
+    (items_of ch.deleted_broadcasts) _
     ∙ keeps_all singly (λ e. with_wait (wait_key_of e.0) (subject_of e.1)) (λ e c. refl)
     ch.waits.items _
     ∙ keeps_all singly (λ e. with_broadcast (broadcast_key_of e.0) (broadcast_row_of e.1))
@@ -374,8 +374,8 @@ module _ (ch : Changes) (row : Option ClockImpl) (c : Content) where
       let ps = items_of ch.versions in
       ap (λ m. get m k) (keeps_all (λ m. m.versions) (λ k. without_wait (wait_key_of k))
       (λ k c. refl)
-      (items_of ch.taken_waits) _ ∙ keeps_all (λ m. m.versions)
-      (λ k. without_broadcast (broadcast_key_of k)) (λ k c. refl) (items_of ch.taken_broadcasts) _
+      (items_of ch.deleted_waits) _ ∙ keeps_all (λ m. m.versions)
+      (λ k. without_broadcast (broadcast_key_of k)) (λ k c. refl) (items_of ch.deleted_broadcasts) _
       ∙ keeps_all (λ m. m.versions) (λ e. with_wait (wait_key_of e.0) (subject_of e.1))
       (λ e c. refl) ch.waits.items _ ∙ keeps_all (λ m. m.versions)
       (λ e. with_broadcast (broadcast_key_of e.0) (broadcast_row_of e.1)) (λ e c. refl)
@@ -390,17 +390,17 @@ module _ (ch : Changes) (row : Option ClockImpl) (c : Content) where
       ∙ ap (λ (m : Content). put_rows ◌==◌ ps k (get m.versions k)) singles_keep
 
   broadcasts_left : (k : BroadcastKey) → get (with_changes ch row c).broadcasts k
-      ≡ delete_rows same_broadcast (map broadcast_key_of (items_of ch.taken_broadcasts)) k
+      ≡ delete_rows same_broadcast (map broadcast_key_of (items_of ch.deleted_broadcasts)) k
       (put_rows same_broadcast (map (λ e. (broadcast_key_of e.0, broadcast_row_of e.1))
       (items_of ch.broadcasts)) k (get c.broadcasts k))
   broadcasts_left k =
       ap (λ m. get m k) (keeps_all (λ m. m.broadcasts) (λ k. without_wait (wait_key_of k))
       (λ k c. refl)
-      (items_of ch.taken_waits) _)
+      (items_of ch.deleted_waits) _)
       ∙ all_taken broadcast_cmp broadcast_total same_broadcast broadcast_ties (λ m. m.broadcasts)
       broadcast_key_of (λ k. without_broadcast (broadcast_key_of k)) (λ x c. refl)
-      (items_of ch.taken_broadcasts) _ k
-      ∙ ap (delete_rows same_broadcast (map broadcast_key_of (items_of ch.taken_broadcasts)) k)
+      (items_of ch.deleted_broadcasts) _ k
+      ∙ ap (delete_rows same_broadcast (map broadcast_key_of (items_of ch.deleted_broadcasts)) k)
       (ap (λ m. get m k) (keeps_all (λ m. m.broadcasts) (λ e. with_wait (wait_key_of e.0)
       (subject_of e.1)) (λ e c. refl) ch.waits.items _)
       ∙ all_put broadcast_cmp broadcast_total same_broadcast broadcast_ties (λ m. m.broadcasts)
@@ -415,15 +415,15 @@ module _ (ch : Changes) (row : Option ClockImpl) (c : Content) where
 
   waits_left : (k : WaitKey)
       → get (with_changes ch row c).waits k ≡ delete_rows same_wait
-      (map wait_key_of (items_of ch.taken_waits)) k
+      (map wait_key_of (items_of ch.deleted_waits)) k
       (put_rows same_wait (map (λ e. (wait_key_of e.0, subject_of e.1)) ch.waits.items) k
       (get c.waits k))
   waits_left k =
       all_taken wait_cmp wait_total same_wait wait_ties (λ m. m.waits) wait_key_of
-      (λ k. without_wait (wait_key_of k)) (λ x c. refl) (items_of ch.taken_waits) _ k
-      ∙ ap (delete_rows same_wait (map wait_key_of (items_of ch.taken_waits)) k)
+      (λ k. without_wait (wait_key_of k)) (λ x c. refl) (items_of ch.deleted_waits) _ k
+      ∙ ap (delete_rows same_wait (map wait_key_of (items_of ch.deleted_waits)) k)
       (ap (λ m. get m k) (keeps_all (λ m. m.waits) (λ k. without_broadcast (broadcast_key_of k))
-      (λ k c. refl) (items_of ch.taken_broadcasts) _)
+      (λ k c. refl) (items_of ch.deleted_broadcasts) _)
       ∙ all_put wait_cmp wait_total same_wait wait_ties (λ m. m.waits) (λ e. wait_key_of e.0)
       (λ e. subject_of e.1) (λ e. with_wait (wait_key_of e.0) (subject_of e.1)) (λ x c. refl)
       ch.waits.items _ k

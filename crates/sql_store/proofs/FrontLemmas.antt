@@ -19,13 +19,13 @@ use Rattle.sqlite_rules.specs.Lists.{Has}
 use Rattle.sqlite_rules.proofs.ListLemmas.{has_filtered, has_kept}
 use Rattle.numbers.specs.Subjects.{Subject}
 use Rattle.numbers.specs.declared.spid.Spid.{Spid}
-use Rattle.model.specs.Content.{WaitKey}
+use Rattle.model.specs.Content.{WaitKey, wait_key}
 use Rattle.sql_rows.specs.Content.{content_in, wait_in, wait_shown, wait_entry}
 use Rattle.sql_rows.specs.Found.{IsListAnswer}
 use Rattle.sql_rows.specs.Once.{HasUniqueKeys}
 use Rattle.sql_rows.specs.Statements.{query_of, query_test}
 use Rattle.sql_rows.specs.Values.{spid_in, spid_value}
-use Rattle.sql_rows.specs.declared.keyed.KeyedWait.{KeyedWait}
+use Rattle.sql_store.specs.Lists.{WaitRow}
 use Rattle.sql_rows.specs.declared.statement.Query.TheVariants.{WaitsFirst}
 use Rattle.sql_rows.proofs.DueLemmas.{first_least, has_permuted, ranks_by}
 use Rattle.sql_rows.proofs.Inversions.{minute_read, number_read, spid_read, wait_reads}
@@ -152,7 +152,7 @@ behind_or_same r s a b is other h =
 
 same_key : (a b : WaitKey) → a.carrier ≡ b.carrier → a.minute ≡ b.minute → a.id ≡ b.id
     → a.attempt ≡ b.attempt → a ≡ b
-same_key a b c m d t i = record { carrier = c i; minute = m i; id = d i; attempt = t i }
+same_key a b c m d t i = wait_key (c i) (m i) (d i) (t i)
 
 -- ---- the first pending downloads
 
@@ -176,7 +176,7 @@ module _ (db : Trees) (once : HasUniqueKeys db) (s : Spid) (n : ℕ) where
             ∙ ap is_eq (tied_itself nat_cmp_total k.carrier),
       )
 
-  pub front_found : (items : List KeyedWait)
+  pub front_found : (items : List WaitRow)
       → IsListAnswer WaitsFirst wait_in db given (map wait_seen items)
       → AreFront (content_in db) s.number n items
   front_found items h = record { only = only; each = each }
@@ -198,7 +198,7 @@ module _ (db : Trees) (once : HasUniqueKeys db) (s : Spid) (n : ℕ) where
       rows = h.1.shown ∙ take_map (λ (o : Output). o.1) n h.1.ordered
 
       -- The row of an item is among the first.
-      from : (x : KeyedWait) → Has items x → (r : Row) × Has (db 10) r × (passing r ≡ true)
+      from : (x : WaitRow) → Has items x → (r : Row) × Has (db 10) r × (passing r ≡ true)
           × (wait_entry r ≡ Some (wait_seen x)) × Has (take n h.1.ordered) (out r)
       from x at =
           let f = read_from wait_seen wait_in h.0 items h.2 x at in
@@ -214,7 +214,7 @@ module _ (db : Trees) (once : HasUniqueKeys db) (s : Spid) (n : ℕ) where
             subst (Has (take n h.1.ordered)) m.2 o.1,
           )
 
-      only : (x : KeyedWait) → Has items x
+      only : (x : WaitRow) → Has items x
           → (get (content_in db).waits (wait_seen x).0 ≡ Some (wait_seen x).1)
           × ((wait_seen x).0.carrier ≡ s.number)
       only x at =
@@ -232,7 +232,7 @@ module _ (db : Trees) (once : HasUniqueKeys db) (s : Spid) (n : ℕ) where
           Some ∙ length-map items wait_seen in
           omega (arith, full, shown, read)
 
-      same_item : (x : KeyedWait) (k : WaitKey) (v : Subject)
+      same_item : (x : WaitRow) (k : WaitKey) (v : Subject)
           → (get (content_in db).waits (wait_seen x).0 ≡ Some (wait_seen x).1)
           × ((wait_seen x).0.carrier ≡ s.number) → get (content_in db).waits k ≡ Some v
           → k.carrier ≡ s.number
@@ -247,8 +247,8 @@ module _ (db : Trees) (once : HasUniqueKeys db) (s : Spid) (n : ℕ) where
 
       each : (k : WaitKey) (v : Subject) → get (content_in db).waits k ≡ Some v
           → k.carrier ≡ s.number
-          → ((x : KeyedWait) × Has items x × (wait_seen x ≡ (k, v)))
-          ⊎ ((n ≤ length items) × ((x : KeyedWait) → Has items x
+          → ((x : WaitRow) × Has items x × (wait_seen x ≡ (k, v)))
+          ⊎ ((n ≤ length items) × ((x : WaitRow) → Has items x
           → wait_order (wait_seen x).0 k ≡ Less))
       each k v got holds =
           let f = entry_from _ wait_total wait_in wait_shown same_wait (db 10) k v got in

@@ -17,17 +17,16 @@ use Rattle.numbers.specs.declared.spid.Spid.{Spid}
 use Rattle.numbers.specs.declared.ported.Subject.{Subject as SubjectImpl}
 use Rattle.numbers.proofs.SubjectKeys.{subject_key-exact}
 use Rattle.delivery.specs.declared.download.DownloadKey.{DownloadKey}
-use Rattle.model.specs.Content.{Content, WaitKey}
+use Rattle.model.specs.Content.{Content, WaitKey, wait_key}
 use Rattle.settle.specs.Abstraction.{spid_of}
 use Rattle.settle.specs.Reads.{AreWaitingSubjects, AreCarriers, AreWaitsAbout, IsAwaitedBy, IsWaiting, download_cmp}
-use Rattle.sql_rows.specs.declared.keyed.KeyedWait.{KeyedWait}
 use Rattle.sql_rows.proofs.Listed.{from_mapped, has_mapped}
 use Rattle.model.proofs.KeyOrders.{both_equal}
 use Rattle.sql_rows.proofs.Picked.{Picks}
 use Rattle.sql_rows.proofs.QueriesListed.{carrier_seen, wait_seen}
 use Rattle.sql_rows.proofs.QueryLemmas.{map_twice}
 use Rattle.sql_rows.proofs.SortedLists.{by_key, entries_rise, entry_has, has_entry, never_both, same_sorted}
-use Rattle.sql_store.specs.Lists.{download_of}
+use Rattle.sql_store.specs.Lists.{WaitRow, download_of}
 
 pub sorted_map : {X Y : Type 0} (f : X → Y) (D : Y → Y → Ordering) (xs : List X)
     → IsStrictlySortedBy (λ a b. D (f a) (f b)) xs → IsStrictlySortedBy D (map f xs)
@@ -107,15 +106,7 @@ download_tie a b e =
       nat_cmp-IsAntisymmetric _ _ q.1,
     )
 
-abbrev key_at : ℕ → (minute id attempt : ℕ) → WaitKey
-key_at carrier minute id attempt = record {
-  carrier = carrier;
-  minute = minute;
-  id = id;
-  attempt = attempt;
-}
-
-pub about_are : (c : Content) (spid : ℕ) (s : Subject) (found : List KeyedWait)
+pub about_are : (c : Content) (spid : ℕ) (s : Subject) (found : List WaitRow)
     (items : List DownloadKey) → Picks wait_seen c.waits (λ k v. (k.carrier ≡ spid) × (v ≡ s)) found
     → IsStrictlySortedBy download_cmp items
     → ((x : DownloadKey) → Has items x → Has (map download_of found) x)
@@ -123,7 +114,7 @@ pub about_are : (c : Content) (spid : ℕ) (s : Subject) (found : List KeyedWait
     × (download_cmp x y ≡ Equal)) → AreWaitsAbout c spid s items
 about_are c spid s found items picks rises only each = record {
   each = λ minute id attempt waits.
-      let w = picks.each (key_at spid minute id attempt) s waits (refl, refl) in
+      let w = picks.each (wait_key spid minute id attempt) s waits (refl, refl) in
       let y = each (download_of w.0) (has_mapped download_of found w.0 w.1) in
       let t = download_tie (download_of w.0) y.0 y.2 in
       let key = ap (λ (e : WaitKey × Subject). e.0) w.2 in (
@@ -138,15 +129,15 @@ about_are c spid s found items picks rises only each = record {
       let w = from_mapped download_of found d (only d at) in
       let it = picks.only w.0 w.1 in
       subst (λ (d : DownloadKey). IsWaiting c spid s d.minute.number d.id d.attempt) (sym w.2)
-      (ap (λ k. get c.waits (key_at k w.0.key.minute.number w.0.key.id w.0.key.attempt))
+      (ap (λ k. get c.waits (wait_key k w.0.0.minute.number w.0.0.id w.0.0.attempt))
       (sym it.1.0) ∙ it.0 ∙ ap Some it.1.1));
   rises = rises;
 }
 
-abbrev pub subject_in_wait : KeyedWait → SubjectImpl
-subject_in_wait w = w.subject
+abbrev pub subject_in_wait : WaitRow → SubjectImpl
+subject_in_wait w = w.1
 
-pub awaited_are : (c : Content) (spid : ℕ) (found : List KeyedWait) (items : List SubjectImpl)
+pub awaited_are : (c : Content) (spid : ℕ) (found : List WaitRow) (items : List SubjectImpl)
     → Picks wait_seen c.waits (λ k v. k.carrier ≡ spid) found
     → IsStrictlySortedBy (on key_of nat_cmp) items
     → ((x : SubjectImpl) → Has items x → Has (map subject_in_wait found) x)
@@ -154,19 +145,20 @@ pub awaited_are : (c : Content) (spid : ℕ) (found : List KeyedWait) (items : L
     × (on key_of nat_cmp x y ≡ Equal)) → AreWaitingSubjects c spid items
 awaited_are c spid found items picks rises only each = record {
   each = λ s awaited.
-      let w = picks.each (key_at spid awaited.0 awaited.1 awaited.2) s awaited.3 refl in
-      let y = each w.0.subject (has_mapped subject_in_wait found w.0 w.1) in
-      let same : subject_of w.0.subject ≡ subject_of y.0 =
-      subject_key-exact (subject_of w.0.subject) (subject_of y.0)
+      let w = picks.each (wait_key spid awaited.0 awaited.1 awaited.2) s awaited.3 refl in
+      let y = each w.0.1 (has_mapped subject_in_wait found w.0 w.1) in
+      let same : subject_of w.0.1 ≡ subject_of y.0 =
+      subject_key-exact (subject_of w.0.1) (subject_of y.0)
       (nat_cmp-IsAntisymmetric _ _ y.2) in
       (y.0, contains_had items y.0 y.1, sym same ∙ ap (λ (e : WaitKey × Subject). e.1) w.2);
   only = all_there (λ x. IsAwaitedBy c spid (subject_of x)) items (λ x at.
       let w = from_mapped subject_in_wait found x (only x at) in
       let it = picks.only w.0 w.1 in (
-        w.0.key.minute.number,
-        w.0.key.id,
-        w.0.key.attempt,
-        ap (λ k. get c.waits (key_at k w.0.key.minute.number w.0.key.id w.0.key.attempt)) (sym it.1)
+        w.0.0.minute.number,
+        w.0.0.id,
+        w.0.0.attempt,
+        ap (λ k. get c.waits (wait_key k w.0.0.minute.number w.0.0.id w.0.0.attempt))
+            (sym it.1)
             ∙ it.0 ∙ ap (λ s. Some (subject_of s)) (sym w.2),
       ));
   rises = rises;

@@ -53,7 +53,7 @@ use Rattle.sql_rows.proofs.PutLemmas.{version_left}
 use Rattle.sql_rows.proofs.StatementLemmas.{query_is, query_plain, query_selects, query_unlisted}
 use Rattle.sql_rows.proofs.TableLemmas.{framed_twice, content_framed, removed_shaped}
 use Rattle.sql_store.specs.Changes.{if_some, with_set}
-use Rattle.sql_store.specs.Migration.{MigratesInTransaction, AreOldShaped, ArePutBut, HasIds, IsBarePut, IsBegunAs, IsCarried, IsCarriedOver, AreRowsCopied, AreTablesCreated, IsIndexed, HasSchemaVersion, IsOldPut, IsOldTaken, IsMigrated, AreTreesMigrated, AreOldRowsDeleted, HasMigrated, WereItsWindows, WereOtherWindows, all_of, all_old, ids_in, put_if, seen_of}
+use Rattle.sql_store.specs.Migration.{MigratesInTransaction, AreOldShaped, ArePutBut, HasIds, IsBarePut, IsBegunAs, IsCarried, IsCarriedOver, AreRowsCopied, AreTablesCreated, IsIndexed, HasSchemaVersion, IsOldPut, IsOldDeleted, IsMigrated, AreTreesMigrated, AreOldRowsDeleted, HasMigrated, HasTheseWindows, HasDifferentWindows, all_of, all_old, ids_in, put_if, seen_of}
 use Rattle.sql_store.specs.Store.{IsInTransaction, IsSame, HasCommittedNothing, HasQueried, AppliesInTransaction, WritesInTransaction, Wrote}
 use Rattle.sql_store.proofs.WholeLemmas.{moved_read}
 use Rattle.sql_store.proofs.CallLemmas.{both_survive, call_keeps, earlier, fails_as, fails_open, fails_same, kept_then, looked_then, query_commits_nothing, shown_open, shown_same, shown_unchanged, survives_still}
@@ -413,7 +413,7 @@ thinned_and a b c Did first two =
     (from_writes a b true AreOldRowsDeleted first)
     (from_writes b c true Did two) (inside_thinned a b)
 
-one_thinned : (id : ℕ) (old new : Database) → Both AreOldRowsDeleted (IsOldTaken id) old new
+one_thinned : (id : ℕ) (old new : Database) → Both AreOldRowsDeleted (IsOldDeleted id) old new
     → AreOldRowsDeleted old new
 one_thinned id old new it =
     let m = it.0 in
@@ -426,10 +426,12 @@ one_thinned id old new it =
     }
 
 pub thins_then : (a b c : State) (id : ℕ) → WritesInTransaction a b true AreOldRowsDeleted
-    → WritesInTransaction b c true (IsOldTaken id) → WritesInTransaction a c true AreOldRowsDeleted
+    → WritesInTransaction b c true (IsOldDeleted id)
+    → WritesInTransaction a c true AreOldRowsDeleted
 thins_then a b c id first two =
     to_writes a c true AreOldRowsDeleted (alters_as a c IsInTransaction IsInTransaction true
-    (Both AreOldRowsDeleted (IsOldTaken id)) AreOldRowsDeleted (thinned_and a b c (IsOldTaken id)
+    (Both AreOldRowsDeleted (IsOldDeleted id)) AreOldRowsDeleted
+    (thinned_and a b c (IsOldDeleted id)
     first two)
     (λ inside. inside) (λ inside it. one_thinned id a.now c.now it))
 
@@ -971,7 +973,7 @@ clock_carried db (Some c) h =
     sym (old_clock_is db (Some (clock_seen c)) h.0 h.1
     (one_of old_clock_in h.0 (Some (clock_seen c)) h.2))
 
--- ---- the windows with which the file was created
+-- ---- the first windows of the file
 
 -- The comparison of windows in the code.
 abbrev pub are_same : Windows → Windows → Bool
@@ -1004,7 +1006,7 @@ same_told v w told is none same =
 
 pub own_windows : (db : Trees) (w : Windows) (clock : Option ClockImpl)
     → IsListAnswer (All OldClock) old_clock_in db [] (map clock_seen (option_to_list clock))
-    → ((c : ClockImpl) → clock ≡ Some c → windows_of c.windows ≡ w) → WereItsWindows w db
+    → ((c : ClockImpl) → clock ≡ Some c → windows_of c.windows ≡ w) → HasTheseWindows w db
 own_windows db w None h same = λ c is. let never : None ≡ Some c = clock_carried db None h ∙ is in
     cc
 own_windows db w (Some x) h same = λ c is.
@@ -1014,7 +1016,7 @@ own_windows db w (Some x) h same = λ c is.
 
 pub other_windows : (db : Trees) (w : Windows) (x : ClockImpl)
     → IsListAnswer (All OldClock) old_clock_in db [] (map clock_seen (x ∷ []))
-    → (windows_of x.windows ≢ w) → WereOtherWindows w db
+    → (windows_of x.windows ≢ w) → HasDifferentWindows w db
 other_windows db w x h differ = (old_clock_of x, sym (clock_carried db (Some x) h), differ)
 
 pub old_shape : (f : SchemaVersion) (db : Trees) → AreOldShaped f db → IsShaped AsTable (db 5)

@@ -20,7 +20,7 @@ use Rattle.settle.specs.declared.store.StoreFault.TheVariants as told
 use Rattle.sql_rows.specs.Content.{content_in}
 use Rattle.sql_store.specs.Faults.{opening_fault_of}
 use Rattle.sql_store.specs.Opened.{IsRefusedAs, IsTakenAs, WasOpened}
-use Rattle.sql_store.specs.Refusal.{IsCleanYet, StandsYet}
+use Rattle.sql_store.specs.Refusal.{IsLeftClean, IsLeftUsable}
 use Rattle.sql_store.specs.Whole.{IsWhole}
 use Rattle.sql_store.specs.declared.file_fault.FileFault.{FileFault}
 use Rattle.sql_store.specs.declared.file_fault.FileFault.TheVariants.{WindowsDiffer}
@@ -239,8 +239,8 @@ module _ (w : Windows) (db now : Trees) where
 
 -- ---- databases that are refused
 
-pub stands_clean : {S : Type 0} (g : Ghosts S) (left : Refused S) → StandsYet g left
-    → IsCleanYet g left
+pub stands_clean : {S : Type 0} (g : Ghosts S) (left : Refused S) → IsLeftUsable g left
+    → IsLeftClean g left
 stands_clean g (Connection conn) it = it.0
 stands_clean g (Store store) it = it.0
 
@@ -251,13 +251,13 @@ never_windows told.NoMemory e = cc
 
 -- The refusal holds for the database found, once it is known to be clean.
 pub refused_of : {S : Type 0} (g : Ghosts S) (w : Windows) (db found : Trees) (fault : FileFault)
-    (left : Refused S) → (IsCleanYet g left → found ≡ db)
-    → (IsCleanYet g left → IsRefusedAs g w found fault left) → IsRefusedAs g w db fault left
+    (left : Refused S) → (IsLeftClean g left → found ≡ db)
+    → (IsLeftClean g left → IsRefusedAs g w found fault left) → IsRefusedAs g w db fault left
 refused_of g w db found fault left same it = record {
   kept = λ lists stands. (here (stands_clean g left stands)).kept lists stands;
   crash = λ lists clean. (here clean).crash lists clean;
   differ = λ told stands. (here (stands_clean g left stands)).differ told stands;
 }
   where
-    here : IsCleanYet g left → IsRefusedAs g w db fault left
+    here : IsLeftClean g left → IsRefusedAs g w db fault left
     here clean = subst (λ t. IsRefusedAs g w t fault left) (same clean) (it clean)

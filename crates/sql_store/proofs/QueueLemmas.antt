@@ -13,24 +13,15 @@ use Rattle.std.proofs.lemmas.List.Kept.{IsStrictlySortedBy-filter}
 use Rattle.numbers.specs.Subjects.{Subject}
 use Rattle.delivery.specs.declared.download.Download.{Download}
 use Rattle.delivery.specs.declared.download.DownloadKey.{DownloadKey}
-use Rattle.model.specs.Content.{Content, WaitKey}
+use Rattle.model.specs.Content.{Content, WaitKey, broadcast_key, wait_key}
 use Rattle.settle.specs.Reads.{AreFirst, IsWaitingDownload, download_cmp}
-use Rattle.sql_rows.specs.declared.keyed.KeyedWait.{KeyedWait}
 use Rattle.sql_rows.proofs.Listed.{from_mapped, has_mapped}
 use Rattle.sql_rows.proofs.Picked.{Picks}
 use Rattle.sql_rows.proofs.QueriesListed.{wait_seen}
-use Rattle.sql_store.specs.Lists.{download_of}
-use Rattle.sql_store.specs.Queues.{AreFirstTold, AreFront, AreQueued, AreTold, IsNext, IsTold, is_told, key_in, queue_order}
+use Rattle.sql_store.specs.Lists.{WaitRow, download_of}
+use Rattle.sql_store.specs.Queues.{AreFirstWithBroadcasts, AreFront, AreQueued, HaveBroadcasts, IsNext, MatchesBroadcast, has_broadcast, key_in, queue_order}
 use Rattle.sql_store.proofs.ListLemmas.{all_there, download_tie}
 use Rattle.numbers.proofs.Small.{some_there}
-
-abbrev key_at : ℕ → (minute id attempt : ℕ) → WaitKey
-key_at carrier minute id attempt = record {
-  carrier = carrier;
-  minute = minute;
-  id = id;
-  attempt = attempt;
-}
 
 -- ---- lists
 
@@ -94,12 +85,12 @@ sorted_unmap f cmp (x ∷ xs) up = (
 
 -- ---- downloads pending for the carrier
 
-module _ (c : Content) (spid : ℕ) (found : List KeyedWait) (items : List DownloadKey)
+module _ (c : Content) (spid : ℕ) (found : List WaitRow) (items : List DownloadKey)
     (rises : IsStrictlySortedBy download_cmp items)
     (only : (x : DownloadKey) → Has items x → Has (map download_of found) x)
     (each : (x : DownloadKey) → Has (map download_of found) x → (y : DownloadKey) × Has items y
     × (download_cmp x y ≡ Equal)) where
-  one_of_them : (k : WaitKey) (w : KeyedWait) → Has found w → (wait_seen w).0 ≡ k
+  one_of_them : (k : WaitKey) (w : WaitRow) → Has found w → (wait_seen w).0 ≡ k
       → (d : DownloadKey) × Has items d × (d.minute.number ≡ k.minute) × (d.id ≡ k.id)
       × (d.attempt ≡ k.attempt)
   one_of_them k w at key =
@@ -112,25 +103,26 @@ module _ (c : Content) (spid : ℕ) (found : List KeyedWait) (items : List Downl
         sym t.2 ∙ ap (λ (k : WaitKey). k.attempt) key,
       )
 
-  waits_there : ((x : KeyedWait) → Has found x
+  waits_there : ((x : WaitRow) → Has found x
       → (get c.waits (wait_seen x).0 ≡ Some (wait_seen x).1) × ((wait_seen x).0.carrier ≡ spid))
       → (d : DownloadKey) → Has items d
-      → is_some (get c.waits (key_at spid d.minute.number d.id d.attempt)) ≡ true
+      → is_some (get c.waits (wait_key spid d.minute.number d.id d.attempt)) ≡ true
   waits_there its d at =
       let w = from_mapped download_of found d (only d at) in
       let it = its w.0 w.1 in
-      subst (λ (d : DownloadKey). is_some (get c.waits (key_at spid d.minute.number d.id d.attempt))
+      subst (λ (d : DownloadKey). is_some
+      (get c.waits (wait_key spid d.minute.number d.id d.attempt))
       ≡ true) (sym w.2)
-      (ap (λ k. is_some (get c.waits (key_at k w.0.key.minute.number w.0.key.id w.0.key.attempt)))
+      (ap (λ k. is_some (get c.waits (wait_key k w.0.0.minute.number w.0.0.id w.0.0.attempt)))
       (sym it.1) ∙ ap is_some it.0)
 
   pub queued_are : Picks wait_seen c.waits (λ k v. k.carrier ≡ spid) found
       → AreQueued c spid ⊥ items
   queued_are picks = record {
     each = λ minute id attempt waits.
-        let s = some_there (get c.waits (key_at spid minute id attempt)) waits in
-        let w = picks.each (key_at spid minute id attempt) s.0 s.1 refl in
-        inl (one_of_them (key_at spid minute id attempt) w.0 w.1
+        let s = some_there (get c.waits (wait_key spid minute id attempt)) waits in
+        let w = picks.each (wait_key spid minute id attempt) s.0 s.1 refl in
+        inl (one_of_them (wait_key spid minute id attempt) w.0 w.1
         (ap (λ (e : WaitKey × Subject). e.0) w.2));
     only = waits_there picks.only;
     rises = rises;
@@ -140,7 +132,7 @@ module _ (c : Content) (spid : ℕ) (found : List KeyedWait) (items : List Downl
       → AreQueued c spid Left items
   front_queued n Left full front = record {
     each = λ minute id attempt waits.
-        let k = key_at spid minute id attempt in
+        let k = wait_key spid minute id attempt in
         let s = some_there (get c.waits k) waits in
         elim (front.each k s.0 s.1 refl) [
           | inl w ↦ inl (one_of_them k w.0 w.1 (ap (λ (e : WaitKey × Subject). e.0) w.2))
@@ -160,36 +152,39 @@ module _ (c : Content) (spid : ℕ) (found : List KeyedWait) (items : List Downl
 
 module _ (c : Content) (waits : List DownloadKey) (i : ℕ) (wait : DownloadKey)
     (inside : i < length waits) (item : wait ≡ get_or waits i wait) (downloads : List Download)
-    (told : AreTold c (take i waits) downloads) where
-  kept_more : filter (is_told c) (take (i + 1) waits) ≡ filter (is_told c) (take i waits) ++ cond
-      (is_told c wait) (wait ∷ []) []
-  kept_more = filter_more (is_told c) waits i wait inside
-      ∙ ap (λ w. filter (is_told c) (take i waits) ++ cond (is_told c w) (w ∷ []) []) (sym item)
+    (told : HaveBroadcasts c (take i waits) downloads) where
+  kept_more : filter (has_broadcast c) (take (i + 1) waits) ≡ filter (has_broadcast c)
+      (take i waits) ++ cond
+      (has_broadcast c wait) (wait ∷ []) []
+  kept_more = filter_more (has_broadcast c) waits i wait inside
+      ∙ ap (λ w. filter (has_broadcast c) (take i waits) ++ cond (has_broadcast c w) (w ∷ []) [])
+      (sym item)
 
   told_more : (d : Download) → IsNext c wait (Some d)
-      → AreTold c (take (i + 1) waits) (downloads ++ d ∷ [])
+      → HaveBroadcasts c (take (i + 1) waits) (downloads ++ d ∷ [])
   told_more d is =
-      let has : is_told c wait ≡ true = ap (is_told c) (sym is.0) ∙ ap is_some is.1.1 in
+      let has : has_broadcast c wait ≡ true = ap (has_broadcast c) (sym is.0) ∙ ap is_some is.1.1 in
       record {
         keys = map-append key_in downloads (d ∷ []) ∙ ap (λ l. l ++ key_in d ∷ []) told.keys
-            ∙ ap (λ k. filter (is_told c) (take i waits) ++ k ∷ []) is.0
-            ∙ ap (λ b. filter (is_told c) (take i waits) ++ cond b (wait ∷ []) []) (sym has)
+            ∙ ap (λ k. filter (has_broadcast c) (take i waits) ++ k ∷ []) is.0
+            ∙ ap (λ b. filter (has_broadcast c) (take i waits) ++ cond b (wait ∷ []) []) (sym has)
             ∙ sym kept_more;
-        told = All-push (IsTold c) downloads d told.told is.1;
+        told = All-push (MatchesBroadcast c) downloads d told.told is.1;
       }
 
-  told_none : IsNext c wait None → AreTold c (take (i + 1) waits) downloads
+  told_none : IsNext c wait None → HaveBroadcasts c (take (i + 1) waits) downloads
   told_none none = record {
     keys = told.keys
-        ∙ sym (kept_more ∙ ap (λ b. filter (is_told c) (take i waits) ++ cond b (wait ∷ []) [])
-        (ap is_some none) ∙ append-nil (filter (is_told c) (take i waits)));
+        ∙ sym (kept_more ∙ ap (λ b. filter (has_broadcast c) (take i waits) ++ cond b (wait ∷ [])
+        [])
+        (ap is_some none) ∙ append-nil (filter (has_broadcast c) (take i waits)));
     told = told.told;
   }
 
   pub told_next : (o : Option Download) → IsNext c wait o
-      → AreTold c (take (i + 1) waits) (downloads ++ option_to_list o)
+      → HaveBroadcasts c (take (i + 1) waits) (downloads ++ option_to_list o)
   told_next (Some d) is = told_more d is
-  told_next None none = subst (AreTold c (take (i + 1) waits)) (sym (append-nil downloads))
+  told_next None none = subst (HaveBroadcasts c (take (i + 1) waits)) (sym (append-nil downloads))
       (told_none none)
 
 pub one_more_fits : (downloads : List Download) (o : Option Download) (many : ℕ)
@@ -205,7 +200,8 @@ behind minute id attempt e =
     (nat_cmp e.attempt attempt))
 
 pub first_are : (c : Content) (spid many : ℕ) (Left : Type 0) (waits : List DownloadKey)
-    (downloads : List Download) → AreQueued c spid Left waits → AreFirstTold c many waits downloads
+    (downloads : List Download) → AreQueued c spid Left waits
+    → AreFirstWithBroadcasts c many waits downloads
     → (Left → length downloads ≡ many)
     → AreFirst c spid many downloads
 first_are c spid many Left waits downloads queued first enough = record {
@@ -218,12 +214,12 @@ first_are c spid many Left waits downloads queued first enough = record {
     | inl d ↦
         elim (taken_or_left first.passed waits d.0 d.1) [
           | inl taken ↦ inl (
-              let has : is_told c d.0 ≡ true =
-              ap (λ i. is_some (get c.broadcasts (record { id = i; attempt = d.0.attempt }))) d.3
-              ∙ ap (λ a. is_some (get c.broadcasts (record { id = id; attempt = a }))) d.4
+              let has : has_broadcast c d.0 ≡ true =
+              ap (λ i. is_some (get c.broadcasts (broadcast_key i d.0.attempt))) d.3
+              ∙ ap (λ a. is_some (get c.broadcasts (broadcast_key id a))) d.4
               ∙ ap is_some at.1 in
               let x = from_mapped key_in downloads d.0 (subst (λ l. Has l d.0) (sym first.told.keys)
-              (has_kept (is_told c) (take first.passed waits) d.0 taken has)) in (
+              (has_kept (has_broadcast c) (take first.passed waits) d.0 taken has)) in (
                 x.0,
                 contains_had downloads x.0 x.1,
                 ap (λ (k : DownloadKey). k.minute.number) (sym x.2) ∙ d.2,
@@ -254,16 +250,16 @@ first_are c spid many Left waits downloads queued first enough = record {
         told.2,
       ));
   rises = sorted_unmap key_in download_cmp downloads (subst (IsStrictlySortedBy download_cmp)
-      (sym first.told.keys) (IsStrictlySortedBy-filter download_cmp (is_told c)
+      (sym first.told.keys) (IsStrictlySortedBy-filter download_cmp (has_broadcast c)
       (take first.passed waits) (sorted_take download_cmp first.passed waits queued.rises)));
   most = first.most;
 }
   where
     passed : (d : Download) → Has downloads d → Has (take first.passed waits) (key_in d)
     passed d has =
-        (has_filtered (is_told c) (take first.passed waits) (key_in d)
+        (has_filtered (has_broadcast c) (take first.passed waits) (key_in d)
         (subst (λ l. Has l (key_in d)) first.told.keys (has_mapped key_in downloads d has))).0
 
-    all_had : (d : Download) → Has downloads d → IsTold c d
+    all_had : (d : Download) → Has downloads d → MatchesBroadcast c d
     all_had d has =
-        All-contains (IsTold c) downloads d first.told.told (contains_had downloads d has)
+        All-contains (MatchesBroadcast c) downloads d first.told.told (contains_had downloads d has)

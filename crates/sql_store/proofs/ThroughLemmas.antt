@@ -12,7 +12,7 @@ use Rattle.sqlite.specs.Store.{Ghosts}
 use Rattle.sqlite.proofs.Callers.{begun_plain, unchanged_then}
 use Rattle.sql_rows.specs.Found.{AreRead}
 use Rattle.sql_rows.specs.declared.fault.Fault.{Fault}
-use Rattle.sql_store.specs.Through.{HasReadAll, ReadsOn, TellsNone, Unmoved}
+use Rattle.sql_store.specs.Through.{HasReadAll, ReadsOn, BlankMeansNone, IsOnlyRead}
 use Rattle.sql_rows.specs.Migration.{IsTableOf}
 use Rattle.sql_rows.specs.Statements.{all_text}
 use Rattle.sql_rows.specs.declared.migration.SchemaVersion.{SchemaVersion}
@@ -92,15 +92,15 @@ rolled_from first old new same (inr it) = inr (record {
   };
 })
 
-module _ {S : Type 0} (g : Ghosts S) (first here new : Held S) (so : Unmoved g first here) where
-  moved_on : IsUnchanged (state g here) (state g new) → Unmoved g first new
+module _ {S : Type 0} (g : Ghosts S) (first here new : Held S) (so : IsOnlyRead g first here) where
+  moved_on : IsUnchanged (state g here) (state g new) → IsOnlyRead g first new
   moved_on it = elim so [
     | inl same ↦ inr (subst (λ h. IsUnchanged (state g h) (state g new)) same it)
     | inr was ↦ inr (unchanged_then (state g first) (state g here) (state g new) was it)
   ]
 
   rolled_on : IsUnchanged (state g here) (state g new)
-      ⊎ IsRolledBack (state g here) (state g new) → Unmoved g first new
+      ⊎ IsRolledBack (state g here) (state g new) → IsOnlyRead g first new
       ⊎ IsRolledBack (state g first) (state g new)
   rolled_on it = elim so [
     | inl same ↦ widened (subst (λ h. IsUnchanged (state g h) (state g new)
@@ -109,7 +109,7 @@ module _ {S : Type 0} (g : Ghosts S) (first here new : Held S) (so : Unmoved g f
   ]
     where
       widened : IsUnchanged (state g first) (state g new)
-          ⊎ IsRolledBack (state g first) (state g new) → Unmoved g first new
+          ⊎ IsRolledBack (state g first) (state g new) → IsOnlyRead g first new
           ⊎ IsRolledBack (state g first) (state g new)
       widened (inl it) = inl (inr it)
       widened (inr it) = inr it
@@ -129,7 +129,7 @@ pub record ReadsSoFar {S X : Type 0} (g : Ghosts S) (read : Row → Option X) (P
   pub given : HasCleanDisk (state g here) → (sql : List ℕ) → HasGiven g sql [] first []
       → (rows : List Row) × (xs : List X) × HasGiven g sql [] here rows × AreRead read rows xs
       × P xs
-  pub same : HasCleanDisk (state g here) → Unmoved g first here
+  pub same : HasCleanDisk (state g here) → IsOnlyRead g first here
   pub mode : first.in_transaction ≡ false → here.in_transaction ≡ false
   pub survives : Survives (state g first) (state g here) (λ _. ⊥)
 
@@ -184,13 +184,13 @@ module _ {S X : Type 0} (g : Ghosts S) (read : Row → Option X) (P : List X →
     -- The next row could not be read.
     pub reads_no_more : (HasCleanDisk (state g new) → IsUnchanged (state g here) (state g new)
         ⊎ IsRolledBack (state g here) (state g new)) → HasCleanDisk (state g new)
-        → Unmoved g first new ⊎ IsRolledBack (state g first) (state g new)
+        → IsOnlyRead g first new ⊎ IsRolledBack (state g first) (state g new)
     reads_no_more left clean = rolled_on g first here new (so.same (before clean)) (left clean)
 
 -- The same holds from where the query was asked.
 module _ {S : Type 0} (g : Ghosts S) (first here new : Held S) (was : IsUnchanged (state g first)
     (state g here)) where
-  pub left_from : Unmoved g here new ⊎ IsRolledBack (state g here) (state g new)
+  pub left_from : IsOnlyRead g here new ⊎ IsRolledBack (state g here) (state g new)
       → IsUnchanged (state g first) (state g new) ⊎ IsRolledBack (state g first) (state g new)
   left_from (inl (inl same)) =
       inl (subst (λ h. IsUnchanged (state g first) (state g h)) (sym same) was)
@@ -230,7 +230,7 @@ module _ {S : Type 0} (g : Ghosts S) (sql : List ℕ) {text : List ℕ} (is : te
       )
 
   pub err_from : {R : Type 0} (r : Result R Fault) → (HasCleanDisk (state g new)
-      → OnErr r (Unmoved g here new ⊎ IsRolledBack (state g here) (state g new)))
+      → OnErr r (IsOnlyRead g here new ⊎ IsRolledBack (state g here) (state g new)))
       → HasCleanDisk (state g new) → OnErr r (IsUnchanged (state g first) (state g new)
       ⊎ IsRolledBack (state g first) (state g new))
   err_from (Ok a) it clean = tt
@@ -292,7 +292,7 @@ module _ {X : Type 0} (read : Row → Option X) (table : Table) (old new : State
       (old_query_plain f table has)
 
   pub ours_read : (IsTrue old.is_open → HasStoreTables old) → (r : Result Bool Fault)
-      → IfOk r (λ blank. HasReadAll read (all_text table) old new (TellsNone blank))
+      → IfOk r (λ blank. HasReadAll read (all_text table) old new (BlankMeansNone blank))
       → IfOk r (IsRead table read old.now.trees)
   ours_read ours (Err e) it = tt
   ours_read ours (Ok blank) (rows, xs, shown, are, none) = (
@@ -309,7 +309,7 @@ module _ {X : Type 0} (read : Row → Option X) (table : Table) (old new : State
   pub old_read : (f : SchemaVersion) → IsTableOf table f
       → (IsTrue old.is_open → HasSchemaVersion f old)
       → (r : Result Bool Fault)
-      → IfOk r (λ blank. HasReadAll read (all_text table) old new (TellsNone blank))
+      → IfOk r (λ blank. HasReadAll read (all_text table) old new (BlankMeansNone blank))
       → OnOk r (IsRead table read old.now.trees false)
   old_read f has ours (Err e) it = tt
   old_read f has ours (Ok blank) (rows, xs, shown, are, none) = (

@@ -9,11 +9,10 @@ use Rattle.sqlite_rules.specs.Lists.{Has}
 use Rattle.sqlite_rules.proofs.ListLemmas.{some_has}
 use Rattle.numbers.specs.Subjects.{Subject}
 use Rattle.numbers.specs.declared.spid.Spid.{Spid}
-use Rattle.model.specs.Content.{Content, WaitKey, wait_cmp}
+use Rattle.model.specs.Content.{Content, WaitKey, wait_cmp, wait_key}
 use Rattle.settle.specs.Abstraction.{spid_of}
 use Rattle.settle.specs.Reads.{AreCarriers, AreWaiters, is_last_wait}
 use Rattle.sql_rows.specs.Content.{content_in, wait_in, wait_shown}
-use Rattle.sql_rows.specs.declared.keyed.KeyedWait.{KeyedWait}
 use Rattle.sql_rows.proofs.Inversions.{number_small, wait_reads}
 use Rattle.sql_rows.proofs.Lookups.{entry_from}
 use Rattle.sql_rows.proofs.Orders.{same_wait}
@@ -21,16 +20,8 @@ use Rattle.model.proofs.Lists.{filter-map, all-map}
 use Rattle.model.proofs.KeyOrders.{wait_total}
 use Rattle.sql_rows.proofs.Picked.{Picks}
 use Rattle.sql_rows.proofs.QueriesListed.{wait_seen}
-use Rattle.sql_store.specs.Lists.{is_waiting}
+use Rattle.sql_store.specs.Lists.{WaitRow, is_waiting}
 use Rattle.numbers.proofs.Small.{and_both, true_both, equal_number, some_there, number_equal, same_truth}
-
-abbrev pub key_at : ℕ → (minute id attempt : ℕ) → WaitKey
-key_at carrier minute id attempt = record {
-  carrier = carrier;
-  minute = minute;
-  id = id;
-  attempt = attempt;
-}
 
 none_kept : {A : Type 0} (q : A → Bool) → ((x : A) → q x ≡ false) → (xs : List A) → filter q xs ≡ []
 none_kept q none [] = refl
@@ -49,34 +40,34 @@ has_any p (y ∷ ys) x (inr at) is = or_true (p y) (has_any p ys x at is)
 
 module _ (c : Content) (minute id attempt : ℕ) where
   abbrev waits_there : ℕ → Bool
-  waits_there k = is_some (get c.waits (key_at k minute id attempt))
+  waits_there k = is_some (get c.waits (wait_key k minute id attempt))
 
-  module _ (waits : List KeyedWait) (picks : Picks wait_seen c.waits (λ k v. (k.id ≡ id)
+  module _ (waits : List WaitRow) (picks : Picks wait_seen c.waits (λ k v. (k.id ≡ id)
       × (k.attempt ≡ attempt)) waits) where
     waiting_is : (carrier : Spid) → waits_there carrier.number ≡ is_waiting waits minute carrier
     waiting_is carrier = same_truth (waits_there carrier.number) (is_waiting waits minute carrier)
         (λ e.
-        let s = some_there (get c.waits (key_at carrier.number minute id attempt)) e in
-        let w = picks.each (key_at carrier.number minute id attempt) s.0 s.1 (refl, refl) in
+        let s = some_there (get c.waits (wait_key carrier.number minute id attempt)) e in
+        let w = picks.each (wait_key carrier.number minute id attempt) s.0 s.1 (refl, refl) in
         let key = ap (λ (e : WaitKey × Subject). e.0) w.2 in
-        has_any (λ (w : KeyedWait). (w.key.minute.number == minute)
-        && (w.key.carrier.number == carrier.number)) waits w.0 w.1
-        (true_both _ _ (number_equal w.0.key.minute.number minute (ap (λ (k : WaitKey). k.minute)
+        has_any (λ (w : WaitRow). (w.0.minute.number == minute)
+        && (w.0.carrier.number == carrier.number)) waits w.0 w.1
+        (true_both _ _ (number_equal w.0.0.minute.number minute (ap (λ (k : WaitKey). k.minute)
         key))
-        (number_equal w.0.key.carrier.number carrier.number (ap (λ (k : WaitKey). k.carrier) key))))
+        (number_equal w.0.0.carrier.number carrier.number (ap (λ (k : WaitKey). k.carrier) key))))
         (λ e.
-        let w = some_has (λ (w : KeyedWait). (w.key.minute.number == minute)
-        && (w.key.carrier.number == carrier.number)) waits e in
+        let w = some_has (λ (w : WaitRow). (w.0.minute.number == minute)
+        && (w.0.carrier.number == carrier.number)) waits e in
         let test = and_both _ _ w.2 in
         let it = picks.only w.0 w.1 in
-        ap (λ k. is_some (get c.waits (key_at k minute id attempt)))
-        (sym (equal_number w.0.key.carrier.number carrier.number test.1))
-        ∙ ap (λ k. is_some (get c.waits (key_at w.0.key.carrier.number k id attempt)))
-        (sym (equal_number w.0.key.minute.number minute test.0))
-        ∙ ap (λ k. is_some (get c.waits (key_at w.0.key.carrier.number w.0.key.minute.number k
+        ap (λ k. is_some (get c.waits (wait_key k minute id attempt)))
+        (sym (equal_number w.0.0.carrier.number carrier.number test.1))
+        ∙ ap (λ k. is_some (get c.waits (wait_key w.0.0.carrier.number k id attempt)))
+        (sym (equal_number w.0.0.minute.number minute test.0))
+        ∙ ap (λ k. is_some (get c.waits (wait_key w.0.0.carrier.number w.0.0.minute.number k
         attempt))) (sym it.1.0)
-        ∙ ap (λ k. is_some (get c.waits (key_at w.0.key.carrier.number w.0.key.minute.number
-        w.0.key.id k))) (sym it.1.1)
+        ∙ ap (λ k. is_some (get c.waits (wait_key w.0.0.carrier.number w.0.0.minute.number
+        w.0.0.id k))) (sym it.1.1)
         ∙ ap is_some it.0)
 
     pub waiters_are : (carriers : List Spid) → AreCarriers c carriers
@@ -84,7 +75,7 @@ module _ (c : Content) (minute id attempt : ℕ) where
     waiters_are carriers are = filter-map spid_of (is_waiting waits minute) waits_there waiting_is
         carriers ∙ ap (filter waits_there) are
 
-  pub no_waiters : ((k : ℕ) → get c.waits (key_at k minute id attempt) ≡ None)
+  pub no_waiters : ((k : ℕ) → get c.waits (wait_key k minute id attempt) ≡ None)
       → AreWaiters c minute id attempt []
   no_waiters none = sym (none_kept waits_there (λ k. ap is_some (none k)) (keys c.carriers))
 

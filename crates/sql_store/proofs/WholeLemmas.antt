@@ -7,6 +7,7 @@ use Rattle.std.specs.Ordering.{nat_cmp}
 use Rattle.std.specs.List.Sorted.{IsPermutation}
 use Rattle.sqlite.specs.Order.{Row}
 use Rattle.sqlite.specs.Program.{overlay}
+use Rattle.sqlite.specs.Query.{IsAnswer}
 use Rattle.sqlite.specs.Tree.{Trees}
 use Rattle.sqlite_rules.specs.Lists.{Has}
 use Rattle.sqlite_rules.proofs.ListLemmas.{has_kept}
@@ -16,17 +17,18 @@ use Rattle.numbers.specs.Routings.{Routing}
 use Rattle.sql_rows.specs.Over.{over}
 use Rattle.sql_rows.proofs.Over.{get-over}
 use Rattle.sql_rows.specs.Clocks.{StoredClock, with_windows}
-use Rattle.sql_rows.specs.Content.{block_row_in, block_shown, broadcast_entry, broadcast_in, broadcast_shown, carrier_in, carrier_shown, clock_in, clock_shown, next_entry, next_row_in, next_shown, set_in, set_shown, old_clock_in, old_clock_shown, nexts_in, content_in, lrn_row_in, code_row_in, owner_shown, wait_entry, wait_in, wait_shown}
+use Rattle.sql_rows.specs.Content.{block_row_in, block_shown, broadcast_entry, broadcast_in, broadcast_shown, carrier_in, carrier_shown, clock_in, clock_shown, next_entry, next_row_in, next_shown, set_in, set_shown, old_clock_in, old_clock_shown, nexts_in, content_in, lrn_row_in, code_row_in, owner_shown, wait_entry, wait_in, wait_shown, carrier_entry, lrn_entry, code_entry, block_entry, clock_entry, set_entry, old_clock_entry}
 use Rattle.sql_rows.specs.Found.{AreRead, IsListAnswer}
 use Rattle.sql_rows.specs.declared.statement.Query.TheVariants.{All}
 use Rattle.sql_store.specs.Migration.{AreMovedRead}
-use Rattle.sql_rows.specs.Statements.{shown_by}
-use Rattle.sql_rows.specs.Versions.{rerouted, old_shown_of, old_version_in, shown_of, version_in}
+use Rattle.sql_rows.specs.Statements.{query_of, shown_by}
+use Rattle.sql_rows.specs.Versions.{rerouted, old_shown_of, old_version_entry, old_version_in, shown_of, version_entry, version_in}
+use Rattle.sql_rows.specs.declared.statement.Table.{Table}
 use Rattle.sql_rows.specs.declared.statement.Table.TheVariants.{Carrier, Lrn, Code, Block, Version, Broadcast, Wait, Clock, NextRouting, WindowSet, OldVersion, OldClock}
 use Rattle.sql_rows.proofs.DueLemmas.{has_permuted}
 use Rattle.sql_rows.proofs.Listed.{has_mapped}
 use Rattle.sql_rows.proofs.QueryLemmas.{plain_answer}
-use Rattle.sql_store.specs.Whole.{AreAddedBlank, AreRegistryRead, AreVersionsBlank, AreVersionsRead, EachReads, IsMoved, IsRead, IsRegistryBlank, ReadsAdded, ReadsAll, ReadsRegistry, ReadsVersions}
+use Rattle.sql_store.specs.Whole.{AreAddedBlank, AreRegistryRead, AreVersionsBlank, EachReads, IsMoved, IsRead, IsRegistryBlank, ReadsAdded, ReadsAll, ReadsRegistry, ReadsVersions}
 use Rattle.sql_rows.proofs.RowLemmas.{same_first, same_rest}
 
 -- ---- one table
@@ -62,153 +64,170 @@ module _ {X : Type 0} (read : Row → Option X) where
         none_there rows (λ r at. read_none found (shown r) (subst (AreRead read found) none are)
         (found_there r at))
 
+-- What is known of the rows of a table that was read.
+pub record KnownRows {X : Type 0} (entry : Row → Option X) (rows : List Row)
+    (blank : Bool) : Type 0 where
+  pub each : EachReads entry rows
+  pub none : blank ≡ true → rows ≡ []
+
+known : {X : Type 0} (t : Table) (read : Row → Option X) (shown : Row → Row) (rows : List Row)
+    (db : Trees) (blank : Bool)
+    → ((found : List Row) → IsAnswer (query_of (All t)) (overlay db []) [] found
+    → IsPermutation (map shown (filter (λ r. true) rows)) found) → IsRead t read db blank
+    → KnownRows (λ r. read (shown r)) rows blank
+known t read shown rows db blank shows it = record {
+  each = each_reads read shown rows it.1.0 it.0 (shows it.1.0 it.1.1) it.1.2;
+  none = λ all. is_blank read shown rows it.1.0 it.0 (shows it.1.0 it.1.1) it.1.2 (it.2 all);
+}
+
 -- ---- the tables
 
-abbrev every : List Bool → Bool
-every = list_all (λ b. b)
+module _ (db : Trees) (blank : Bool) where
+  carrier_rows : IsRead Carrier carrier_in db blank → KnownRows carrier_entry (db 0) blank
+  carrier_rows =
+      known Carrier carrier_in carrier_shown (db 0) db blank (plain_answer 0 [] (shown_by Carrier)
+      (overlay db []) [])
 
-four_true : (a b c d : Bool) → every (a ∷ b ∷ c ∷ d ∷ []) ≡ true
-    → (a ≡ true) × ((b ≡ true) × ((c ≡ true) × (d ≡ true)))
-four_true true true true true e = (refl, (refl, (refl, refl)))
-four_true true true true false e = absurd (true≢false (sym e))
-four_true false b c d e = absurd (true≢false (sym e))
-four_true true false c d e = absurd (true≢false (sym e))
-four_true true true false d e = absurd (true≢false (sym e))
+  lrn_rows : IsRead Lrn lrn_row_in db blank → KnownRows lrn_entry (db 2) blank
+  lrn_rows = known Lrn lrn_row_in owner_shown (db 2) db blank (plain_answer 2 [] (shown_by Lrn)
+      (overlay db []) [])
 
-module _ (db : Trees) (is_blank : Bool) where
-  pub broadcasts_read : IsRead Broadcast broadcast_in db is_blank → EachReads broadcast_entry (db 8)
-  broadcasts_read it =
-      each_reads broadcast_in broadcast_shown (db 8) it.1.0 it.0
-      (plain_answer 8 [] (shown_by Broadcast) (overlay db []) [] it.1.0 it.1.1) it.1.2
+  code_rows : IsRead Code code_row_in db blank → KnownRows code_entry (db 3) blank
+  code_rows =
+      known Code code_row_in owner_shown (db 3) db blank (plain_answer 3 [] (shown_by Code)
+      (overlay db []) [])
 
-  pub waits_read : IsRead Wait wait_in db is_blank → EachReads wait_entry (db 10)
-  waits_read it =
-      each_reads wait_in wait_shown (db 10) it.1.0 it.0 (plain_answer 10 [] (shown_by Wait)
-      (overlay db []) [] it.1.0 it.1.1) it.1.2
+  block_rows : IsRead Block block_row_in db blank → KnownRows block_entry (db 4) blank
+  block_rows =
+      known Block block_row_in block_shown (db 4) db blank (plain_answer 4 [] (shown_by Block)
+      (overlay db []) [])
 
-  pub nexts_read : IsRead NextRouting next_row_in db is_blank → EachReads next_entry (db 16)
-  nexts_read it =
-      each_reads next_row_in next_shown (db 16) it.1.0 it.0
-      (plain_answer 16 [] (shown_by NextRouting) (overlay db []) [] it.1.0 it.1.1) it.1.2
+  version_rows : IsRead Version version_in db blank → KnownRows version_entry (db 18) blank
+  version_rows =
+      known Version version_in shown_of (db 18) db blank (plain_answer 18 [] (shown_by Version)
+      (overlay db []) [])
+
+  pub broadcast_rows : IsRead Broadcast broadcast_in db blank
+      → KnownRows broadcast_entry (db 8) blank
+  broadcast_rows =
+      known Broadcast broadcast_in broadcast_shown (db 8) db blank
+      (plain_answer 8 [] (shown_by Broadcast) (overlay db []) [])
+
+  pub wait_rows : IsRead Wait wait_in db blank → KnownRows wait_entry (db 10) blank
+  wait_rows =
+      known Wait wait_in wait_shown (db 10) db blank (plain_answer 10 [] (shown_by Wait)
+      (overlay db []) [])
+
+  clock_rows : IsRead Clock clock_in db blank → KnownRows clock_entry (db 21) blank
+  clock_rows =
+      known Clock clock_in clock_shown (db 21) db blank (plain_answer 21 [] (shown_by Clock)
+      (overlay db []) [])
+
+  pub next_rows : IsRead NextRouting next_row_in db blank → KnownRows next_entry (db 16) blank
+  next_rows =
+      known NextRouting next_row_in next_shown (db 16) db blank
+      (plain_answer 16 [] (shown_by NextRouting) (overlay db []) [])
+
+  set_rows : IsRead WindowSet set_in db blank → KnownRows set_entry (db 17) blank
+  set_rows = known WindowSet set_in set_shown (db 17) db blank
+      (plain_answer 17 [] (shown_by WindowSet) (overlay db []) [])
+
+  old_version_rows : IsRead OldVersion old_version_in db blank
+      → KnownRows old_version_entry (db 5) blank
+  old_version_rows =
+      known OldVersion old_version_in old_shown_of (db 5) db blank
+      (plain_answer 5 [] (shown_by OldVersion) (overlay db []) [])
+
+  old_clock_rows : IsRead OldClock old_clock_in db blank → KnownRows old_clock_entry (db 12) blank
+  old_clock_rows =
+      known OldClock old_clock_in old_clock_shown (db 12) db blank
+      (plain_answer 12 [] (shown_by OldClock) (overlay db []) [])
 
 -- The tables of an earlier schema were read.
 pub moved_read : (db : Trees) (versions : List (ℕ × VersionRow)) (clocks : List (ℕ × ClockRow))
     → IsListAnswer (All OldVersion) old_version_in db [] versions
     → IsListAnswer (All OldClock) old_clock_in db [] clocks → AreMovedRead db
 moved_read db versions clocks at_versions at_clock = record {
-  versions = each_reads old_version_in old_shown_of (db 5) at_versions.0 versions
-      (plain_answer 5 [] (shown_by OldVersion) (overlay db []) [] at_versions.0 at_versions.1)
-      at_versions.2;
-  clock = each_reads old_clock_in old_clock_shown (db 12) at_clock.0 clocks
-      (plain_answer 12 [] (shown_by OldClock) (overlay db []) [] at_clock.0 at_clock.1) at_clock.2;
+  versions = (old_version_rows db false (
+    versions,
+    at_versions,
+    λ e. absurd
+        (true≢false (sym e)),
+  )).each;
+  clock = (old_clock_rows db false (clocks, at_clock, λ e. absurd (true≢false (sym e)))).each;
 }
+
+abbrev every : List Bool → Bool
+every = list_all (λ b. b)
+
+every_first : (b : Bool) (bs : List Bool) → every (b ∷ bs) ≡ true → (b ≡ true) × (every bs ≡ true)
+every_first true bs e = (refl, e)
+every_first false bs e = absurd (true≢false (sym e))
 
 module _ (db : Trees) (a b c d : Bool) where
   module _ (carriers : IsRead Carrier carrier_in db a) (lrns : IsRead Lrn lrn_row_in db b)
       (coded : IsRead Code code_row_in db c) (blocks : IsRead Block block_row_in db d) where
     pub registry_read : AreRegistryRead db
     registry_read = record {
-      carriers = each_reads carrier_in carrier_shown (db 0) carriers.1.0 carriers.0
-          (plain_answer 0 [] (shown_by Carrier) (overlay db []) [] carriers.1.0 carriers.1.1)
-          carriers.1.2;
-      lrns = each_reads lrn_row_in owner_shown (db 2) lrns.1.0 lrns.0
-          (plain_answer 2 [] (shown_by Lrn) (overlay db []) [] lrns.1.0 lrns.1.1) lrns.1.2;
-      codes = each_reads code_row_in owner_shown (db 3) coded.1.0 coded.0
-          (plain_answer 3 [] (shown_by Code) (overlay db []) [] coded.1.0 coded.1.1) coded.1.2;
-      blocks = each_reads block_row_in block_shown (db 4) blocks.1.0 blocks.0
-          (plain_answer 4 [] (shown_by Block) (overlay db []) [] blocks.1.0 blocks.1.1) blocks.1.2;
-    }
-
-    registry_blank : every (a ∷ b ∷ c ∷ d ∷ []) ≡ true → IsRegistryBlank db
-    registry_blank all = let each = four_true a b c d all in record {
-      carriers = is_blank carrier_in carrier_shown (db 0) carriers.1.0 carriers.0
-          (plain_answer 0 [] (shown_by Carrier) (overlay db []) [] carriers.1.0 carriers.1.1)
-          carriers.1.2 (carriers.2 each.0);
-      lrns = is_blank lrn_row_in owner_shown (db 2) lrns.1.0 lrns.0
-          (plain_answer 2 [] (shown_by Lrn) (overlay db []) [] lrns.1.0 lrns.1.1) lrns.1.2
-          (lrns.2 each.1.0);
-      codes = is_blank code_row_in owner_shown (db 3) coded.1.0 coded.0
-          (plain_answer 3 [] (shown_by Code) (overlay db []) [] coded.1.0 coded.1.1) coded.1.2
-          (coded.2 each.1.1.0);
-      blocks = is_blank block_row_in block_shown (db 4) blocks.1.0 blocks.0
-          (plain_answer 4 [] (shown_by Block) (overlay db []) [] blocks.1.0 blocks.1.1) blocks.1.2
-          (blocks.2 each.1.1.1);
+      carriers = (carrier_rows db a carriers).each;
+      lrns = (lrn_rows db b lrns).each;
+      codes = (code_rows db c coded).each;
+      blocks = (block_rows db d blocks).each;
     }
 
     pub registry_told : ReadsRegistry db (every (a ∷ b ∷ c ∷ d ∷ []))
-    registry_told = record { read = registry_read; none = registry_blank }
+    registry_told = record {
+      read = registry_read;
+      none = λ all.
+          let first = every_first a (b ∷ c ∷ d ∷ []) all in
+          let second = every_first b (c ∷ d ∷ []) first.1 in
+          let third = every_first c (d ∷ []) second.1 in
+          record {
+            carriers = (carrier_rows db a carriers).none first.0;
+            lrns = (lrn_rows db b lrns).none second.0;
+            codes = (code_rows db c coded).none third.0;
+            blocks = (block_rows db d blocks).none (every_first d [] third.1).0;
+          };
+    }
 
   module _ (versions : IsRead Version version_in db a) (broadcasts : IsRead Broadcast broadcast_in
       db b) (waits : IsRead Wait wait_in db c) (clock : IsRead Clock clock_in db d) where
-    versions_read : AreVersionsRead db
-    versions_read = record {
-      versions = each_reads version_in shown_of (db 18) versions.1.0 versions.0
-          (plain_answer 18 [] (shown_by Version) (overlay db []) [] versions.1.0 versions.1.1)
-          versions.1.2;
-      broadcasts = broadcasts_read db b broadcasts;
-      waits = waits_read db c waits;
-      clock = each_reads clock_in clock_shown (db 21) clock.1.0 clock.0
-          (plain_answer 21 [] (shown_by Clock) (overlay db []) [] clock.1.0 clock.1.1) clock.1.2;
-    }
-
-    versions_blank : every (a ∷ b ∷ c ∷ d ∷ []) ≡ true → AreVersionsBlank db
-    versions_blank all = let each = four_true a b c d all in record {
-      versions = is_blank version_in shown_of (db 18) versions.1.0 versions.0
-          (plain_answer 18 [] (shown_by Version) (overlay db []) [] versions.1.0 versions.1.1)
-          versions.1.2 (versions.2 each.0);
-      broadcasts = is_blank broadcast_in broadcast_shown (db 8) broadcasts.1.0 broadcasts.0
-          (plain_answer 8 [] (shown_by Broadcast) (overlay db []) [] broadcasts.1.0 broadcasts.1.1)
-          broadcasts.1.2 (broadcasts.2 each.1.0);
-      waits = is_blank wait_in wait_shown (db 10) waits.1.0 waits.0
-          (plain_answer 10 [] (shown_by Wait) (overlay db []) [] waits.1.0 waits.1.1) waits.1.2
-          (waits.2 each.1.1.0);
-      clock = is_blank clock_in clock_shown (db 21) clock.1.0 clock.0
-          (plain_answer 21 [] (shown_by Clock) (overlay db []) [] clock.1.0 clock.1.1) clock.1.2
-          (clock.2 each.1.1.1);
-    }
-
     pub versions_told : ReadsVersions db (every (a ∷ b ∷ c ∷ d ∷ []))
-    versions_told = record { read = versions_read; none = versions_blank }
-
-two_true : (a b : Bool) → every (a ∷ b ∷ []) ≡ true → (a ≡ true) × (b ≡ true)
-two_true true true e = (refl, refl)
-two_true true false e = absurd (true≢false (sym e))
-two_true false b e = absurd (true≢false (sym e))
-
-three_true : (a b c : Bool) → every (a ∷ b ∷ c ∷ []) ≡ true → (a ≡ true) × ((b ≡ true) × (c ≡ true))
-three_true true true true e = (refl, (refl, refl))
-three_true true true false e = absurd (true≢false (sym e))
-three_true true false c e = absurd (true≢false (sym e))
-three_true false b c e = absurd (true≢false (sym e))
+    versions_told = record {
+      read = record {
+        versions = (version_rows db a versions).each;
+        broadcasts = (broadcast_rows db b broadcasts).each;
+        waits = (wait_rows db c waits).each;
+        clock = (clock_rows db d clock).each;
+      };
+      none = λ all.
+          let first = every_first a (b ∷ c ∷ d ∷ []) all in
+          let second = every_first b (c ∷ d ∷ []) first.1 in
+          let third = every_first c (d ∷ []) second.1 in
+          record {
+            versions = (version_rows db a versions).none first.0;
+            broadcasts = (broadcast_rows db b broadcasts).none second.0;
+            waits = (wait_rows db c waits).none third.0;
+            clock = (clock_rows db d clock).none (every_first d [] third.1).0;
+          };
+    }
 
 module _ (db : Trees) (a b : Bool) where
-  module _ (nexts : IsRead NextRouting next_row_in db a) (sets : IsRead WindowSet set_in db b) where
-    pub added_told : ReadsAdded db (every (a ∷ b ∷ []))
-    added_told = record {
-      read = record {
-        nexts = nexts_read db a nexts;
-        sets = each_reads set_in set_shown (db 17) sets.1.0 sets.0
-            (plain_answer 17 [] (shown_by WindowSet) (overlay db []) [] sets.1.0 sets.1.1) sets.1.2;
-      };
-      none = λ all. let each = two_true a b all in record {
-        nexts = is_blank next_row_in next_shown (db 16) nexts.1.0 nexts.0
-            (plain_answer 16 [] (shown_by NextRouting) (overlay db []) [] nexts.1.0 nexts.1.1)
-            nexts.1.2 (nexts.2 each.0);
-        sets = is_blank set_in set_shown (db 17) sets.1.0 sets.0
-            (plain_answer 17 [] (shown_by WindowSet) (overlay db []) [] sets.1.0 sets.1.1) sets.1.2
-            (sets.2 each.1);
-      };
-    }
+  pub added_told : IsRead NextRouting next_row_in db a → IsRead WindowSet set_in db b
+      → ReadsAdded db (every (a ∷ b ∷ []))
+  added_told nexts sets = record {
+    read = record { nexts = (next_rows db a nexts).each; sets = (set_rows db b sets).each };
+    none = λ all. let first = every_first a (b ∷ []) all in record {
+      nexts = (next_rows db a nexts).none first.0;
+      sets = (set_rows db b sets).none (every_first b [] first.1).0;
+    };
+  }
 
   pub moved_told : IsRead OldVersion old_version_in db a → IsRead OldClock old_clock_in db b
       → every (a ∷ b ∷ []) ≡ true → IsMoved db
-  moved_told versions clock all = let each = two_true a b all in record {
-    versions = is_blank old_version_in old_shown_of (db 5) versions.1.0 versions.0
-        (plain_answer 5 [] (shown_by OldVersion) (overlay db []) [] versions.1.0 versions.1.1)
-        versions.1.2 (versions.2 each.0);
-    clock = is_blank old_clock_in old_clock_shown (db 12) clock.1.0 clock.0
-        (plain_answer 12 [] (shown_by OldClock) (overlay db []) [] clock.1.0 clock.1.1) clock.1.2
-        (clock.2 each.1);
+  moved_told versions clock all = let first = every_first a (b ∷ []) all in record {
+    versions = (old_version_rows db a versions).none first.0;
+    clock = (old_clock_rows db b clock).none (every_first b [] first.1).0;
   }
 
 none_over : (more : FinMap nat_cmp Routing) → over rerouted (empty {X = VersionRow} {R = nat_cmp})
@@ -250,6 +269,9 @@ all_told db a b c registry versions added moved = record {
     added = added.read;
     moved = moved;
   };
-  none = λ all. let each = three_true a b c all in
-      blank_is_empty db (registry.none each.0) (versions.none each.1.0) (added.none each.1.1);
+  none = λ all.
+      let first = every_first a (b ∷ c ∷ []) all in
+      let second = every_first b (c ∷ []) first.1 in
+      blank_is_empty db (registry.none first.0) (versions.none second.0)
+      (added.none (every_first c [] second.1).0);
 }

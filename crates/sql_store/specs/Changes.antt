@@ -97,8 +97,8 @@ singles ch row c =
 -- The content with all other rows written, and then rows deleted.
 abbrev pub lists : Changes → Content → Content
 lists ch c =
-    all_made (λ k. without_wait (wait_key_of k)) (items_of ch.taken_waits)
-    (all_made (λ k. without_broadcast (broadcast_key_of k)) (items_of ch.taken_broadcasts)
+    all_made (λ k. without_wait (wait_key_of k)) (items_of ch.deleted_waits)
+    (all_made (λ k. without_broadcast (broadcast_key_of k)) (items_of ch.deleted_broadcasts)
     (all_made (λ e. with_wait (wait_key_of e.0) (subject_of e.1)) ch.waits.items
     (all_made (λ e. with_broadcast (broadcast_key_of e.0) (broadcast_row_of e.1))
     (items_of ch.broadcasts) (replaced (items_of ch.versions) c))))

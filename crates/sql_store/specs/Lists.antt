@@ -3,20 +3,19 @@ use Rattle.std.specs.Prelude.{ℕ, ◌==◌, Bool, ◌&&◌, List}
 use Rattle.std.specs.List.{list_any}
 use Rattle.numbers.specs.declared.spid.Spid.{Spid}
 use Rattle.delivery.specs.declared.download.DownloadKey.{DownloadKey}
-use Rattle.delivery.specs.declared.broadcast.Broadcast.{Broadcast}
-use Rattle.settle.specs.declared.rows.BroadcastKey.{BroadcastKey}
-use Rattle.sql_rows.specs.declared.keyed.KeyedBroadcast.{KeyedBroadcast}
-use Rattle.sql_rows.specs.declared.keyed.KeyedWait.{KeyedWait}
+use Rattle.numbers.specs.declared.ported.Subject.{Subject}
+use Rattle.settle.specs.declared.rows.WaitKey.{WaitKey}
+
+-- A pending download, and its subject.
+abbrev pub WaitRow : Type 0
+WaitRow = WaitKey × Subject
 
 -- The download of a row.
-abbrev pub download_of : KeyedWait → DownloadKey
-download_of w = record { minute = w.key.minute; id = w.key.id; attempt = w.key.attempt }
+abbrev pub download_of : WaitRow → DownloadKey
+download_of w = record { minute = w.0.minute; id = w.0.id; attempt = w.0.attempt }
 
 -- Whether a download of that minute for the carrier is among the rows.
-abbrev pub is_waiting : List KeyedWait → (minute : ℕ) → Spid → Bool
+abbrev pub is_waiting : List WaitRow → (minute : ℕ) → Spid → Bool
 is_waiting waits minute carrier =
-    list_any (λ (w : KeyedWait). (w.key.minute.number == minute)
-    && (w.key.carrier.number == carrier.number)) waits
-
-abbrev pub pair_of : KeyedBroadcast → BroadcastKey × Broadcast
-pair_of b = (b.key, b.broadcast)
+    list_any (λ (w : WaitRow). (w.0.minute.number == minute)
+    && (w.0.carrier.number == carrier.number)) waits

@@ -80,18 +80,18 @@ pub record IsCarried (f : SchemaVersion) (old new : Trees) : Type 0 where
   pub over : IsCarriedOver f old new
 
 -- Holds if the windows are those of the file, if it has a clock.
-abbrev pub WereItsWindows : Windows → Trees → Type 0
-WereItsWindows w db = (c : ClockRow) → old_clock (db 12) ≡ Some c → c.present.windows ≡ w
+abbrev pub HasTheseWindows : Windows → Trees → Type 0
+HasTheseWindows w db = (c : ClockRow) → old_clock (db 12) ≡ Some c → c.present.windows ≡ w
 
 -- Holds if the file has a clock, and other windows.
-abbrev pub WereOtherWindows : Windows → Trees → Type 0
-WereOtherWindows w db = (c : ClockRow) × (old_clock (db 12) ≡ Some c) × (c.present.windows ≢ w)
+abbrev pub HasDifferentWindows : Windows → Trees → Type 0
+HasDifferentWindows w db = (c : ClockRow) × (old_clock (db 12) ≡ Some c) × (c.present.windows ≢ w)
 
 -- Holds if the file was migrated from this schema: these windows are its own, and every row was
 -- read.
 pub record IsMovedFrom (f : SchemaVersion) (w : Windows) (old new : Trees) : Type 0 where
   pub staying : AreStayingRead f old
-  pub windows : WereItsWindows w old
+  pub windows : HasTheseWindows w old
   pub carried : IsCarried f old new
 
 -- Holds if the call migrated the file or left it unchanged, and a crash leaves either.
@@ -195,8 +195,8 @@ pub record ArePutBut (left whole : List ℕ) (old new : Database) : Type 0 where
   pub frame : IsFrame Version old.trees new.trees
 
 -- Holds if the version with this id was deleted from the table of earlier schemas.
-abbrev pub IsOldTaken : ℕ → Database → Database → Type 0
-IsOldTaken id = Removed OldTable (Int (pos id) ∷ [])
+abbrev pub IsOldDeleted : ℕ → Database → Database → Type 0
+IsOldDeleted id = Removed OldTable (Int (pos id) ∷ [])
 
 -- Holds if rows may have been deleted from the table of earlier schemas, and all other tables stay.
 pub record AreOldRowsDeleted (old new : Database) : Type 0 where

@@ -12,8 +12,8 @@ use Rattle.sql_rows.specs.Migration.{schema_of}
 use Rattle.sql_rows.specs.Shaped.{AreShaped}
 use Rattle.sql_rows.specs.Tables.{no_schema, the_schema}
 use Rattle.sql_rows.specs.declared.migration.SchemaVersion.{SchemaVersion}
-use Rattle.sql_store.specs.Migration.{AreOldShaped, IsMovedFrom, HasKnownSchema, WereOtherWindows}
-use Rattle.sql_store.specs.Refusal.{IsCleanYet, StandsYet, may_leave_of, trees_of}
+use Rattle.sql_store.specs.Migration.{AreOldShaped, IsMovedFrom, HasKnownSchema, HasDifferentWindows}
+use Rattle.sql_store.specs.Refusal.{IsLeftClean, IsLeftUsable, may_leave_of, trees_of}
 use Rattle.sql_store.specs.Whole.{IsWhole}
 use Rattle.sql_store.specs.declared.file_fault.FileFault.{FileFault}
 use Rattle.sql_store.specs.declared.file_fault.FileFault.TheVariants.{WindowsDiffer}
@@ -32,7 +32,7 @@ pub record WasOpened (s : State) : Type 0 where
 pub record HadOtherWindows (w : Windows) (db : Trees) : Type 0 where
   pub form : SchemaVersion
   pub sound : IsSound (schema_of form) db
-  pub others : WereOtherWindows w db
+  pub others : HasDifferentWindows w db
 
 -- ---- databases that are taken
 
@@ -59,7 +59,7 @@ IsCrashStateOfOpen w db left = (left ≡ db) ⊎ ((f : SchemaVersion) × IsSound
 -- it might leave before, or its migration. `WindowsDiffer` implies other windows.
 pub record IsRefusedAs {S : Type 0} (g : Ghosts S) (w : Windows) (db : Trees) (fault : FileFault)
     (left : Refused S) : Type 0 where
-  pub kept : ¬ IsSound no_schema db → StandsYet g left → trees_of g left ≡ db
-  pub crash : ¬ IsSound no_schema db → IsCleanYet g left → (trees : Trees)
+  pub kept : ¬ IsSound no_schema db → IsLeftUsable g left → trees_of g left ≡ db
+  pub crash : ¬ IsSound no_schema db → IsLeftClean g left → (trees : Trees)
       → may_leave_of g left trees → IsCrashStateOfOpen w db trees
-  pub differ : fault ≡ WindowsDiffer → StandsYet g left → HadOtherWindows w db
+  pub differ : fault ≡ WindowsDiffer → IsLeftUsable g left → HadOtherWindows w db

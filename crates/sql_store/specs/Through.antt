@@ -21,9 +21,9 @@ HasReadAll {X} read sql old new P = (rows : List Row) × (xs : List X) × Shown 
     × AreRead read rows xs × P xs
 
 -- Holds if `blank` implies that there are none.
-abbrev pub TellsNone : {X : Type 0} → Bool → List X → Type 0
-TellsNone blank xs = blank ≡ true → xs ≡ []
+abbrev pub BlankMeansNone : {X : Type 0} → Bool → List X → Type 0
+BlankMeansNone blank xs = blank ≡ true → xs ≡ []
 
 -- Holds if nothing was read, or reading changed nothing.
-abbrev pub Unmoved : {S : Type 0} → Ghosts S → (old new : Held S) → Type 0
-Unmoved g old new = (new ≡ old) ⊎ IsUnchanged (state g old) (state g new)
+abbrev pub IsOnlyRead : {S : Type 0} → Ghosts S → (old new : Held S) → Type 0
+IsOnlyRead g old new = (new ≡ old) ⊎ IsUnchanged (state g old) (state g new)

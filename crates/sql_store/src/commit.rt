@@ -82,7 +82,7 @@ fn put_waits<S: Alter>(
     Ok(())
 }
 
-fn take_broadcasts<S: Alter>(
+fn delete_broadcasts<S: Alter>(
     tx: &mut Transaction<'_, S>,
     keys: &[BroadcastKey],
 ) -> Result<(), Fault>
@@ -97,7 +97,7 @@ fn take_broadcasts<S: Alter>(
     Ok(())
 }
 
-fn take_waits<S: Alter>(tx: &mut Transaction<'_, S>, keys: &[WaitKey]) -> Result<(), Fault>
+fn delete_waits<S: Alter>(tx: &mut Transaction<'_, S>, keys: &[WaitKey]) -> Result<(), Fault>
     ensures same_reference { tx.new.conn.ghost_name ≡ tx.old.conn.ghost_name }
     ensures applies { AppliesInTransaction (state S.Store tx.old.conn.now)
         (state S.Store tx.new.conn.now)
@@ -239,8 +239,8 @@ fn write_lists<S: Alter>(tx: &mut Transaction<'_, S>, changes: &Changes) -> Resu
     put_versions(tx, changes.versions.as_slice())?;
     put_broadcasts(tx, changes.broadcasts.as_slice())?;
     put_waits(tx, changes.waits.as_slice())?;
-    take_broadcasts(tx, changes.taken_broadcasts.as_slice())?;
-    take_waits(tx, changes.taken_waits.as_slice())?;
+    delete_broadcasts(tx, changes.deleted_broadcasts.as_slice())?;
+    delete_waits(tx, changes.deleted_waits.as_slice())?;
     Ok(())
 }
 

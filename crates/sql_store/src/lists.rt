@@ -8,7 +8,7 @@ ghost use Rattle.settle.specs.Abstraction.{broadcast_key_of, spid_of, wait_key_o
 ghost use Rattle.std.specs.List.Sorted.{IsPermutation, IsStrictlySortedBy};
 ghost use Rattle.model.specs.Content.{broadcast_cmp};
 ghost use Rattle.settle.specs.Reads.{AreWaitingSubjects, AreCarriers, AreOpenBroadcasts, AreWaiters, AreWaitsAbout, is_last_wait};
-ghost use Rattle.sql_store.specs.Lists.{download_of, is_waiting, pair_of};
+ghost use Rattle.sql_store.specs.Lists.{download_of, is_waiting};
 ghost use Rattle.sql_store.specs.Store.{HasStoreTables, HasQueried, content_at};
 
 use crate::database::Database;
@@ -17,9 +17,7 @@ use crate::select::find_all;
 use delivery::{Broadcast, DownloadKey};
 use numbers::{Minute, Spid, Subject};
 use settle::{BroadcastKey, Few, WaitKey};
-use sql_rows::{
-    Fault, KeyedBroadcast, KeyedWait, Query, Table, broadcast_key, spid_bytes, subject, text, truth,
-};
+use sql_rows::{Fault, Query, Table, broadcast_key, spid_bytes, subject, text, truth};
 use sqlite::Alter;
 use std::alloc::Global;
 
@@ -35,26 +33,29 @@ pub(crate) fn carriers<S: Alter>(db: &mut Database<S>) -> Result<Vec<Spid>, Faul
     Ok(carriers)
 }
 
-pub(crate) fn downloads_of(alloc: Global, waits: &[KeyedWait]) -> Result<Vec<DownloadKey>, Fault>
+pub(crate) fn downloads_of(
+    alloc: Global,
+    waits: &[(WaitKey, Subject)],
+) -> Result<Vec<DownloadKey>, Fault>
     ensures { IfOk result (λ downloads. downloads.items ≡ map download_of waits.now) }
 {
     let mut downloads = Vec::with_capacity(alloc, waits.len())?;
-    for wait in waits {
+    for (key, _) in waits {
         downloads.push(DownloadKey {
-            minute: wait.key.minute,
-            id: wait.key.id,
-            attempt: wait.key.attempt,
+            minute: key.minute,
+            id: key.id,
+            attempt: key.attempt,
         })?;
     }
     Ok(downloads)
 }
 
-fn subjects_of(alloc: Global, waits: &[KeyedWait]) -> Result<Vec<Subject>, Fault>
-    ensures { IfOk result (λ subjects. subjects.items ≡ map (λ w. w.subject) waits.now) }
+fn subjects_of(alloc: Global, waits: &[(WaitKey, Subject)]) -> Result<Vec<Subject>, Fault>
+    ensures { IfOk result (λ subjects. subjects.items ≡ map (λ w. w.1) waits.now) }
 {
     let mut subjects = Vec::with_capacity(alloc, waits.len())?;
-    for wait in waits {
-        subjects.push(wait.subject)?;
+    for (_, subject) in waits {
+        subjects.push(*subject)?;
     }
     Ok(subjects)
 }
@@ -72,7 +73,7 @@ pub(crate) fn waits_about<S: Alter>(
 {
     let bytes = spid_bytes(spid.number);
     let params = [subject(of), text(&bytes)];
-    let waits: Vec<KeyedWait> = find_all(db, Query::WaitsAbout, &params)?;
+    let waits: Vec<(WaitKey, Subject)> = find_all(db, Query::WaitsAbout, &params)?;
     let mut downloads = downloads_of(*waits.allocator(), waits.as_slice())?;
     put_in_order(&mut downloads);
     Ok(Few::Many(downloads))
@@ -87,22 +88,24 @@ pub(crate) fn waits<S: Alter>(db: &mut Database<S>, spid: Spid) -> Result<Vec<Su
     ensures queried { HasQueried (state S.Store db.old.conn) (state S.Store db.new.conn) (is_ok result) }
 {
     let bytes = spid_bytes(spid.number);
-    let waits: Vec<KeyedWait> = find_all(db, Query::WaitsFor, &[text(&bytes)])?;
+    let waits: Vec<(WaitKey, Subject)> = find_all(db, Query::WaitsFor, &[text(&bytes)])?;
     let mut subjects = subjects_of(*waits.allocator(), waits.as_slice())?;
     put_in_order(&mut subjects);
     Ok(subjects)
 }
 
-fn is_waiting(waits: &[KeyedWait], minute: Minute, carrier: Spid) -> bool
+fn is_waiting(waits: &[(WaitKey, Subject)], minute: Minute, carrier: Spid) -> bool
     ensures { result ≡ is_waiting waits.now minute.number carrier }
 {
-    waits.iter().any(|wait| wait.key.minute == minute && wait.key.carrier == carrier)
+    waits
+        .iter()
+        .any(|(key, _)| key.minute == minute && key.carrier == carrier)
 }
 
 fn waiting_among(
     alloc: Global,
     carriers: &[Spid],
-    waits: &[KeyedWait],
+    waits: &[(WaitKey, Subject)],
     minute: Minute,
 ) -> Result<Vec<Spid>, Fault>
     ensures { IfOk result (λ waiters.
@@ -134,7 +137,7 @@ pub(crate) fn waiters<S: Alter>(
     if key.id >= 9_223_372_036_854_775_808 || key.attempt >= 9_223_372_036_854_775_808 {
         return Ok(Vec::new(alloc));
     }
-    let waits: Vec<KeyedWait> = find_all(db, Query::WaitsOf, &broadcast_key(key))?;
+    let waits: Vec<(WaitKey, Subject)> = find_all(db, Query::WaitsOf, &broadcast_key(key))?;
     let waiters = waiting_among(alloc, carriers.as_slice(), waits.as_slice(), minute)?;
     Ok(waiters)
 }
@@ -159,19 +162,6 @@ pub(crate) fn is_last_wait<S: Alter>(db: &mut Database<S>, wait: WaitKey) -> Res
     };
     let waiters = waiters(db, wait.minute, key)?;
     Ok(are_all(waiters.as_slice(), wait.carrier))
-}
-
-fn pairs_of(
-    alloc: Global,
-    broadcasts: &[KeyedBroadcast],
-) -> Result<Vec<(BroadcastKey, Broadcast)>, Fault>
-    ensures { IfOk result (λ pairs. pairs.items ≡ map pair_of broadcasts.now) }
-{
-    let mut pairs = Vec::with_capacity(alloc, broadcasts.len())?;
-    for broadcast in broadcasts {
-        pairs.push((broadcast.key, broadcast.broadcast))?;
-    }
-    Ok(pairs)
 }
 
 fn rise(broadcasts: &[(BroadcastKey, Broadcast)]) -> bool
@@ -203,8 +193,11 @@ pub(crate) fn open_broadcasts<S: Alter>(
         broadcasts.items) }
     ensures queried { HasQueried (state S.Store db.old.conn) (state S.Store db.new.conn) (is_ok result) }
 {
-    let found: Vec<KeyedBroadcast> = find_all(db, Query::BroadcastsByOpen, &[truth(true)])?;
-    let mut broadcasts = pairs_of(*found.allocator(), found.as_slice())?;
+    let mut broadcasts: Vec<(BroadcastKey, Broadcast)> = find_all(
+        db,
+        Query::BroadcastsByOpen,
+        &[truth(true)],
+    )?;
     put_in_order_by_key(&mut broadcasts);
     if !rise(broadcasts.as_slice()) {
         return Err(Fault::Device);

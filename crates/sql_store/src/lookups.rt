@@ -21,10 +21,7 @@ use delivery::Broadcast;
 use model::{Send, Status};
 use numbers::{BlockId, CodeId, Lrn, Minute, Routing, Spid, Subject};
 use settle::{BlockRow, BroadcastKey, ClockRow, NumberedRow, VersionRow};
-use sql_rows::{
-    Fault, KeyedBlock, KeyedBroadcast, KeyedClock, KeyedCode, KeyedLrn, KeyedRouting, KeyedSet,
-    Query, StoredClock, minute, number, spid_bytes, subject, text,
-};
+use sql_rows::{Fault, Query, StoredClock, minute, number, spid_bytes, subject, text};
 use sqlite::Alter;
 use sqlite::types::ValueRef;
 use version::Version;
@@ -49,29 +46,23 @@ pub(crate) fn lrn<S: Alter>(db: &mut Database<S>, lrn: Lrn) -> Result<Option<Spi
         (lrn_of lrn)) }
     ensures queried { HasQueried (state S.Store db.old.conn) (state S.Store db.new.conn) (is_ok result) }
 {
-    let found: Option<KeyedLrn> = find(db, Query::LrnNumbered, &[number(lrn.number)])?;
-    match found {
-        Some(found) => Ok(Some(found.owner)),
-        None => Ok(None),
-    }
+    let found: Option<(Lrn, Spid)> = find(db, Query::LrnNumbered, &[number(lrn.number)])?;
+    Ok(found.map(|(_, owner)| owner))
 }
 
-/// Returns the carrier for which `code` was opened, if it was.
+/// Returns the carrier that holds `code`, if the code is open.
 pub(crate) fn code<S: Alter>(db: &mut Database<S>, code: CodeId) -> Result<Option<Spid>, Fault>
     ensures value { IsTrue (state S.Store db.new.conn).is_open
         → IfOk result (λ o. option_map spid_of o ≡ get (content_at (state S.Store db.old.conn)).codes
         (code_of code)) }
     ensures queried { HasQueried (state S.Store db.old.conn) (state S.Store db.new.conn) (is_ok result) }
 {
-    let found: Option<KeyedCode> = find(
+    let found: Option<(CodeId, Spid)> = find(
         db,
         Query::CodeNumbered,
         &[number(u64::from(code.number))],
     )?;
-    match found {
-        Some(found) => Ok(Some(found.owner)),
-        None => Ok(None),
-    }
+    Ok(found.map(|(_, owner)| owner))
 }
 
 /// Returns the row of `block`, if the block has been donated.
@@ -84,15 +75,12 @@ pub(crate) fn block<S: Alter>(
         db.old.conn)).blocks (block_of block)) }
     ensures queried { HasQueried (state S.Store db.old.conn) (state S.Store db.new.conn) (is_ok result) }
 {
-    let found: Option<KeyedBlock> = find(
+    let found: Option<(BlockId, BlockRow)> = find(
         db,
         Query::BlockNumbered,
         &[number(u64::from(block.number))],
     )?;
-    match found {
-        Some(found) => Ok(Some(found.row)),
-        None => Ok(None),
-    }
+    Ok(found.map(|(_, row)| row))
 }
 
 /// Returns the windows of set `of`, if there is one.
@@ -103,11 +91,8 @@ pub(crate) fn window_set<S: Alter>(db: &mut Database<S>, of: u16) -> Result<Opti
     ensures queried { HasQueried (state S.Store db.old.conn) (state S.Store db.new.conn) (is_ok result) }
 {
     let params = [number(u64::from(of))];
-    let found: Option<KeyedSet> = find(db, Query::WindowSetNumbered, &params)?;
-    match found {
-        Some(found) => Ok(Some(found.set.windows)),
-        None => Ok(None),
-    }
+    let found: Option<WindowSet> = find(db, Query::WindowSetNumbered, &params)?;
+    Ok(found.map(|set| set.windows))
 }
 
 // Returns the clock's row as stored.
@@ -117,11 +102,8 @@ fn stored_clock<S: Alter>(db: &mut Database<S>) -> Result<Option<StoredClock>, F
         ≡ get (clocks_in ((state S.Store db.old.conn).now.trees 21)) 0) }
     ensures queried { HasQueried (state S.Store db.old.conn) (state S.Store db.new.conn) (is_ok result) }
 {
-    let found: Option<KeyedClock> = find(db, Query::ClockNumbered, &[number(0)])?;
-    match found {
-        Some(found) => Ok(Some(found.row)),
-        None => Ok(None),
-    }
+    let found: Option<(u64, StoredClock)> = find(db, Query::ClockNumbered, &[number(0)])?;
+    Ok(found.map(|(_, row)| row))
 }
 
 /// Returns the clock's row, if it has been written, with the windows of the set that it names.
@@ -161,11 +143,8 @@ fn next_routing<S: Alter>(db: &mut Database<S>, id: u64) -> Result<Option<Routin
         clock(db)?;
         return Ok(None);
     }
-    let found: Option<KeyedRouting> = find(db, Query::NextRoutingNumbered, &[number(id)])?;
-    match found {
-        Some(found) => Ok(Some(found.routing)),
-        None => Ok(None),
-    }
+    let found: Option<(u64, Routing)> = find(db, Query::NextRoutingNumbered, &[number(id)])?;
+    Ok(found.map(|(_, routing)| routing))
 }
 
 fn is_modified(status: Status) -> bool
@@ -242,10 +221,7 @@ pub(crate) fn version<S: Alter>(db: &mut Database<S>, id: u64) -> Result<Option<
         return Ok(None);
     }
     let found = find_whole(db, Query::VersionNumbered, &[number(id)])?;
-    match found {
-        Some(found) => Ok(Some(found.row)),
-        None => Ok(None),
-    }
+    Ok(found.map(|version| version.row))
 }
 
 /// Returns the version of `of` that is in force, if there is one.
@@ -303,9 +279,6 @@ pub(crate) fn broadcast<S: Alter>(
         return Ok(None);
     }
     let params = [number(key.id), number(key.attempt)];
-    let found: Option<KeyedBroadcast> = find(db, Query::BroadcastKeyed, &params)?;
-    match found {
-        Some(found) => Ok(Some(found.broadcast)),
-        None => Ok(None),
-    }
+    let found: Option<(BroadcastKey, Broadcast)> = find(db, Query::BroadcastKeyed, &params)?;
+    Ok(found.map(|(_, broadcast)| broadcast))
 }

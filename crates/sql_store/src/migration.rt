@@ -4,7 +4,7 @@ ghost use Rattle.sqlite.specs.Given.{HasGiven, IsPlain};
 ghost use Rattle.sqlite.specs.Listing.{understood};
 ghost use Rattle.sqlite.specs.State.{HasCleanDisk, IsRolledBack, Survives};
 ghost use Rattle.sql_rows.specs.Versions.{old_version_in};
-ghost use Rattle.sql_store.specs.Through.{HasReadAll, Unmoved};
+ghost use Rattle.sql_store.specs.Through.{HasReadAll, IsOnlyRead};
 ghost use Rattle.sqlite.specs.Held.{state};
 ghost use Rattle.sqlite.specs.Program.{overlay};
 ghost use Rattle.sqlite.specs.Query.{IsAnswer};
@@ -14,7 +14,7 @@ ghost use Rattle.sql_rows.specs.Migration.{IsCleared, IsMade, IsTableOf, schema_
 ghost use Rattle.sql_store.specs.Changes.{if_some, with_set};
 ghost use Rattle.sql_rows.specs.Content.{stored_clock};
 ghost use Rattle.version.specs.Abstraction.{windows_of};
-ghost use Rattle.sql_store.specs.Migration.{MigratesInTransaction, AreIdsOf, ArePutBut, HasIds, AreStayingRead, IsBarePut, IsBegun, IsBegunAs, IsCarried, AreRowsCopied, AreTablesCreated, IsIndexed, IsMovedFrom, HasSchemaVersion, IsOldPut, IsOldTaken, IsMigrated, AreTreesMigrated, IsSentRead, AreOldRowsDeleted, HasMigrated, WereItsWindows, WereOtherWindows};
+ghost use Rattle.sql_store.specs.Migration.{MigratesInTransaction, AreIdsOf, ArePutBut, HasIds, AreStayingRead, IsBarePut, IsBegun, IsBegunAs, IsCarried, AreRowsCopied, AreTablesCreated, IsIndexed, IsMovedFrom, HasSchemaVersion, IsOldPut, IsOldDeleted, IsMigrated, AreTreesMigrated, IsSentRead, AreOldRowsDeleted, HasMigrated, HasTheseWindows, HasDifferentWindows};
 ghost use Rattle.sql_store.specs.Store.{HasQueried, AppliesInTransaction, WritesInTransaction};
 ghost use Rattle.sql_store.specs.Whole.{AreRegistryRead, IsRead};
 
@@ -22,12 +22,12 @@ use crate::change::{replace, take};
 use crate::file_fault::FileFault;
 use crate::rows::put_set;
 use crate::through::{next_read, read_table};
-use numbers::Spid;
-use settle::VersionRow;
+use delivery::Broadcast;
+use numbers::{BlockId, CodeId, Lrn, Routing, Spid, Subject};
+use settle::{BlockRow, BroadcastKey, VersionRow, WaitKey};
 use sql_rows::{
-    Fault, FromRow, KeyedBlock, KeyedBroadcast, KeyedCode, KeyedLrn, KeyedRouting, KeyedWait,
-    NewTable, OldClock, OldTable, OldVersion, Query, SchemaVersion, StoredClock, Table, all, fits,
-    index_text, number, sole, spid_bytes, version_params,
+    Fault, FromRow, NewTable, OldClock, OldTable, OldVersion, Query, SchemaVersion, StoredClock,
+    Table, all, fits, index_text, number, sole, spid_bytes, version_params,
 };
 use sqlite::{Alter, Connection, Row, Rows, Transaction};
 use std::alloc::Global;
@@ -173,10 +173,10 @@ fn clear<S: Alter>(tx: &mut Transaction<'_, S>, table: OldTable) -> Result<(), F
 }
 
 // Deletes the version with this id from the table of earlier schemas.
-fn take_old<S: Alter>(tx: &mut Transaction<'_, S>, id: u64) -> Result<(), Fault>
+fn delete_old<S: Alter>(tx: &mut Transaction<'_, S>, id: u64) -> Result<(), Fault>
     ensures same_reference { tx.new.conn.ghost_name ≡ tx.old.conn.ghost_name }
     ensures writes { WritesInTransaction (state S.Store tx.old.conn.now)
-        (state S.Store tx.new.conn.now) (is_ok result) (IsOldTaken id) }
+        (state S.Store tx.new.conn.now) (is_ok result) (IsOldDeleted id) }
 {
     if id >= 9223372036854775808 {
         return Err(Fault::Device);
@@ -185,13 +185,13 @@ fn take_old<S: Alter>(tx: &mut Transaction<'_, S>, id: u64) -> Result<(), Fault>
 }
 
 // Deletes the versions with these ids from the table of earlier schemas, one at a time.
-fn take_each<S: Alter>(tx: &mut Transaction<'_, S>, ids: &[u64]) -> Result<(), Fault>
+fn delete_each<S: Alter>(tx: &mut Transaction<'_, S>, ids: &[u64]) -> Result<(), Fault>
     ensures same_reference { tx.new.conn.ghost_name ≡ tx.old.conn.ghost_name }
     ensures writes { WritesInTransaction (state S.Store tx.old.conn.now)
         (state S.Store tx.new.conn.now) (is_ok result) AreOldRowsDeleted }
 {
     for id in ids {
-        take_old(tx, *id)?;
+        delete_old(tx, *id)?;
     }
     Ok(())
 }
@@ -203,7 +203,7 @@ fn clear_versions<S: Alter>(tx: &mut Transaction<'_, S>, ids: &[u64]) -> Result<
     ensures writes { WritesInTransaction (state S.Store tx.old.conn.now)
         (state S.Store tx.new.conn.now) (is_ok result) (IsCleared OldTable.Version) }
 {
-    take_each(tx, ids)?;
+    delete_each(tx, ids)?;
     clear(tx, OldTable::Version)?;
     Ok(())
 }
@@ -313,7 +313,7 @@ fn ids_among<S: Alter>(alloc: Global, rows: &mut Rows<'_, S>) -> Result<Vec<u64>
         → HasReadAll old_version_in sql (state S.Store rows.old.conn.now)
         (state S.Store rows.new.conn.now) (AreIdsOf ids.items)) }
     ensures err { HasCleanDisk (state S.Store rows.new.conn.now) → OnErr result
-        (Unmoved S.Store rows.old.conn.now rows.new.conn.now
+        (IsOnlyRead S.Store rows.old.conn.now rows.new.conn.now
         ⊎ IsRolledBack (state S.Store rows.old.conn.now) (state S.Store rows.new.conn.now)) }
     ensures mode { rows.old.conn.now.in_transaction ≡ false
         → rows.new.conn.now.in_transaction ≡ false }
@@ -385,9 +385,9 @@ fn see_registry<S: Alter>(
     ensures idle { conn.new.in_transaction ≡ false }
 {
     see::<Spid, S>(conn, schema_version, Table::Carrier)?;
-    see::<KeyedLrn, S>(conn, schema_version, Table::Lrn)?;
-    see::<KeyedCode, S>(conn, schema_version, Table::Code)?;
-    see::<KeyedBlock, S>(conn, schema_version, Table::Block)?;
+    see::<(Lrn, Spid), S>(conn, schema_version, Table::Lrn)?;
+    see::<(CodeId, Spid), S>(conn, schema_version, Table::Code)?;
+    see::<(BlockId, BlockRow), S>(conn, schema_version, Table::Block)?;
     Ok(())
 }
 
@@ -403,12 +403,12 @@ fn see_sent<S: Alter>(conn: &mut Connection<S>, schema_version: SchemaVersion) -
     ensures queried { HasQueried (state S.Store conn.old) (state S.Store conn.new) (is_ok result) }
     ensures idle { conn.new.in_transaction ≡ false }
 {
-    see::<KeyedBroadcast, S>(conn, schema_version, Table::Broadcast)?;
-    see::<KeyedWait, S>(conn, schema_version, Table::Wait)?;
+    see::<(BroadcastKey, Broadcast), S>(conn, schema_version, Table::Broadcast)?;
+    see::<(WaitKey, Subject), S>(conn, schema_version, Table::Wait)?;
     let SchemaVersion::Modify = schema_version else {
         return Ok(());
     };
-    see::<KeyedRouting, S>(conn, SchemaVersion::Modify, Table::NextRouting)?;
+    see::<(u64, Routing), S>(conn, SchemaVersion::Modify, Table::NextRouting)?;
     Ok(())
 }
 
@@ -443,10 +443,10 @@ fn has_windows<S: Alter>(
         → HasSchemaVersion schema_version (state S.Store conn.old) }
     requires idle { conn.old.in_transaction ≡ false }
     ensures own { IsTrue (state S.Store conn.new).is_open → IfOk result (λ are_own. IsTrue are_own
-        → WereItsWindows (windows_of windows.now) (state S.Store conn.old).now.trees) }
+        → HasTheseWindows (windows_of windows.now) (state S.Store conn.old).now.trees) }
     ensures others { IsTrue (state S.Store conn.new).is_open → IfOk result (λ are_own.
         are_own ≡ false
-        → WereOtherWindows (windows_of windows.now) (state S.Store conn.old).now.trees) }
+        → HasDifferentWindows (windows_of windows.now) (state S.Store conn.old).now.trees) }
     ensures queried { HasQueried (state S.Store conn.old) (state S.Store conn.new) (is_ok result) }
     ensures idle { conn.new.in_transaction ≡ false }
 {
@@ -498,7 +498,7 @@ pub(crate) fn migrate<S: Alter>(
     ensures moves { HasMigrated (IsMovedFrom schema_version (windows_of windows.now))
         (state S.Store conn.old) (state S.Store conn.new) (is_ok result) }
     ensures differ { result ≡ Err FileFault.WindowsDiffer → IsTrue (state S.Store conn.new).is_open
-        → WereOtherWindows (windows_of windows.now) (state S.Store conn.old).now.trees }
+        → HasDifferentWindows (windows_of windows.now) (state S.Store conn.old).now.trees }
     ensures idle { conn.new.in_transaction ≡ false }
 {
     see_staying(conn, schema_version)?;

@@ -7,7 +7,8 @@ ghost use Rattle.sql_store.specs.Store.{HasStoreTables};
 use sqlite::{Alter, Connection};
 
 /// Does nothing: the rules of the schema keep each key unique. A list that is read by other columns
-/// than those of the key depends on it.
+/// than those of the key depends on it. No contract of a query says that the rows obey the rules, so
+/// a proof learns it from a call of `schema`.
 pub(crate) fn keys_are_unique<S: Alter>(conn: &Connection<S>)
     requires { IsTrue (state S.Store conn.now).is_open → HasStoreTables (state S.Store conn.now) }
     ensures { IsTrue (state S.Store conn.now).is_open

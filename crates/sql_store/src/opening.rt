@@ -11,9 +11,9 @@ ghost use Rattle.sql_rows.specs.Content.{content_in};
 ghost use Rattle.sql_rows.specs.Faults.{fault_of, store_fault_of};
 ghost use Rattle.sql_rows.specs.Tables.{no_schema, the_schema};
 ghost use Rattle.sql_rows.specs.Migration.{schema_of};
-ghost use Rattle.sql_store.specs.Migration.{IsMovedFrom, WereOtherWindows};
+ghost use Rattle.sql_store.specs.Migration.{IsMovedFrom, HasDifferentWindows};
 ghost use Rattle.sql_store.specs.Opened.{HadOtherWindows, IsRefusedAs, IsTakenAs, IsCrashStateOfOpen, WasOpened};
-ghost use Rattle.sql_store.specs.Refusal.{IsCleanYet, StandsYet, may_leave_of, trees_of};
+ghost use Rattle.sql_store.specs.Refusal.{IsLeftClean, IsLeftUsable, may_leave_of, trees_of};
 ghost use Rattle.version.specs.Abstraction.{windows_of};
 ghost use Rattle.sql_store.specs.Whole.{IsWhole, ReadsAll};
 
@@ -226,7 +226,7 @@ impl<S: Alter + Drop> SqlStore<S> {
             ⊎ IsMovedFrom schema_version (windows_of windows.now) (state S.Store conn).now.trees db) }
         ensures differ { IfErr result (λ e. e.0 ≡ FileFault.WindowsDiffer
             → IsClean (S.Store.view e.1) → IsTrue (S.Store.view e.1).is_open
-            → WereOtherWindows (windows_of windows.now) (state S.Store conn).now.trees) }
+            → HasDifferentWindows (windows_of windows.now) (state S.Store conn).now.trees) }
     {
         match migrate(alloc, &mut conn, schema_version, windows) {
             Ok(()) => {
@@ -251,11 +251,11 @@ impl<S: Alter + Drop> SqlStore<S> {
         ensures none { IfOk result (λ s. s.failures ≡ 0) }
         ensures honest { IfOk result (λ s. HasCleanDisk (state S.Store s.db.conn)
             → HasCleanDisk (state S.Store conn)) }
-        ensures err_honest { IfErr result (λ e. IsCleanYet S.Store e.1
+        ensures err_honest { IfErr result (λ e. IsLeftClean S.Store e.1
             → HasCleanDisk (state S.Store conn)) }
-        ensures err { IfErr result (λ e. StandsYet S.Store e.1
+        ensures err { IfErr result (λ e. IsLeftUsable S.Store e.1
             → trees_of S.Store e.1 ≡ (state S.Store conn).now.trees) }
-        ensures crash { IfErr result (λ e. IsCleanYet S.Store e.1 → (db : Trees)
+        ensures crash { IfErr result (λ e. IsLeftClean S.Store e.1 → (db : Trees)
             → may_leave_of S.Store e.1 db → (state S.Store conn).may_leave db) }
     {
         match SqlStore::with_tables(conn) {
@@ -283,9 +283,9 @@ impl<S: Alter + Drop> SqlStore<S> {
         ensures none { IfOk result (λ s. s.failures ≡ 0) }
         ensures honest { IfOk result (λ s. HasCleanDisk (state S.Store s.db.conn)
             → HasCleanDisk (state S.Store conn)) }
-        ensures err_honest { IfErr result (λ e. IsCleanYet S.Store e.1
+        ensures err_honest { IfErr result (λ e. IsLeftClean S.Store e.1
             → HasCleanDisk (state S.Store conn)) }
-        ensures refused { IfErr result (λ e. IsCleanYet S.Store e.1
+        ensures refused { IfErr result (λ e. IsLeftClean S.Store e.1
             → IsRefusedAs S.Store (windows_of windows.now) (state S.Store conn).now.trees
             e.0 e.1) }
     {
@@ -334,20 +334,20 @@ impl<S: Alter + Drop> SqlStore<S> {
         ensures none { IfOk result (λ s. s.failures ≡ 0) }
         ensures honest { IfOk result (λ s. HasCleanDisk (state S.Store s.db.conn)
             → HasCleanDisk (state S.Store conn)) }
-        ensures err_honest { IfErr result (λ e. IsCleanYet S.Store e.1
+        ensures err_honest { IfErr result (λ e. IsLeftClean S.Store e.1
             → HasCleanDisk (state S.Store conn)) }
         // This holds if the database lists tables; those of an empty database may have been
         // created.
         ensures kept { IfErr result (λ e. ¬ IsSound no_schema (state S.Store conn).committed.trees
-            → StandsYet S.Store e.1
+            → IsLeftUsable S.Store e.1
             → trees_of S.Store e.1 ≡ (state S.Store conn).committed.trees) }
         // A crash leaves what it might leave before, or the whole migrated database.
         ensures crash { IfErr result (λ e. ¬ IsSound no_schema (state S.Store conn).committed.trees
-            → IsCleanYet S.Store e.1 → (db : Trees) → may_leave_of S.Store e.1 db
+            → IsLeftClean S.Store e.1 → (db : Trees) → may_leave_of S.Store e.1 db
             → (state S.Store conn).may_leave db
             ⊎ IsCrashStateOfOpen (windows_of windows.now) (state S.Store conn).committed.trees db) }
         ensures differ { IfErr result (λ e. e.0 ≡ FileFault.WindowsDiffer
-            → StandsYet S.Store e.1 → HadOtherWindows (windows_of windows.now)
+            → IsLeftUsable S.Store e.1 → HadOtherWindows (windows_of windows.now)
             (state S.Store conn).committed.trees) }
     {
         match SqlStore::checked(alloc, conn) {

@@ -4,7 +4,7 @@ ghost use Rattle.sqlite.specs.Held.{state};
 ghost use Rattle.sqlite.specs.State.{HasCleanDisk};
 ghost use Rattle.settle.specs.Reads.{AreFirst};
 ghost use Rattle.settle.specs.Abstraction.{spid_of};
-ghost use Rattle.sql_store.specs.Queues.{AreFirstTold, AreQueued, IsNext};
+ghost use Rattle.sql_store.specs.Queues.{AreFirstWithBroadcasts, AreQueued, IsNext};
 ghost use Rattle.sql_store.specs.Store.{HasStoreTables, HasQueried, content_at};
 
 use crate::database::Database;
@@ -13,9 +13,9 @@ use crate::lookups::broadcast;
 use crate::order::put_in_order;
 use crate::select::find_all;
 use delivery::{Download, DownloadKey};
-use numbers::Spid;
-use settle::BroadcastKey;
-use sql_rows::{Fault, KeyedWait, Query, number, spid_bytes, text};
+use numbers::{Spid, Subject};
+use settle::{BroadcastKey, WaitKey};
+use sql_rows::{Fault, Query, number, spid_bytes, text};
 use sqlite::Alter;
 use std::alloc::Global;
 
@@ -27,7 +27,7 @@ fn queue<S: Alter>(db: &mut Database<S>, spid: Spid) -> Result<Vec<DownloadKey>,
     ensures queried { HasQueried (state S.Store db.old.conn) (state S.Store db.new.conn) (is_ok result) }
 {
     let bytes = spid_bytes(spid.number);
-    let found: Vec<KeyedWait> = find_all(db, Query::WaitsFor, &[text(&bytes)])?;
+    let found: Vec<(WaitKey, Subject)> = find_all(db, Query::WaitsFor, &[text(&bytes)])?;
     let mut waits = downloads_of(*found.allocator(), found.as_slice())?;
     put_in_order(&mut waits);
     Ok(waits)
@@ -47,7 +47,7 @@ fn page<S: Alter>(
 {
     let bytes = spid_bytes(spid.number);
     let params = [text(&bytes), number(many)];
-    let found: Vec<KeyedWait> = find_all(db, Query::WaitsFirst, &params)?;
+    let found: Vec<(WaitKey, Subject)> = find_all(db, Query::WaitsFirst, &params)?;
     let is_all = (found.len() as u64) < many;
     let mut waits = downloads_of(*found.allocator(), found.as_slice())?;
     put_in_order(&mut waits);
@@ -89,7 +89,7 @@ fn put_behind(downloads: &mut Vec<Download>, download: Option<Download>) -> Resu
 }
 
 // Returns the first `many` pending downloads that have a broadcast, or all if there are fewer.
-fn first_told<S: Alter>(
+fn first_downloads<S: Alter>(
     alloc: Global,
     db: &mut Database<S>,
     waits: &[DownloadKey],
@@ -98,7 +98,7 @@ fn first_told<S: Alter>(
     requires open { HasCleanDisk (state S.Store db.old.conn)
         → IsTrue (state S.Store db.old.conn).is_open }
     ensures value { IsTrue (state S.Store db.new.conn).is_open
-        → IfOk result (λ downloads. AreFirstTold (content_at (state S.Store db.old.conn)) many
+        → IfOk result (λ downloads. AreFirstWithBroadcasts (content_at (state S.Store db.old.conn)) many
         waits.now downloads.items) }
     ensures queried { HasQueried (state S.Store db.old.conn) (state S.Store db.new.conn) (is_ok result) }
 {
@@ -127,7 +127,7 @@ fn first_page<S: Alter>(
     ensures queried { HasQueried (state S.Store db.old.conn) (state S.Store db.new.conn) (is_ok result) }
 {
     let (waits, is_all) = page(db, spid, many as u64)?;
-    let downloads = first_told(*waits.allocator(), db, waits.as_slice(), many)?;
+    let downloads = first_downloads(*waits.allocator(), db, waits.as_slice(), many)?;
     if is_all || downloads.len() >= many {
         Ok(Some(downloads))
     } else {
@@ -147,7 +147,7 @@ fn first_of_all<S: Alter>(
     ensures queried { HasQueried (state S.Store db.old.conn) (state S.Store db.new.conn) (is_ok result) }
 {
     let waits = queue(db, spid)?;
-    let downloads = first_told(*waits.allocator(), db, waits.as_slice(), many)?;
+    let downloads = first_downloads(*waits.allocator(), db, waits.as_slice(), many)?;
     Ok(downloads)
 }
 

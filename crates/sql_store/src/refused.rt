@@ -2,7 +2,7 @@
 ghost use Rattle.std.specs.Prelude.{◌≡◌, IsTrue};
 ghost use Rattle.sqlite.specs.Tree.{Trees};
 ghost use Rattle.sqlite_trees.specs.View.{IsClean};
-ghost use Rattle.sql_store.specs.Refusal.{IsCleanYet, may_leave_of, trees_of};
+ghost use Rattle.sql_store.specs.Refusal.{IsLeftClean, may_leave_of, trees_of};
 
 use sqlite::{Alter, Connection};
 
@@ -18,7 +18,7 @@ impl<S: Alter + Drop> Refused<S> {
     pub fn into_store(self) -> S
         ensures kept { IsClean (S.Store.view result) → IsTrue (S.Store.view result).is_open
             → (S.Store.view result).trees ≡ trees_of S.Store self }
-        ensures honest { IsClean (S.Store.view result) → IsCleanYet S.Store self }
+        ensures honest { IsClean (S.Store.view result) → IsLeftClean S.Store self }
         ensures crash { (db : Trees) → S.Store.recovers result db → may_leave_of S.Store self db }
     {
         match self {

@@ -6,7 +6,7 @@ ghost use Rattle.sqlite.specs.Listing.{understood};
 ghost use Rattle.sqlite.specs.Order.{Row as RowModel};
 ghost use Rattle.sqlite.specs.State.{HasCleanDisk, IsRolledBack, IsUnchanged, Survives};
 ghost use Rattle.sql_rows.specs.Statements.{all_text};
-ghost use Rattle.sql_store.specs.Through.{HasReadAll, ReadsOn, TellsNone, Unmoved};
+ghost use Rattle.sql_store.specs.Through.{HasReadAll, ReadsOn, BlankMeansNone, IsOnlyRead};
 
 use sql_rows::{Fault, FromRow, Query, Table};
 use sqlite::{Alter, Connection, Rows};
@@ -45,9 +45,9 @@ fn read_rows<T: FromRow + Drop, S: Alter>(rows: &mut Rows<'_, S>) -> Result<bool
         (sql : List ℕ) → IsPlain (understood (state S.Store rows.old.conn.now).now.schema sql)
         → HasGiven S.Store sql [] rows.old.conn.now []
         → HasReadAll T.seen_in sql (state S.Store rows.old.conn.now)
-        (state S.Store rows.new.conn.now) (TellsNone blank)) }
+        (state S.Store rows.new.conn.now) (BlankMeansNone blank)) }
     ensures err { HasCleanDisk (state S.Store rows.new.conn.now) → OnErr result
-        (Unmoved S.Store rows.old.conn.now rows.new.conn.now
+        (IsOnlyRead S.Store rows.old.conn.now rows.new.conn.now
         ⊎ IsRolledBack (state S.Store rows.old.conn.now) (state S.Store rows.new.conn.now)) }
     ensures mode { rows.old.conn.now.in_transaction ≡ false
         → rows.new.conn.now.in_transaction ≡ false }
@@ -73,7 +73,7 @@ pub(crate) fn read_table<T: FromRow + Drop, S: Alter>(
         → IsPlain (understood (state S.Store conn.old).now.schema (all_text table)) }
     ensures all { HasCleanDisk (state S.Store conn.new) → IfOk result (λ blank.
         HasReadAll T.seen_in (all_text table) (state S.Store conn.old)
-        (state S.Store conn.new) (TellsNone blank)) }
+        (state S.Store conn.new) (BlankMeansNone blank)) }
     ensures err { HasCleanDisk (state S.Store conn.new) → OnErr result
         (IsUnchanged (state S.Store conn.old) (state S.Store conn.new)
         ⊎ IsRolledBack (state S.Store conn.old) (state S.Store conn.new)) }

@@ -7,13 +7,12 @@ ghost use Rattle.sql_store.specs.Whole.{IsMoved, IsRead, ReadsAdded, ReadsAll, R
 
 use crate::database::Database;
 use crate::through::read_table;
-use numbers::Spid;
-use settle::NumberedRow;
-use sql_rows::{
-    Fault, FromRow, KeyedBlock, KeyedBroadcast, KeyedClock, KeyedCode, KeyedLrn, KeyedRouting,
-    KeyedSet, KeyedWait, OldClock, OldVersion, Table,
-};
+use delivery::Broadcast;
+use numbers::{BlockId, CodeId, Lrn, Routing, Spid, Subject};
+use settle::{BlockRow, BroadcastKey, NumberedRow, WaitKey};
+use sql_rows::{Fault, FromRow, OldClock, OldVersion, StoredClock, Table};
 use sqlite::Alter;
+use windows::WindowSet;
 
 // Reads a table. Returns whether it has no row.
 fn read<T: FromRow + Drop, S: Alter>(db: &mut Database<S>, table: Table) -> Result<bool, Fault>
@@ -37,9 +36,9 @@ fn read_registry<S: Alter>(db: &mut Database<S>) -> Result<bool, Fault>
     ensures queried { HasQueried (state S.Store db.old.conn) (state S.Store db.new.conn) (is_ok result) }
 {
     let carriers = read::<Spid, S>(db, Table::Carrier)?;
-    let lrns = read::<KeyedLrn, S>(db, Table::Lrn)?;
-    let codes = read::<KeyedCode, S>(db, Table::Code)?;
-    let blocks = read::<KeyedBlock, S>(db, Table::Block)?;
+    let lrns = read::<(Lrn, Spid), S>(db, Table::Lrn)?;
+    let codes = read::<(CodeId, Spid), S>(db, Table::Code)?;
+    let blocks = read::<(BlockId, BlockRow), S>(db, Table::Block)?;
     Ok(are_blank(&[carriers, lrns, codes, blocks]))
 }
 
@@ -51,9 +50,9 @@ fn read_versions<S: Alter>(db: &mut Database<S>) -> Result<bool, Fault>
     ensures queried { HasQueried (state S.Store db.old.conn) (state S.Store db.new.conn) (is_ok result) }
 {
     let versions = read::<NumberedRow, S>(db, Table::Version)?;
-    let broadcasts = read::<KeyedBroadcast, S>(db, Table::Broadcast)?;
-    let waits = read::<KeyedWait, S>(db, Table::Wait)?;
-    let clock = read::<KeyedClock, S>(db, Table::Clock)?;
+    let broadcasts = read::<(BroadcastKey, Broadcast), S>(db, Table::Broadcast)?;
+    let waits = read::<(WaitKey, Subject), S>(db, Table::Wait)?;
+    let clock = read::<(u64, StoredClock), S>(db, Table::Clock)?;
     Ok(are_blank(&[versions, broadcasts, waits, clock]))
 }
 
@@ -63,8 +62,8 @@ fn read_added<S: Alter>(db: &mut Database<S>) -> Result<bool, Fault>
         → IfOk result (ReadsAdded (state S.Store db.old.conn).now.trees) }
     ensures queried { HasQueried (state S.Store db.old.conn) (state S.Store db.new.conn) (is_ok result) }
 {
-    let nexts = read::<KeyedRouting, S>(db, Table::NextRouting)?;
-    let sets = read::<KeyedSet, S>(db, Table::WindowSet)?;
+    let nexts = read::<(u64, Routing), S>(db, Table::NextRouting)?;
+    let sets = read::<WindowSet, S>(db, Table::WindowSet)?;
     Ok(are_blank(&[nexts, sets]))
 }
 

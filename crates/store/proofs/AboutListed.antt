@@ -17,7 +17,7 @@ use Rattle.numbers.specs.Abstraction.{subject_of, key_of}
 use Rattle.numbers.specs.declared.ported.Subject.{Subject as SubjectImpl}
 use Rattle.numbers.specs.declared.spid.Spid.{Spid}
 use Rattle.numbers.proofs.SubjectKeys.{subject_key-exact}
-use Rattle.model.specs.Content.{Content, empty_content}
+use Rattle.model.specs.Content.{Content, empty_content, wait_key}
 use Rattle.delivery.specs.declared.download.DownloadKey.{DownloadKey}
 use Rattle.settle.specs.Abstraction.{spid_of}
 use Rattle.settle.specs.Reads.{AreWaitsAbout, IsWaiting, download_cmp as queue_cmp}
@@ -86,12 +86,7 @@ module _ (rows : List (RowKeyImpl × WaitingImpl)) (carrier : Spid) (subject : S
       let r = two (rank_key k.rank == key_of subject) (is_for rows (download_in k) carrier subject)
       (download_in k) d e in (
         equal_number (rank_key k.rank) (key_of subject) r.0,
-        get-waits_of (rows_of rows) (record {
-          carrier = carrier.number;
-          minute = k.minute.number;
-          id = k.id;
-          attempt = k.attempt;
-        })
+        get-waits_of (rows_of rows) (wait_key carrier.number k.minute.number k.id k.attempt)
             ∙ ap (λ o. awaited o carrier.number) (row-of (download_in k))
             ∙ is-subject (subject_of subject) _ r.1,
         r.2,
@@ -123,12 +118,7 @@ module _ (rows : List (RowKeyImpl × WaitingImpl)) (carrier : Spid) (subject : S
         each = λ minute id attempt is.
             let d : Download = record { minute = minute; id = id; attempt = attempt } in
             let w = awaited-is carrier.number (subject_of subject) (get (rows_of rows) d)
-            (sym (get-waits_of (rows_of rows) (record {
-              carrier = carrier.number;
-              minute = minute;
-              id = id;
-              attempt = attempt;
-            })) ∙ is) in
+            (sym (get-waits_of (rows_of rows) (wait_key carrier.number minute id attempt)) ∙ is) in
             let here = indexed d w.0 w.1 in
             let q = entry-of subject_download_of (λ (u : Unit {0}). u) subject_download_total
             subject_download_exact about (key_about (subject_of subject) d)
@@ -197,12 +187,8 @@ module _ (rows : List (RowKeyImpl × WaitingImpl)) (carrier : Spid) (subject : S
             id = v.id;
             attempt = v.attempt;
           })) carrier.number) same
-          ∙ sym (get-waits_of (rows_of rows) (record {
-            carrier = carrier.number;
-            minute = d.minute;
-            id = d.id;
-            attempt = d.attempt;
-          })) ∙ is in
+          ∙ sym (get-waits_of (rows_of rows) (wait_key carrier.number d.minute d.id d.attempt))
+          ∙ is in
           (λ i. if (subject_key (same i).subject == key_of subject) && is_subject
           (subject_of subject) (held i) then Some (download_in k) else None)
           ∙ (λ i. if same_number (key_of subject) i && same_number (key_of subject) i

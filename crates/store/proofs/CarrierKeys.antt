@@ -8,7 +8,7 @@ use Rattle.std.specs.Ordering.{on, is_le, is_lt, nat_cmp, ordering_then}
 use Rattle.std.specs.BTreeMap.Range.{range_contains}
 use Rattle.std.specs.FinMap.{nat_cmp-IsAntisymmetric}
 use Rattle.std.proofs.lemmas.Bool.Decides.{nat_tests}
-use Rattle.model.specs.Content.{wait_cmp}
+use Rattle.model.specs.Content.{wait_cmp, wait_key}
 use Rattle.settle.specs.Abstraction.{wait_key_of}
 use Rattle.settle.specs.declared.rows.WaitKey.{WaitKey as WaitKeyImpl}
 use Rattle.store.specs.QueueRows.{lowest, highest}
@@ -51,12 +51,8 @@ module _ (carrier : ℕ) (lo hi : WaitKeyImpl) (low : wait_key_of lo ≡ lowest 
       (sym (λ i. is_le (wait_cmp (low i) (wait_key_of k)) && not
       (is_lt (wait_cmp (high i) (wait_key_of k)))) ∙ t)
 
-  pub within : (k : WaitKeyImpl) (minute id attempt : ℕ) → wait_key_of k ≡ record {
-    carrier = carrier;
-    minute = minute;
-    id = id;
-    attempt = attempt;
-  } →
+  pub within : (k : WaitKeyImpl) (minute id attempt : ℕ)
+      → wait_key_of k ≡ wait_key carrier minute id attempt →
       minute < 1099511627776 → id < 18446744073709551616 → attempt < 18446744073709551616
       → is_between lo hi k ≡ true
   within k minute id attempt same p q r =

@@ -15,7 +15,7 @@ use Rattle.std.specs.BTreeMap.Range.{entries_between}
 use Rattle.std.specs.FinMap.{FinMap, get}
 use Rattle.numbers.specs.Subjects.{Subject}
 use Rattle.numbers.specs.declared.spid.Spid.{Spid}
-use Rattle.model.specs.Content.{Content, BroadcastRow, WaitKey, wait_cmp, broadcast_cmp, empty_content}
+use Rattle.model.specs.Content.{Content, BroadcastRow, WaitKey, wait_cmp, broadcast_cmp, empty_content, broadcast_key, wait_key}
 use Rattle.delivery.specs.declared.broadcast.Broadcast.{Broadcast}
 use Rattle.delivery.specs.declared.download.Download.{Download}
 use Rattle.settle.specs.Reads.{AreFirst, IsBehind, IsQueued, IsWaitingDownload, queue_cmp}
@@ -115,21 +115,16 @@ module _ (waits : FinMap wait_cmp Subject) (order : BTreeMap WaitKeyImpl (Unit {
   }
 
   abbrev own : (minute id attempt : ℕ) → WaitKey
-  own minute id attempt = record {
-    carrier = carrier.number;
-    minute = minute;
-    id = id;
-    attempt = attempt;
-  }
+  own minute id attempt = wait_key carrier.number minute id attempt
 
-  row-of : (k : WaitKeyImpl) → get content.broadcasts (record { id = k.id; attempt = k.attempt })
+  row-of : (k : WaitKeyImpl) → get content.broadcasts (broadcast_key k.id k.attempt)
       ≡ option_map broadcast_row_of (tree.get (on broadcast_key_of broadcast_cmp) broadcasts
       (broadcast_of k))
   row-of k = get-map_of broadcast_key_of broadcast_row_of broadcast_total broadcast_exact broadcasts
       (broadcast_of k)
 
   download_at-is : (k : WaitKeyImpl) (d : Download) → download_at broadcasts k ≡ Some d →
-      (b : Broadcast) × (get content.broadcasts (record { id = k.id; attempt = k.attempt })
+      (b : Broadcast) × (get content.broadcasts (broadcast_key k.id k.attempt)
       ≡ Some (broadcast_row_of b)) × (download_from k b ≡ d)
   download_at-is k d e =
       by_cases (tree.get (on broadcast_key_of broadcast_cmp) broadcasts (broadcast_of k)) refl
@@ -137,7 +132,7 @@ module _ (waits : FinMap wait_cmp Subject) (order : BTreeMap WaitKeyImpl (Unit {
     where
       by_cases : (o : Option Broadcast) → tree.get (on broadcast_key_of broadcast_cmp) broadcasts
           (broadcast_of k) ≡ o → option_map (download_from k) o ≡ Some d →
-          (b : Broadcast) × (get content.broadcasts (record { id = k.id; attempt = k.attempt })
+          (b : Broadcast) × (get content.broadcasts (broadcast_key k.id k.attempt)
           ≡ Some (broadcast_row_of b)) × (download_from k b ≡ d)
       by_cases None at f = let no : None ≡ Some d = f in cc
       by_cases (Some b) at f = (
@@ -147,7 +142,7 @@ module _ (waits : FinMap wait_cmp Subject) (order : BTreeMap WaitKeyImpl (Unit {
       )
 
   is-download_at : (k : WaitKeyImpl) (row : BroadcastRow)
-      → get content.broadcasts (record { id = k.id; attempt = k.attempt }) ≡ Some row
+      → get content.broadcasts (broadcast_key k.id k.attempt) ≡ Some row
       → (b : Broadcast) × (download_at broadcasts k ≡ Some (download_from k b))
   is-download_at k row e =
       by_cases (tree.get (on broadcast_key_of broadcast_cmp) broadcasts (broadcast_of k))
@@ -176,12 +171,8 @@ module _ (waits : FinMap wait_cmp Subject) (order : BTreeMap WaitKeyImpl (Unit {
         ∙ present (tree.get (on wait_key_of wait_cmp) order e.0)
         (found-own (is_at (on wait_key_of wait_cmp e.0)) order.entries e there (here e.0)) in
         let mine : is_some (get waits (own e.0.minute.number e.0.id e.0.attempt)) ≡ true =
-        ap (λ c. is_some (get waits (record {
-          carrier = c;
-          minute = e.0.minute.number;
-          id = e.0.id;
-          attempt = e.0.attempt;
-        }))) (carrier-is carrier.number lo hi low high e.0 p.0)
+        ap (λ c. is_some (get waits (wait_key c e.0.minute.number e.0.id e.0.attempt)))
+        (carrier-is carrier.number lo hi low high e.0 p.0)
         ∙ sym (indexed.same (wait_key_of e.0)) ∙ stands in
         subst (IsWaitingDownload content carrier.number) t.2 (
           broadcast_row_of t.0,
@@ -236,11 +227,7 @@ module _ (waits : FinMap wait_cmp Subject) (order : BTreeMap WaitKeyImpl (Unit {
           (λ k tie.
           let same : wait_key_of k ≡ own minute id attempt =
           sym (wait_exact (wait_key_of q.0) (wait_key_of k) (tied _ tie)) ∙ q.1 in
-          let t = is-download_at k row ((λ i. get content.broadcasts (record {
-            id = (same i).id;
-            attempt =
-                (same i).attempt;
-          })) ∙ is.1) in (
+          let t = is-download_at k row ((λ i. get content.broadcasts (broadcast_key ((same i).id) ((same i).attempt))) ∙ is.1) in (
             download_from k t.0,
             ap (λ b. cond b (download_at broadcasts k) None) (within carrier.number lo hi low high k
                 minute

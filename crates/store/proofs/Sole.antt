@@ -16,7 +16,7 @@ use Rattle.version.specs.Abstraction.{set_of}
 use Rattle.store.specs.Maps.{IsSet, set}
 use Rattle.store.specs.TableLenses.{broadcasts}
 use Rattle.store.specs.UndoLog.{PutsNoOthers}
-use Rattle.store.specs.Tables.{content_of, from_waits, with_version, AddNoStale, AreIndexed, AreKeysOf, AreKeysTaken, AreLeftBy, AreNoKeys, AreUnneeded, HaveKeys, IsOneOf, KeepIndexes, KeepOtherVersions}
+use Rattle.store.specs.Tables.{content_of, from_waits, with_version, AddNoStale, AreIndexed, AreKeysOf, AreKeysDeleted, AreLeftBy, AreNoKeys, AreUnneeded, HaveKeys, IsOneOf, KeepIndexes, KeepOtherVersions}
 use Rattle.store.specs.declared.hints.Hints.{Hints}
 use Rattle.store.specs.declared.keys.VersionKeys.{VersionKeys}
 use Rattle.store.specs.declared.tables.Tables.{Tables}
@@ -45,8 +45,8 @@ sole-changes c others vs bs versions sent = λ i. record {
   versions = versions i;
   broadcasts = map (λ e. (broadcast_key_of e.0, broadcast_row_of e.1)) (sent i);
   waits = map (λ e. (wait_key_of e.0, subject_of e.1)) (others.waits i);
-  taken_broadcasts = map broadcast_key_of (items_of c.taken_broadcasts);
-  taken_waits = map wait_key_of (items_of c.taken_waits);
+  deleted_broadcasts = map broadcast_key_of (items_of c.deleted_broadcasts);
+  deleted_waits = map wait_key_of (items_of c.deleted_waits);
 }
 
 pub sole-version : (c : ChangesImpl) (e : ℕ × VersionRow) (old new : Tables) → PutsNoOthers c
@@ -109,7 +109,7 @@ pub sole-taken : (old put new : Tables) (versions : FinMap nat_cmp VersionRow) (
     → AreUnneeded present_keys keys taken → content_of put ≡ content_of old → KeepIndexes old put
     → KeepOtherVersions keys put old → versions ≡ set (content_of put).versions id (Some row)
     → HaveKeys keys put → AreIndexed old
-    → AreKeysTaken taken (record put { versions = versions; hints = hints }) new
+    → AreKeysDeleted taken (record put { versions = versions; hints = hints }) new
     → AreIndexed new × AddNoStale old new
 sole-taken old put new versions hints id row present_keys keys taken small own without of left same
     keeps adds written there indexed is =

@@ -16,7 +16,7 @@ use Rattle.numbers.specs.Abstraction.{subject_of, key_of}
 use Rattle.numbers.specs.declared.ported.Subject.{Subject as SubjectImpl}
 use Rattle.numbers.specs.declared.spid.Spid.{Spid}
 use Rattle.numbers.proofs.SubjectKeys.{subject_key-exact}
-use Rattle.model.specs.Content.{Content, WaitKey, wait_cmp, empty_content}
+use Rattle.model.specs.Content.{Content, WaitKey, wait_cmp, empty_content, wait_key}
 use Rattle.settle.specs.Abstraction.{spid_of, wait_key_of}
 use Rattle.settle.specs.Reads.{AreWaitingSubjects, IsAwaitedBy}
 use Rattle.settle.specs.declared.rows.WaitKey.{WaitKey as WaitKeyImpl}
@@ -197,12 +197,8 @@ module _ (waits : FinMap wait_cmp Subject) (order : BTreeMap WaitKeyImpl (Unit {
             e.0.minute.number,
             e.0.id,
             e.0.attempt,
-            ap (λ c. get waits (record {
-              carrier = c;
-              minute = e.0.minute.number;
-              id = e.0.id;
-              attempt = e.0.attempt;
-            })) (carrier-is carrier.number lo hi low high e.0 inside.1)
+            ap (λ c. get waits (wait_key c e.0.minute.number e.0.id e.0.attempt))
+                (carrier-is carrier.number lo hi low high e.0 inside.1)
                 ∙ p.3 ∙ ap (λ s. Some s) same,
           )
 
@@ -219,12 +215,7 @@ module _ (waits : FinMap wait_cmp Subject) (order : BTreeMap WaitKeyImpl (Unit {
   gathered-there : (s : Subject) → IsAwaitedBy content carrier.number s
       → is_some (get (subjects_of subjects) (subject_key s)) ≡ true
   gathered-there s is =
-      let key : WaitKey = record {
-        carrier = carrier.number;
-        minute = is.0;
-        id = is.1;
-        attempt = is.2;
-      } in
+      let key : WaitKey = wait_key carrier.number is.0 is.1 is.2 in
       let stands : is_some (get (order_of order) key) ≡ true = indexed.same key ∙ ap is_some is.3 in
       let small : IsDownload (record { minute = is.0; id = is.1; attempt = is.2 }) =
       indexed.small key stands in

@@ -1,7 +1,7 @@
 -- The call at which a flaky device fails.
 use Rattle.std.specs.Prelude.{◌≡◌, ℕ, ◌-◌, Bool, true, Option, None, Some}
-use Rattle.store.specs.declared.flaky.Failing.{Failing}
-use Rattle.store.specs.declared.flaky.Failing.TheVariants.{Once, Always}
+use Rattle.store.specs.declared.testing.flaky.Failing.{Failing}
+use Rattle.store.specs.declared.testing.flaky.Failing.TheVariants.{Once, Always}
 
 -- The number of calls before the next failure, right after a failure.
 abbrev pub after_failing : Failing → Option ℕ

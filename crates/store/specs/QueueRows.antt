@@ -7,7 +7,7 @@ use Rattle.std.specs.FinMap.{FinMap, get}
 use Rattle.numbers.specs.Subjects.{Subject, subject_key}
 use Rattle.numbers.specs.Abstraction.{key_of}
 use Rattle.numbers.specs.declared.ported.Subject.{Subject as SubjectImpl}
-use Rattle.model.specs.Content.{WaitKey, wait_cmp, broadcast_cmp}
+use Rattle.model.specs.Content.{WaitKey, wait_cmp, broadcast_cmp, wait_key}
 use Rattle.delivery.specs.declared.broadcast.Broadcast.{Broadcast}
 use Rattle.delivery.specs.declared.download.Download.{Download}
 use Rattle.settle.specs.Abstraction.{broadcast_key_of, wait_key_of}
@@ -27,15 +27,10 @@ pub record AreOrdered (waits : FinMap wait_cmp Subject)
 
 -- The least key that a download of the carrier can have; then the greatest.
 abbrev pub lowest : ℕ → WaitKey
-lowest carrier = record { carrier = carrier; minute = 0; id = 0; attempt = 0 }
+lowest carrier = wait_key carrier 0 0 0
 
 abbrev pub highest : ℕ → WaitKey
-highest carrier = record {
-  carrier = carrier;
-  minute = 1099511627775;
-  id = 18446744073709551615;
-  attempt = 18446744073709551615;
-}
+highest carrier = wait_key carrier 1099511627775 18446744073709551615 18446744073709551615
 
 abbrev pub broadcast_of : WaitKeyImpl → BroadcastKeyImpl
 broadcast_of k = record { id = k.id; attempt = k.attempt }

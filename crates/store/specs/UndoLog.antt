@@ -126,6 +126,13 @@ pub record AreNoted {R : Type 0} (table : R → Changes → Changes) (rest all :
   pub indexed : AreIndexed new
   pub logged : IsLogged before after old new
 
+-- Holds if a row is written with its entry, and the rows are indexed.
+pub record IsRowWritten {R : Type 0} (table : Option R → Changes → Changes) (row : R)
+    (entry : UndoEntry) (old new : Tables) : Type 0 where
+  pub undo : IsPut entry old new
+  pub put : ArePutFrom table None (Some row) old new
+  pub indexed : AreIndexed new
+
 -- Holds if any changes with this set, made after `new`, amount to the same changes after `old`.
 abbrev pub IsPutWithSet : Option WindowSetImpl → Tables → Tables → Type 0
 IsPutWithSet set old new = (c : Changes) (last : Content) → c.set ≡ option_map set_of set

@@ -13,7 +13,7 @@ use Rattle.numbers.specs.Subjects.{Subject, Number, Block, subject_key}
 use Rattle.numbers.specs.Abstraction.{subject_of, key_of}
 use Rattle.numbers.specs.declared.ported.Subject.{Subject as SubjectImpl}
 use Rattle.numbers.specs.declared.spid.Spid.{Spid}
-use Rattle.model.specs.Content.{WaitKey, wait_cmp}
+use Rattle.model.specs.Content.{WaitKey, wait_cmp, wait_key}
 use Rattle.delivery.specs.declared.download.DownloadKey.{DownloadKey as DownloadKeyImpl}
 use Rattle.settle.specs.Abstraction.{spid_of}
 use Rattle.store.specs.Lists.{is_subject}
@@ -38,7 +38,7 @@ abbrev pub download_of : WaitKey → Download
 download_of k = record { minute = k.minute; id = k.id; attempt = k.attempt }
 
 abbrev pub wait_for : Download → (carrier : ℕ) → WaitKey
-wait_for d carrier = record { carrier = carrier; minute = d.minute; id = d.id; attempt = d.attempt }
+wait_for d carrier = wait_key carrier d.minute d.id d.attempt
 
 -- A broadcast's subject, and the carriers for which the broadcast is pending.
 abbrev pub Waiting : Type 0
@@ -147,12 +147,8 @@ pub record IsWithout (carrier : ℕ) (old new : Waiting) : Type 0 where
 abbrev pub coded_wait_key : Coded WaitKey
 coded_wait_key =
     code_by (ℕ × (ℕ × (ℕ × ℕ))) (coded× coded_ℕ (coded× coded_ℕ (coded× coded_ℕ coded_ℕ)))
-    (λ k. (k.carrier, (k.minute, (k.id, k.attempt)))) (λ t. record {
-      carrier = t.0;
-      minute = t.1.0;
-      id = t.1.1.0;
-      attempt = t.1.1.1;
-    }) (λ k. refl)
+    (λ k. (k.carrier, (k.minute, (k.id, k.attempt)))) (λ t. wait_key t.0 t.1.0 t.1.1.0 t.1.1.1)
+    (λ k. refl)
 
 pub subject_cases : Subject → ℕ ⊎ ℕ
 subject_cases (Number n) = inl n

@@ -12,7 +12,7 @@ use Rattle.model.specs.History.{Request, CommandRequest, AcknowledgementRequest,
 use Rattle.model.specs.State.{State, Download, InForce, record_now, registers, routing_in_force, all_in_force, downloads_acknowledged, first_of, download, queue, copy_of}
 use Rattle.model.specs.Refusals.{RequestFrom, refusal, is_download}
 use Rattle.model.specs.Machine.{IsHistory, HasHistory}
-use Rattle.model.specs.Laws.{IsReachable, IsOfForce, CopyIsHanded}
+use Rattle.model.specs.Laws.{IsReachable, IsRowInForce, CopyIsHanded}
 use Rattle.model.specs.Copies.{copy_after_download, copy_of_rows, rows_handed, acknowledged_of, and_then, downloads_handed, copy_handed}
 use Rattle.numbers.proofs.Small.{same_number, and_first, and_second, equal_number, negated}
 use Rattle.model.proofs.Lists.{Among, any_there, there_any, found-among, found-there, each_there}
@@ -62,7 +62,7 @@ started_is st is s = by_cases (version_in_force (record_now st s)) refl
     its : (r : InForce) → Among r (all_in_force st) → subject_eq r.subject s ≡ true
         → r.routing ≡ routing_in_force (record_now st s)
     its r there same =
-        let row : IsOfForce st r = row_is st is r there in
+        let row : IsRowInForce st r = row_is st is r there in
         let at : s ≡ r.subject = same_subject r.subject s same in
         row.routing
         ∙ sym (ap (option_and_then (λ (v : Version). v.routing))

@@ -9,7 +9,7 @@ use Rattle.numbers.specs.Routings.{Routing}
 use Rattle.model.specs.Versions.{Broadcast, Version, is_among, is_withdrawn, waiters, unacknowledged}
 use Rattle.model.specs.State.{State, SubjectVersion, Download, record_now, download, downloads_of, is_before, inserted, sorted, last, starting_row, published, queue}
 use Rattle.model.specs.Machine.{HasHistory}
-use Rattle.model.specs.Laws.{NothingWaits}
+use Rattle.model.specs.Laws.{NothingIsPending}
 use Rattle.numbers.proofs.Small.{equal_number, greater_differs, false_second}
 use Rattle.model.proofs.Entered.{subject_eq-refl}
 use Rattle.model.proofs.Lists.{each, each_there, each-among, each_mapped}
@@ -87,7 +87,8 @@ module _ (st : State) (is : HasHistory st) (c : ℕ) (s : Subject) where
       (λ b sent stands passes. acknowledged_else c b stands (unqueued st is s c test none v b there
       sent passes))))
 
-  pub all_answered : NothingWaits st c s → AllMarked (placed (Carrier c) (record_now st s).versions)
+  pub all_answered : NothingIsPending st c s
+      → AllMarked (placed (Carrier c) (record_now st s).versions)
   all_answered idle =
       each (λ p done. done (subject_eq-refl s)) (placed (Carrier c) (record_now st s).versions)
       (answered_else (λ d. subject_eq d.subject s) idle)

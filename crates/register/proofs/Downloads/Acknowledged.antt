@@ -11,7 +11,7 @@ use Rattle.model.specs.History.{AcknowledgementRequest, donor_of, carriers}
 use Rattle.model.specs.State.{State, View, record_now, view_of, set_now, made_now}
 use Rattle.model.specs.Refusals.{RequestFrom, refusal}
 use Rattle.model.specs.Machine.{IsHistory, Shown, accepted, answer_of}
-use Rattle.model.specs.Content.{Content, VersionRow, BroadcastRow, BlockRow, BroadcastKey, ClockRow, SameRows, RowsMatch, row_of, of_subject, stored_broadcast, stored_wait, broadcast_with}
+use Rattle.model.specs.Content.{Content, VersionRow, BroadcastRow, BlockRow, BroadcastKey, ClockRow, SameRows, RowsMatch, row_of, of_subject, stored_broadcast, stored_wait, broadcast_with, broadcast_key, wait_key}
 use Rattle.model.proofs.Ids.{same_subject}
 use Rattle.numbers.proofs.Small.{equal_number, and_both, same_truth}
 use Rattle.model.proofs.Entered.{entered-record, given_now, sound_now, entered-elsewhere, none_elsewhere, none_with}
@@ -44,20 +44,11 @@ module _ (st : State) (old : Content) (refines : Refines old st) (caller : ℕ) 
     (due : IsSettled old st s) (minute id attempt : ℕ) (is : IsAwaited st caller s minute id
     attempt) where
   abbrev waiting : ℕ → Bool
-  waiting k = is_some (get old.waits (record {
-    carrier = k;
-    minute = minute;
-    id = id;
-    attempt = attempt;
-  }))
+  waiting k = is_some (get old.waits (wait_key k minute id attempt))
 
   -- Each carrier's download at the key is of this broadcast.
-  same_wait-broadcast : (k : ℕ) (t : Subject) → get old.waits (record {
-    carrier = k;
-    minute = minute;
-    id = id;
-    attempt = attempt;
-  }) ≡ Some t → is_among k (waiters is.broadcast) ≡ true
+  same_wait-broadcast : (k : ℕ) (t : Subject) → get old.waits (wait_key k minute id attempt)
+      ≡ Some t → is_among k (waiters is.broadcast) ≡ true
   same_wait-broadcast k t e =
       let its : t ≡ s = wait_subject st old refines.represents s id is.version is.found k minute
       attempt t e in
@@ -77,24 +68,16 @@ module _ (st : State) (old : Content) (refines : Refines old st) (caller : ℕ) 
       ∙ same_truth (is_among k (keys old.carriers) && waiting k)
       (is_among k (unacknowledged is.broadcast)) there back
     where
-      some : (o : Option Subject) → get old.waits (record {
-        carrier = k;
-        minute = minute;
-        id = id;
-        attempt = attempt;
-      }) ≡ o → is_some o ≡ true → is_among k (unacknowledged is.broadcast) ≡ true
+      some : (o : Option Subject) → get old.waits (wait_key k minute id attempt) ≡ o
+          → is_some o ≡ true → is_among k (unacknowledged is.broadcast) ≡ true
       some None e f = cc
       some (Some t) e f = ap (is_among k) (sym (waiters_are caller is.broadcast is.waits))
           ∙ same_wait-broadcast k t e
 
       there : (is_among k (keys old.carriers) && waiting k) ≡ true
           → is_among k (unacknowledged is.broadcast) ≡ true
-      there e = some (get old.waits (record {
-        carrier = k;
-        minute = minute;
-        id = id;
-        attempt = attempt;
-      })) refl (and_both (is_among k (keys old.carriers)) (waiting k) e).1
+      there e = some (get old.waits (wait_key k minute id attempt)) refl
+          (and_both (is_among k (keys old.carriers)) (waiting k) e).1
 
       stored : broadcast_with id attempt (record_now st s) ≡ Some is.broadcast
       stored = ap (option_and_then (λ (v : Version). find (λ b. b.attempt == attempt) v.broadcasts))
@@ -125,22 +108,17 @@ module _ (st : State) (old : Content) (refines : Refines old st) (caller : ℕ) 
           ap (λ b. b && waiting k) carrier
           ∙ ap is_some (awaited-waiting st old refines k s due minute id attempt awaited)
 
-  pub last_left : is_last_wait old (record {
-    carrier = caller;
-    minute = minute;
-    id = id;
-    attempt = attempt;
-  }) ≡ is_empty (unacknowledged (acknowledged_one caller is.broadcast))
+  pub last_left : is_last_wait old (wait_key caller minute id attempt)
+      ≡ is_empty (unacknowledged (acknowledged_one caller is.broadcast))
   last_left =
       last_is caller (filter waiting (keys old.carriers))
       (unacknowledged (acknowledged_one caller is.broadcast))
       (λ k. left_without caller is.broadcast k ∙ ap (λ b. b && not (caller == k))
       (sym (waiting_are k)))
 
-  shown_row : of_subject s (λ (x : BroadcastRow). x.subject) (get old.broadcasts (record {
-    id = id;
-    attempt = attempt;
-  })) ≡ Some (row_was caller is.broadcast is.waits s)
+  shown_row : of_subject s (λ (x : BroadcastRow). x.subject)
+      (get old.broadcasts (broadcast_key id attempt)) ≡ Some (row_was caller is.broadcast is.waits
+      s)
   shown_row = due.rows_match.broadcasts id attempt
       ∙ ap (λ o. option_and_then (stored_broadcast s)
       (option_and_then (λ (v : Version). find (λ b. b.attempt == attempt) v.broadcasts) o)) is.found
@@ -148,16 +126,13 @@ module _ (st : State) (old : Content) (refines : Refines old st) (caller : ℕ) 
       is.waits s
 
   -- The broadcast has a row.
-  pub broadcast_there : get old.broadcasts (record { id = id; attempt = attempt }) ≡ None → ⊥
+  pub broadcast_there : get old.broadcasts (broadcast_key id attempt) ≡ None → ⊥
   broadcast_there absent = let no_row : None ≡ Some (row_was caller is.broadcast is.waits s) =
       ap (of_subject s (λ (x : BroadcastRow). x.subject)) (sym absent) ∙ shown_row in cc
 
   -- The row is the one of the broadcast.
-  pub broadcast_read : (row : BroadcastRow) → get old.broadcasts (record {
-    id = id;
-    attempt =
-        attempt;
-  }) ≡ Some row → row ≡ row_was caller is.broadcast is.waits s
+  pub broadcast_read : (row : BroadcastRow) → get old.broadcasts (broadcast_key id attempt)
+      ≡ Some row → row ≡ row_was caller is.broadcast is.waits s
   broadcast_read row found =
       of_it (subject_eq row.subject s) (ap (of_subject s (λ (x : BroadcastRow). x.subject))
       (sym found) ∙ shown_row)
@@ -261,19 +236,17 @@ one_version caller minute id attempt last s row of_s = record {
   versions = tt;
   broadcasts = put (last && not row.is_open);
   waits = tt;
-  taken_broadcasts = taken (last && not row.is_open);
-  taken_waits = (refl, tt);
+  deleted_broadcasts = taken (last && not row.is_open);
+  deleted_waits = (refl, tt);
 }
   where
     put : (b : Bool) → ArePutsOf (λ (k : BroadcastKey). k.id) (λ (x : BroadcastRow). x.subject) id s
-        (if b then [] else (record { id = id; attempt = attempt }, row) ∷ [])
+        (if b then [] else (broadcast_key id attempt, row) ∷ [])
     put true = tt
     put false = (refl, of_s, tt)
 
-    taken : (b : Bool) → AreKeysOf (λ (k : BroadcastKey). k.id) id (if b then record {
-      id = id;
-      attempt = attempt;
-    } ∷ [] else [])
+    taken : (b : Bool) → AreKeysOf (λ (k : BroadcastKey). k.id) id (if b
+        then broadcast_key id attempt ∷ [] else [])
     taken true = (refl, tt)
     taken false = tt
 
@@ -282,12 +255,7 @@ one_version caller minute id attempt last s row of_s = record {
 module _ (st : State) (old new : Content) (refines : Refines old st) (caller : ℕ) (s : Subject)
     (due : IsSettled old st s) (minute id attempt : ℕ) (is : IsAwaited st caller s minute id
     attempt) (last : Bool)
-    (last_one : last ≡ is_last_wait old (record {
-      carrier = caller;
-      minute = minute;
-      id = id;
-      attempt = attempt;
-    })) where
+    (last_one : last ≡ is_last_wait old (wait_key caller minute id attempt)) where
   abbrev change : Version → Version
   change = acknowledged_by (set_now st) caller attempt st.now
 
@@ -428,53 +396,33 @@ module _ (st : State) (old new : Content) (refines : Refines old st) (caller : �
         ∙ ap (λ n. broadcast_with id n x) (sym (equal_number attempt a parts.1))
 
     broadcast_at : (k a : ℕ) (x : Bool) → ((id == k) && (attempt == a)) ≡ x
-        → of_subject s (λ (y : BroadcastRow). y.subject) (get new.broadcasts (record {
-          id = k;
-          attempt = a;
-        }))
+        → of_subject s (λ (y : BroadcastRow). y.subject) (get new.broadcasts (broadcast_key k a))
         ≡ option_and_then (stored_broadcast s)
         (broadcast_with k a (record_after st caller id attempt s))
     broadcast_at k a true e =
-        ap (of_subject s (λ (y : BroadcastRow). y.subject)) (changed.broadcasts (record {
-          id = k;
-          attempt = a;
-        }))
-        ∙ taken_hit s (record { id = id; attempt = attempt }) (record { id = k; attempt = a })
-        the_row (get old.broadcasts (record { id = k; attempt = a })) (last && not the_row.is_open)
+        ap (of_subject s (λ (y : BroadcastRow). y.subject)) (changed.broadcasts (broadcast_key k a))
+        ∙ taken_hit s (broadcast_key id attempt) (broadcast_key k a)
+        the_row (get old.broadcasts (broadcast_key k a)) (last && not the_row.is_open)
         refl e
         ∙ sym (stored_after caller is.broadcast is.waits s last closes is_left)
         ∙ sym (ap (option_and_then (stored_broadcast s))
         (at_key k a e (record_after st caller id attempt s) ∙ this_after))
     broadcast_at k a false e =
-        ap (of_subject s (λ (y : BroadcastRow). y.subject)) (changed.broadcasts (record {
-          id = k;
-          attempt = a;
-        })
-        ∙ taken_miss (record { id = id; attempt = attempt }) (record { id = k; attempt = a })
-        the_row (get old.broadcasts (record { id = k; attempt = a })) (last && not the_row.is_open)
+        ap (of_subject s (λ (y : BroadcastRow). y.subject)) (changed.broadcasts (broadcast_key k a)
+        ∙ taken_miss (broadcast_key id attempt) (broadcast_key k a)
+        the_row (get old.broadcasts (broadcast_key k a)) (last && not the_row.is_open)
         e)
         ∙ due.rows_match.broadcasts k a
         ∙ sym (ap (option_and_then (stored_broadcast s)) (same_elsewhere k a (id == k) refl e))
 
     wait_at : (c m k a : ℕ) (x : Bool) → ((id == k) && (attempt == a)) ≡ x
-        → of_subject s (λ t. t) (get new.waits (record {
-          carrier = c;
-          minute = m;
-          id = k;
-          attempt =
-              a;
-        }))
+        → of_subject s (λ t. t) (get new.waits (wait_key c m k a))
         ≡ option_and_then (stored_wait s c m)
         (broadcast_with k a (record_after st caller id attempt s))
     wait_at c m k a true e =
-        ap (of_subject s (λ t. t)) (changed.waits (record {
-          carrier = c;
-          minute = m;
-          id = k;
-          attempt = a;
-        }))
+        ap (of_subject s (λ t. t)) (changed.waits (wait_key c m k a))
         ∙ joined (caller == c) (minute == m) (id == k) (attempt == a)
-        (get old.waits (record { carrier = c; minute = m; id = k; attempt = a })) e
+        (get old.waits (wait_key c m k a)) e
         ∙ ap (λ o. if (caller == c) && (minute == m) then None else o) was
         ∙ ap (λ n. if (caller == c) && (n == m) then None else stored_wait s c m is.broadcast)
         (sym is.sent_at)
@@ -491,24 +439,16 @@ module _ (st : State) (old new : Content) (refines : Refines old st) (caller : �
         joined p q true false o f = cc
         joined p q false z o f = cc
 
-        was : of_subject s (λ t. t) (get old.waits (record {
-          carrier = c;
-          minute = m;
-          id = k;
-          attempt = a;
-        })) ≡ stored_wait s c m is.broadcast
+        was : of_subject s (λ t. t) (get old.waits (wait_key c m k a)) ≡ stored_wait s c m
+            is.broadcast
         was = due.rows_match.waits c m k a ∙ ap (option_and_then (stored_wait s c m))
             (at_key k a e (record_now st s)
             ∙ ap (option_and_then (λ (v : Version). find (λ x. x.attempt == attempt) v.broadcasts))
             is.found ∙ is.sent)
     wait_at c m k a false e =
-        ap (of_subject s (λ t. t)) (changed.waits (record {
-          carrier = c;
-          minute = m;
-          id = k;
-          attempt = a;
-        }) ∙ off ((caller == c) && (minute == m)) (id == k) (attempt == a)
-        (get old.waits (record { carrier = c; minute = m; id = k; attempt = a })) e)
+        ap (of_subject s (λ t. t)) (changed.waits (wait_key c m k a)
+        ∙ off ((caller == c) && (minute == m)) (id == k) (attempt == a)
+        (get old.waits (wait_key c m k a)) e)
         ∙ due.rows_match.waits c m k a
         ∙ sym (ap (option_and_then (stored_wait s c m)) (same_elsewhere k a (id == k) refl e))
       where

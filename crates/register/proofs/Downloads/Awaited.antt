@@ -9,7 +9,7 @@ use Rattle.numbers.specs.declared.ported.Subject.{Subject as SubjectImpl}
 use Rattle.model.specs.declared.refusal.Refusal.{Refusal}
 use Rattle.model.specs.Content.{Content}
 use Rattle.model.specs.Laws.{IsReachable}
-use Rattle.model.specs.Machine.{Awaited, Refused, each_once, out, refused_or}
+use Rattle.model.specs.Machine.{Awaited, Refused, distinct_subjects, out, refused_or}
 use Rattle.model.specs.State.{State, Download, is_carrier, queue}
 use Rattle.model.specs.Refusals.{QuestionFrom, Waiting, refusal, tests}
 use Rattle.model.proofs.Ascending.{same_rising, sorted-rise, mapped-rise}
@@ -50,8 +50,8 @@ module _ (st : State) (c : Content) (refines : Refines c st) (settled : (s : Sub
   abbrev of_queue : List Subject
   of_queue = map (λ (d : Download). d.subject) (queue st carrier)
 
-  once : (s : Subject) → (Contains (each_once of_queue) s → Contains of_queue s)
-      × (Contains of_queue s → Contains (each_once of_queue) s)
+  once : (s : Subject) → (Contains (distinct_subjects of_queue) s → Contains of_queue s)
+      × (Contains of_queue s → Contains (distinct_subjects of_queue) s)
   once = (each_is_once of_queue).1
 
   queued : (s : Subject) → IsAwaitedBy c carrier s → Among s of_queue
@@ -60,19 +60,19 @@ module _ (st : State) (c : Content) (refines : Refines c st) (settled : (s : Sub
       (awaited-queued st c refines carrier s is.0 is.1 is.2 (waiting-awaited st c refines carrier s
       (settled s) is.0 is.1 is.2 is.3))
 
-  forth : (s : Subject) → Among s (map subject_of subjects) → Among s (each_once of_queue)
+  forth : (s : Subject) → Among s (map subject_of subjects) → Among s (distinct_subjects of_queue)
   forth s there =
       let x = mapped-from subject_of s subjects there in
-      subst (λ t. Among t (each_once of_queue)) (sym x.2)
-      (contains-among (each_once of_queue) (subject_of x.0) ((once (subject_of x.0)).1
+      subst (λ t. Among t (distinct_subjects of_queue)) (sym x.2)
+      (contains-among (distinct_subjects of_queue) (subject_of x.0) ((once (subject_of x.0)).1
       (contained of_queue (subject_of x.0)
       (queued (subject_of x.0) (all-among (λ y. IsAwaitedBy c carrier (subject_of y)) subjects
       are.only x.0 x.1)))))
 
-  back : (s : Subject) → Among s (each_once of_queue) → Among s (map subject_of subjects)
+  back : (s : Subject) → Among s (distinct_subjects of_queue) → Among s (map subject_of subjects)
   back s there =
       let d = mapped-from (λ (x : Download). x.subject) s (queue st carrier)
-      (contains-among of_queue s ((once s).0 (contained (each_once of_queue) s there))) in
+      (contains-among of_queue s ((once s).0 (contained (distinct_subjects of_queue) s there))) in
       let is = queued-awaited st c refines carrier d.0 d.1 in
       let x = are.each d.0.subject (
         d.0.minute,
@@ -86,11 +86,11 @@ module _ (st : State) (c : Content) (refines : Refines c st) (settled : (s : Sub
       (contains-among subjects x.0 x.1))
 
   -- The store's list is the list of the definitions.
-  pub subjects_awaited : map subject_of subjects ≡ each_once of_queue
+  pub subjects_awaited : map subject_of subjects ≡ distinct_subjects of_queue
   subjects_awaited =
-      same_rising subject_key (map subject_of subjects) (each_once of_queue)
+      same_rising subject_key (map subject_of subjects) (distinct_subjects of_queue)
       (mapped-rise subject_key subject_of subjects (sorted-rise key_of subjects are.rises))
-      (subjects-ascend (each_once of_queue) (each_is_once of_queue).0) forth back
+      (subjects-ascend (distinct_subjects of_queue) (each_is_once of_queue).0) forth back
 
 -- ---- who may ask
 
@@ -129,7 +129,7 @@ subjects_answered None xs ys e = (refl, (let f : Awaited xs ≡ Awaited ys = e i
 subjects_answered (Some k) xs ys e = let f : Awaited xs ≡ Refused k = e in cc
 
 nothing_waits : (s : Subject) (ds : List Download)
-    → (Contains (each_once (map (λ (d : Download). d.subject) ds)) s → ⊥)
+    → (Contains (distinct_subjects (map (λ (d : Download). d.subject) ds)) s → ⊥)
     → list_any (λ (d : Download). subject_eq d.subject s) ds ≡ false
 nothing_waits s ds none = by_cases (list_any (λ (d : Download). subject_eq d.subject s) ds) refl
   where
@@ -156,7 +156,8 @@ holds_all_but old new caller subjects answers st refines = λ s none.
     } in
     let reply =
     subjects_answered (refusal st (QuestionFrom caller Waiting)) subjects
-    (each_once (map (λ (d : Download). d.subject) (queue st caller))) (answers st refines).0 in
+    (distinct_subjects (map (λ (d : Download). d.subject) (queue st caller)))
+    (answers st refines).0 in
     let known : is_carrier st caller ≡ true =
     known_by (is_carrier st caller) (sym (waiting_by st caller) ∙ reply.0) in
     copy_is_published st is caller s known (nothing_waits s (queue st caller)

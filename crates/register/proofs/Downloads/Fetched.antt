@@ -8,12 +8,12 @@ use Rattle.std.specs.Ordering.{nat_cmp, ordering_then}
 use Rattle.std.specs.FinMap.{get}
 use Rattle.std.proofs.lemmas.Bool.Decides.{nat_tests}
 use Rattle.numbers.specs.Subjects.{Subject}
-use Rattle.model.specs.Content.{Content, BroadcastRow}
+use Rattle.model.specs.Content.{Content, BroadcastRow, broadcast_key, wait_key}
 use Rattle.model.specs.Machine.{Fetched}
 use Rattle.model.specs.State.{State, Download, is_before, is_carrier, queue}
 use Rattle.model.specs.Refusals.{QuestionFrom, Fetch, refusal, tests}
 use Rattle.model.proofs.Lists.{Among}
-use Rattle.model.specs.Laws.{AllBehind, IsQueueSorted}
+use Rattle.model.specs.Laws.{AllLater, IsQueueSorted}
 use Rattle.model.proofs.Queues.{behind_each, front_is, queue_rises}
 use Rattle.delivery.specs.declared.download.Download.{Download as DownloadImpl}
 use Rattle.settle.specs.Reads.{AreFirst, IsBehind, IsWaiting, IsWaitingDownload, queue_cmp}
@@ -58,7 +58,7 @@ mapped-rises [] sorted = tt
 mapped-rises (d ∷ ds) sorted = (behind ds sorted.0, mapped-rises ds sorted.1)
   where
     behind : (es : List DownloadImpl) → AllByRecursion (λ e. queue_cmp d e ≡ Less) es
-        → AllBehind (download_of d) (map download_of es)
+        → AllLater (download_of d) (map download_of es)
     behind [] all = tt
     behind (e ∷ es) all = (less-before (download_of d) (download_of e) all.0, behind es all.1)
 
@@ -85,12 +85,8 @@ module _ (st : State) (c : Content) (refines : Refines c st) (settled : (s : Sub
   -- A download pending in the store is in the queue.
   waits-queued : (d : DownloadImpl) → IsWaitingDownload c carrier d
       → Among (download_of d) (queue st carrier)
-  waits-queued d w = by_cases (get c.waits (record {
-    carrier = carrier;
-    minute = d.minute.number;
-    id = d.id;
-    attempt = d.attempt;
-  })) refl w.1.0
+  waits-queued d w = by_cases (get c.waits (wait_key carrier d.minute.number d.id d.attempt)) refl
+      w.1.0
     where
       told : (s : Subject) (is : IsAwaited st carrier s d.minute.number d.id d.attempt)
           → w.0 ≡ row_was carrier is.broadcast is.waits s → Among (download_of d) (queue st carrier)
@@ -108,17 +104,9 @@ module _ (st : State) (c : Content) (refines : Refines c st) (settled : (s : Sub
           subst (λ x. Among x (queue st carrier)) same (awaited-queued st c refines carrier s
           d.minute.number d.id d.attempt is)
 
-      by_cases : (o : Option Subject) → get c.waits (record {
-        carrier = carrier;
-        minute = d.minute.number;
-        id = d.id;
-        attempt = d.attempt;
-      }) ≡ o → is_some (get c.waits (record {
-        carrier = carrier;
-        minute = d.minute.number;
-        id = d.id;
-        attempt = d.attempt;
-      })) ≡ true →
+      by_cases : (o : Option Subject)
+          → get c.waits (wait_key carrier d.minute.number d.id d.attempt) ≡ o
+          → is_some (get c.waits (wait_key carrier d.minute.number d.id d.attempt)) ≡ true →
           Among (download_of d) (queue st carrier)
       by_cases None e there = let f : false ≡ true = sym (ap is_some e) ∙ there in cc
       by_cases (Some s) e there =
@@ -137,7 +125,7 @@ module _ (st : State) (c : Content) (refines : Refines c st) (settled : (s : Sub
     back : (q : Download) → Among q (queue st carrier) →
         Among q (map download_of downloads) ⊎ ((length (map download_of downloads) ≡ many)
         × ((x : Download) → Among x (map download_of downloads) → is_before x q ≡ true))
-    back q there = by_cases (get c.broadcasts (record { id = q.id; attempt = q.attempt })) refl
+    back q there = by_cases (get c.broadcasts (broadcast_key q.id q.attempt)) refl
       where
         awaited : IsAwaited st carrier q.subject q.minute q.id q.attempt
         awaited = queued-awaited st c refines carrier q there
@@ -167,11 +155,7 @@ module _ (st : State) (c : Content) (refines : Refines c st) (settled : (s : Sub
               subst (λ y. is_before y q ≡ true) (sym d.2) (less-before (download_of d.0) q d.1)),
         )
 
-        by_cases : (o : Option BroadcastRow) → get c.broadcasts (record {
-          id = q.id;
-          attempt =
-              q.attempt;
-        }) ≡ o →
+        by_cases : (o : Option BroadcastRow) → get c.broadcasts (broadcast_key q.id q.attempt) ≡ o →
             Among q (map download_of downloads) ⊎ ((length (map download_of downloads) ≡ many)
             × ((x : Download) → Among x (map download_of downloads) → is_before x q ≡ true))
         by_cases None e =

@@ -8,7 +8,7 @@ use Rattle.model.specs.Versions.{Broadcast, Version, is_among, version_with, wai
 use Rattle.model.specs.History.{AcknowledgementRequest}
 use Rattle.model.specs.State.{State, SubjectVersion, Download, record_now, is_carrier, version_of_id, download, is_before, queue}
 use Rattle.model.specs.Refusals.{RequestFrom, refusal, tests, first_refusal, no_version, is_download, is_not_among, is_preceded}
-use Rattle.model.specs.Content.{Content, VersionRow, of_subject, stored_wait, broadcast_with, row_of}
+use Rattle.model.specs.Content.{Content, VersionRow, of_subject, stored_wait, broadcast_with, row_of, wait_key}
 use Rattle.model.proofs.Entered.{found_is}
 use Rattle.model.proofs.Ids.{same_subject}
 use Rattle.numbers.proofs.Small.{equal_number, and_both, same_number, same_truth}
@@ -86,12 +86,8 @@ module _ (st : State) (c : Content) (refines : Refines c st) (carrier : ℕ) whe
 
   pub awaited-waiting : (s : Subject) → IsSettled c st s → (minute id attempt : ℕ)
       → IsAwaited st carrier s minute id attempt → IsWaiting c carrier s minute id attempt
-  awaited-waiting s due minute id attempt is = by_cases (get c.waits (record {
-    carrier = carrier;
-    minute = minute;
-    id = id;
-    attempt = attempt;
-  })) refl
+  awaited-waiting s due minute id attempt is =
+      by_cases (get c.waits (wait_key carrier minute id attempt)) refl
     where
       stored : stored_wait s carrier minute is.broadcast ≡ Some s
       stored = ap (λ m. if (m == minute) && is_among carrier (waiters is.broadcast) then Some s
@@ -99,12 +95,7 @@ module _ (st : State) (c : Content) (refines : Refines c st) (carrier : ℕ) whe
           ∙ ap (λ b. if b && is_among carrier (waiters is.broadcast) then Some s
           else None) (same_number minute) ∙ ap (λ b. if b then Some s else None) is.waits
 
-      shown : of_subject s (λ t. t) (get c.waits (record {
-        carrier = carrier;
-        minute = minute;
-        id = id;
-        attempt = attempt;
-      })) ≡ Some s
+      shown : of_subject s (λ t. t) (get c.waits (wait_key carrier minute id attempt)) ≡ Some s
       shown = due.rows_match.waits carrier minute id attempt
           ∙ ap (λ o. option_and_then (stored_wait s carrier minute)
           (option_and_then (λ (v : Version). find (λ x. x.attempt == attempt) v.broadcasts) o))
@@ -115,18 +106,8 @@ module _ (st : State) (c : Content) (refines : Refines c st) (carrier : ℕ) whe
       of_it t true e = e
       of_it t false e = cc
 
-      by_cases : (o : Option Subject) → get c.waits (record {
-        carrier = carrier;
-        minute = minute;
-        id = id;
-        attempt = attempt;
-      }) ≡ o →
-          get c.waits (record {
-            carrier = carrier;
-            minute = minute;
-            id = id;
-            attempt = attempt;
-          }) ≡ Some s
+      by_cases : (o : Option Subject) → get c.waits (wait_key carrier minute id attempt) ≡ o →
+          get c.waits (wait_key carrier minute id attempt) ≡ Some s
       by_cases None e = let no : None ≡ Some s = sym (ap (of_subject s (λ t. t)) e) ∙ shown in cc
       by_cases (Some t) e =
           e ∙ of_it t (subject_eq t s) (sym (ap (of_subject s (λ u. u)) e) ∙ shown)

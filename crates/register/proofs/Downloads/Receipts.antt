@@ -13,7 +13,7 @@ use Rattle.model.specs.declared.refusal.Refusal.{Refusal}
 use Rattle.model.specs.RefusalNumbers.{number_of}
 use Rattle.model.specs.Refusals.{Input, RequestFrom, refusal}
 use Rattle.model.specs.Machine.{Shown, accepted, answer_of}
-use Rattle.model.specs.Content.{Content, VersionRow, BroadcastRow, ClockRow, WaitKey, row_of}
+use Rattle.model.specs.Content.{Content, VersionRow, BroadcastRow, ClockRow, WaitKey, row_of, broadcast_key, wait_key}
 use Rattle.model.proofs.Shown.{id_found, some_is}
 use Rattle.version.specs.declared.version.Version.{Version as VersionImpl}
 use Rattle.version.specs.Abstraction.{version_of, model_with_windows, Becomes, HasModel}
@@ -150,7 +150,7 @@ pub never_missing : (old : Content) (caller id attempt : ℕ) (row : VersionRow)
     get old.versions id ≡ Some row → version_row_of u ≡ row
     → AreWaitsAbout old caller (subject_of u.version.subject) keys
     → find (is_key id attempt) keys ≡ Some key →
-    get old.broadcasts (record { id = id; attempt = attempt }) ≡ None → (st : State)
+    get old.broadcasts (broadcast_key id attempt) ≡ None → (st : State)
     → Refines old st
     → IdSettled old st id → ⊥
 never_missing old caller id attempt row u keys key found is waits key_is absent st refines settled =
@@ -238,17 +238,12 @@ pub answers_acknowledged : (old new : Content) (caller id attempt : ℕ) (clock 
     ≡ Some row → AreHeld old clock row.held held →
     version_row_of u ≡ row → AreWaitsAbout old caller (subject_of u.version.subject) keys →
     None ≡ key_refusal keys id attempt → find (is_key id attempt) keys ≡ Some key →
-    IsFound old (record {
-      carrier = caller;
-      minute = key.minute.number;
-      id = id;
-      attempt = attempt;
-    }) u.version broadcast last earlier →
+    IsFound old (wait_key caller key.minute.number id attempt) u.version broadcast last earlier →
     Becomes (completed_if clock.present (completes u.version attempt last) clock.minute) u.version
     after →
     windows ≡ windows_after clock.present held u.version.held after.held →
     AppliesChanges (all_changes clock.present windows clock.minute
-    (record { carrier = caller; minute = key.minute.number; id = id; attempt = attempt })
+    (wait_key caller key.minute.number id attempt)
     u.version after broadcast last earlier) old new →
     ((st : State) (broadcasts : List Broadcast) → st.now ≡ clock.minute → view
     ≡ view_of st (record {
@@ -467,13 +462,8 @@ answers_acknowledged old new caller id attempt clock row held u keys key broadca
             (answered_all caller attempt st.now awaited.version))))) broadcast_same)
             (subst (λ (c : ClockRow). AppliesChanges
             (all_changes c.present windows c.minute
-            (record {
-              carrier = caller;
-              minute = key.minute.number;
-              id = id;
-              attempt =
-                  attempt;
-            }) u.version after broadcast last earlier) old new) same_clock changed)
+            (wait_key caller key.minute.number id attempt) u.version after broadcast last earlier)
+            old new) same_clock changed)
 
         seen_view : view
             ≡ view_of (accepted st (RequestFrom caller (AcknowledgementRequest id attempt)))

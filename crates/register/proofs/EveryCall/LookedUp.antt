@@ -39,9 +39,10 @@ pub answers_in_vain : {A : Type 0} (old mid new : Content) (input : Input) (is_k
     → SimulatesSettledStep old new input (refused_with 10))
     →
     SimulatesSettledStep old new input (replied seen result)
-answers_in_vain old mid new input is_known id seen result r is early late vain unknown missing =
+answers_in_vain old mid new input is_known id seen result r is before_limit late vain unknown
+    missing =
     subst (λ x. SimulatesSettledStep old new input (replied seen x)) (sym is)
-    (by_cases (subst (λ m. IsLookupRefused m is_known id r) early vain))
+    (by_cases (subst (λ m. IsLookupRefused m is_known id r) before_limit vain))
   where
     by_cases : IsLookupRefused old is_known id r
         → SimulatesSettledStep old new input (replied seen (Err r))
@@ -51,7 +52,7 @@ answers_in_vain old mid new input is_known id seen result r is early late vain u
     by_cases (inr (inl (its, registered, none))) =
         subst (λ x. SimulatesSettledStep old new input (replied seen (Err x))) (sym its)
         (missing registered none)
-    by_cases (inr (inr past)) = answers_without old new input _ past (late ∙ early)
+    by_cases (inr (inr past)) = answers_without old new input _ past (late ∙ before_limit)
 
 -- The decision by these refusals, before anything is written and if nothing else was read.
 pub decides_in_vain : (old : Content) (input : Input) (changes : Changes) (is_known : Bool)

@@ -69,8 +69,8 @@ module _ (st : State) (old new : Content) (caller : ℕ) (request : Request) (s 
       lagging_aside st old new changes s id are changed t (refines.represents.subjects t) apart
       (one.free t apart)
 
-  -- What is left to prove: the subject's record after the request, no timer of which has expired,
-  -- and rows that match it.
+  -- What is left to prove: no timer of the subject's record has expired after the request, and the
+  -- rows match the record.
   module _ (is : record_now after_it s ≡ r) (shows : RowsMatch new s r)
       (quiet : IsQuiet st.now r.versions) where
     here : (t : Subject) → subject_eq s t ≡ true → IsSettled new after_it t

@@ -280,8 +280,8 @@ module _ (st : State) (caller : ℕ) (request : Request) (news : List Subject) (
               (begun_broadcast st.now Create) (λ b. refl) (λ b. refl) begun is_new all first
               (omega arith) are;
           waits = waits_among begun is_new all first (omega arith) are;
-          taken_broadcasts = tt;
-          taken_waits = tt;
+          deleted_broadcasts = tt;
+          deleted_waits = tt;
         }
 
     not_below : (k : ℕ) → nat_le (next_of st) k ≡ true

@@ -147,7 +147,7 @@ module _ (st : State) (old new : Content) (caller : ℕ) (request : Request) (to
   touched-stands = record {
     represents = record {
       windows = refines.represents.windows;
-      early = refines.represents.early;
+      before_limit = refines.represents.before_limit;
       history = history_after;
       clock = registry.clock;
       sets = λ k. same_sets k ∙ refines.represents.sets k ∙ sets-stay st caller request unset

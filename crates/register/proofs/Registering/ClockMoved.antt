@@ -49,13 +49,13 @@ module _ (old new : Content) (clock : ClockRow) (m : ℕ) (is : old.clock ≡ So
     clock = Some (record { minute = m; next_id = clock.next_id });
   }) old new → SimulatesStep old new (ClockMoment m) (Some (Moved m))
   unfolding out next
-  answers_moved up early changed = λ st refines.
+  answers_moved up before_limit changed = λ st refines.
       let passes : refusal st (ClockMoment m) ≡ None = taken st refines up in (
         rw passes refl,
         rw passes (record {
           represents =
               moved-represents st old new clock m refines.represents is
-              (subst (λ k. k ≤ m) (the_minute st refines) up) early changed;
+              (subst (λ k. k ≤ m) (the_minute st refines) up) before_limit changed;
           written = ap is_some changed.clock ∙ clock-written
               (Some (record { minute = m; next_id = clock.next_id })) None old.clock
               refines.written;

@@ -15,7 +15,7 @@ use Rattle.model.specs.History.{CommandRequest, effect, replay_step, replay_of, 
 use Rattle.model.specs.State.{State, record_now, set_now}
 use Rattle.model.specs.Refusals.{RequestFrom}
 use Rattle.model.specs.Machine.{accepted}
-use Rattle.model.specs.Content.{Content, VersionRow, BroadcastRow, WaitKey, RowsMatch, row_of, of_subject, stored_broadcast, stored_wait, broadcast_with, is_nonempty}
+use Rattle.model.specs.Content.{Content, VersionRow, BroadcastRow, WaitKey, RowsMatch, row_of, of_subject, stored_broadcast, stored_wait, broadcast_with, is_nonempty, broadcast_key, wait_key}
 use Rattle.model.proofs.Entered.{judged-now}
 use Rattle.model.proofs.Minutes.{retired-never}
 use Rattle.model.proofs.Rising.{among-with_number}
@@ -340,27 +340,20 @@ joined-shows w s c old new r changed newcomer shows = record {
       ∙ shows.versions id ∙ kept (version_with id r)
       ∙ sym (ap (option_map (row_of s)) (joined_version c id r.versions));
   broadcasts =
-      λ id a. ap (of_subject s (λ (x : BroadcastRow). x.subject)) (changed.broadcasts (record {
-        id =
-            id;
-        attempt = a;
-      })) ∙ shows.broadcasts id a
+      λ id a. ap (of_subject s (λ (x : BroadcastRow). x.subject))
+      (changed.broadcasts (broadcast_key id a)) ∙ shows.broadcasts id a
       ∙ sent (broadcast_with id a r)
       ∙ sym (ap (option_and_then (stored_broadcast s)) (joined_with c id a r));
   waits = λ k m id a. ap (of_subject s (λ t. t)) (
-      changed.waits (record { carrier = k; minute = m; id = id; attempt = a })
-      ∙ joined-put c (entries old.broadcasts) (entries_sorted old.broadcasts) (record {
-        carrier = k;
-        minute = m;
-        id = id;
-        attempt = a;
-      }) (get old.waits (record { carrier = k; minute = m; id = id; attempt = a }))
-      ∙ ap (λ o. joined_at c (record { carrier = k; minute = m; id = id; attempt = a }) o
-      (get old.waits (record { carrier = k; minute = m; id = id; attempt = a })))
-      (sym (get-entries old.broadcasts (record { id = id; attempt = a }))))
-      ∙ at_key s c k m (record { carrier = k; minute = m; id = id; attempt = a }) refl refl
-      (get old.broadcasts (record { id = id; attempt = a })) (broadcast_with id a r)
-      (get old.waits (record { carrier = k; minute = m; id = id; attempt = a }))
+      changed.waits (wait_key k m id a)
+      ∙ joined-put c (entries old.broadcasts) (entries_sorted old.broadcasts) (wait_key k m id a)
+      (get old.waits (wait_key k m id a))
+      ∙ ap (λ o. joined_at c (wait_key k m id a) o
+      (get old.waits (wait_key k m id a)))
+      (sym (get-entries old.broadcasts (broadcast_key id a))))
+      ∙ at_key s c k m (wait_key k m id a) refl refl
+      (get old.broadcasts (broadcast_key id a)) (broadcast_with id a r)
+      (get old.waits (wait_key k m id a))
       (shows.broadcasts id a) (shows.waits k m id a) (newcomer id a)
       ∙ sym (ap (option_and_then (stored_wait s k m)) (joined_with c id a r));
 }

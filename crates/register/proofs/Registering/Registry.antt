@@ -9,7 +9,7 @@ use Rattle.model.specs.History.{Request, CommandRequest, HasValues, next_id, car
 use Rattle.model.specs.State.{State, record_now, is_carrier, set_now}
 use Rattle.model.specs.Refusals.{RequestFrom, refusal, tests, first_refusal, npac}
 use Rattle.model.specs.Machine.{LrnAdded, CodeOpened, accepted}
-use Rattle.model.specs.Content.{Content, VersionRow, BroadcastRow, BlockRow, ClockRow, BroadcastKey, WaitKey, ClockRowMatches, SameRows, of_subject}
+use Rattle.model.specs.Content.{Content, VersionRow, BroadcastRow, BlockRow, ClockRow, BroadcastKey, WaitKey, ClockRowMatches, SameRows, of_subject, broadcast_key, wait_key}
 use Rattle.model.specs.Concerns.{concerns}
 use Rattle.model.proofs.Entered.{entered-elsewhere, next_id-same}
 use Rattle.settle.specs.Changes.{AppliesChanges, no_changes}
@@ -46,17 +46,9 @@ module _ (st : State) (old new : Content) (caller : ℕ) (request : Request)
     same_rows t = record {
       versions = λ k. ap (of_subject t (λ (x : VersionRow). x.subject)) (versions k);
       broadcasts =
-          λ k a. ap (of_subject t (λ (x : BroadcastRow). x.subject)) (broadcasts (record {
-            id = k;
-            attempt = a;
-          }));
-      waits = λ c m k a. ap (of_subject t (λ u. u)) (waits (record {
-        carrier = c;
-        minute = m;
-        id =
-            k;
-        attempt = a;
-      }));
+          λ k a. ap (of_subject t (λ (x : BroadcastRow). x.subject))
+          (broadcasts (broadcast_key k a));
+      waits = λ c m k a. ap (of_subject t (λ u. u)) (waits (wait_key c m k a));
     }
 
     clock_at : (o : Option ClockRow) → ClockRowMatches o st → old.clock ≡ o

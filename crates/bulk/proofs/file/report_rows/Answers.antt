@@ -1,6 +1,6 @@
 use Rattle.std.proofs.Common.{inl, subst, ◌∙◌}
 use Rattle.std.specs.Io.KnownBytes.{Appends}
-use Rattle.http_messages.specs.Sending.{AppendsFront}
+use Rattle.http_messages.specs.Sending.{AppendsPrefix}
 use Rattle.bulk.specs.Report.{report_header}
 use Rattle.bulk.proofs.Filed.{header_broken}
 use Rattle.bulk.proofs.file.report_rows.Goals as goal
@@ -20,5 +20,5 @@ unfolding report_header
 returns-in-Err-clause-reports g c = λ u st s rows has.
     header_broken st rows _ _ _ c.at_start.result (c.at_start.ensures.kind ∙ c.in-Err.ensures.kind)
     c.at_start.ensures.rows s
-    (subst (AppendsFront (g.W.Write.contents c.args.writer.now)
+    (subst (AppendsPrefix (g.W.Write.contents c.args.writer.now)
     (g.W.Write.contents c.send.new.writer)) c.set_first.ensures c.in-Err.ensures.err)

@@ -1,43 +1,48 @@
-use Rattle.std.proofs.Common.{◌≡◌, ◌+◌, ◌-◌, ◌≤◌, ℕ, Ok, Err, map, ap, arith}
+use Rattle.std.proofs.Common.{rules, ◌≡◌, ◌+◌, ◌-◌, ◌≤◌, ℕ, Ok, Err, map, ap, arith}
 use Rattle.std.proofs.Math.Nat.{le_trans}
 use Rattle.bulk.specs.Report.{Task, CommandTask, rising, state_after}
 use Rattle.bulk.proofs.Asked.{owes_on}
 use Rattle.bulk.proofs.Ranging.{runs_number, fails_among, does_numbers}
 use Rattle.bulk.proofs.running.run_request.Goals as goal
 
-pub returns-in-Err-clause-runs : goal.returns-in-Err-clause-runs
-returns-in-Err-clause-runs g c = λ u st s.
+pub returns-in_err-written-clause-runs : goal.returns-in_err-written-clause-runs
+returns-in_err-written-clause-runs g c = λ u st s.
     let f : ℕ → Task =
     λ n. CommandTask c.args.row c.args.request.now.caller.number n c.args.request.now.operation in
     let n = c.loop-number.number in
     let first = c.args.request.now.numbers.first.number in
     let before = c.loop-number.invariant.going (c.run_number.ensures.preserves.usable u) st s in
-    let now = c.in-Err.ensures.runs u (state_after st (map f (rising first (n - first))))
+    let now = c.in_err-written.ensures.runs u (state_after st (map f (rising first (n - first))))
     before.refines in
     let named : f c.at-tn.result.number ≡ f n = ap f c.at-tn.ensures in
-    fails_among c.in-Err.fault.kind f first c.args.request.now.numbers.last.number n st _ _ _
-    c.args.count c.in-Err.fault.rows c.loop-number.invariant.from c.loop-number-test.true
+    let failed =
+    fails_among c.in_err-written.field-0.0.kind f first c.args.request.now.numbers.last.number n st
+    _ _ _
+    c.args.count c.in_err-written.field-0.0.rows c.loop-number.invariant.from
+    c.loop-number-test.true
     (runs_number f first n st _ _ _ (g.W.Write.contents c.loop-number.writer) _ c.args.count
-    c.loop-number.written (Err c.in-Err.fault) c.loop-number.invariant.from before
-    (rw named at now))
+    c.loop-number.written (Err c.in_err-written.field-0.0) c.loop-number.invariant.from before
+    (rw named at now)) in
+    search rules
 
-pub returns-in-Err-clause-preserves : goal.returns-in-Err-clause-preserves
-returns-in-Err-clause-preserves g c =
-    owes_on c.loop-number.invariant.owed c.in-Err.ensures.preserves (λ u st s.
+pub returns-in_err-written-clause-preserves : goal.returns-in_err-written-clause-preserves
+returns-in_err-written-clause-preserves g c =
+    let owed = owes_on c.loop-number.invariant.owed c.in_err-written.ensures.preserves (λ u st s.
     let f : ℕ → Task =
     λ n. CommandTask c.args.row c.args.request.now.caller.number n c.args.request.now.operation in (
       state_after st
           (map f (rising c.args.request.now.numbers.first.number
           (c.loop-number.number - c.args.request.now.numbers.first.number))),
       (c.loop-number.invariant.going u st s).refines,
-    ))
+    )) in
+    search rules
 
 pub loop-number-preserved : goal.loop-number-preserved
 loop-number-preserved g c = record {
   from = omega (arith, c.loop-number.invariant.from);
   counted = omega (
     arith,
-    c.in-Ok.ensures.count,
+    c.in_ok-written.ensures.count,
     c.loop-number.invariant.counted,
     c.loop-number.invariant.from,
   );
@@ -54,11 +59,11 @@ loop-number-preserved g c = record {
       let n = c.loop-number.number in
       let first = c.args.request.now.numbers.first.number in
       let before = c.loop-number.invariant.going (c.run_number.ensures.preserves.usable u) st s in
-      let now = c.in-Ok.ensures.runs u (state_after st (map f (rising first (n - first))))
+      let now = c.in_ok-written.ensures.runs u (state_after st (map f (rising first (n - first))))
       before.refines in
       let named : f c.at-tn.result.number ≡ f n = ap f c.at-tn.ensures in
       runs_number f first n st _ _ _ (g.W.Write.contents c.loop-number.writer) _ c.args.count
-      c.loop-number.written (Ok c.in-Ok.count) c.loop-number.invariant.from before
+      c.loop-number.written (Ok c.in_ok-written.written) c.loop-number.invariant.from before
       (rw named at now);
 }
 

@@ -1,6 +1,6 @@
 use Rattle.std.proofs.Common.{◌∷◌, [], ◌++◌, length, map, subst}
 use Rattle.std.specs.Io.KnownBytes.{Appends}
-use Rattle.http_messages.specs.Sending.{AppendsFront}
+use Rattle.http_messages.specs.Sending.{AppendsPrefix}
 use Rattle.bulk.proofs.Sending.{all_behind, part_behind, part_of_first}
 use Rattle.bulk.proofs.writing.send_file.Goals as goal
 
@@ -21,5 +21,5 @@ returns-in-Ok-clause-err g c =
 pub returns-in-Err-clause-err : goal.returns-in-Err-clause-err
 returns-in-Err-clause-err g c =
     part_of_first _ _ (c.args.header.now ++ 10 ∷ []) (map g.L.InLine.text c.args.rows.now)
-    (subst (AppendsFront (g.W.Write.contents c.args.writer.now)
+    (subst (AppendsPrefix (g.W.Write.contents c.args.writer.now)
     (g.W.Write.contents c.send.new.writer)) c.set_first.ensures c.in-Err.ensures.err)

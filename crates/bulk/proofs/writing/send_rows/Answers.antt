@@ -1,7 +1,7 @@
 use Rattle.std.proofs.Common.{refl, List, map, sym, subst, arith, ℕ}
 use Rattle.std.proofs.KnownBytes.{Appends-nil}
 use Rattle.std.specs.Io.KnownBytes.{Appends}
-use Rattle.http_messages.specs.Sending.{AppendsFront}
+use Rattle.http_messages.specs.Sending.{AppendsPrefix}
 use Rattle.bulk.specs.Files.{IsSentPart}
 use Rattle.bulk.proofs.Sending.{all_sent, sent_next, sent_part, line_at}
 use Rattle.bulk.proofs.writing.send_rows.Goals as goal
@@ -21,7 +21,7 @@ returns-in-Err-clause-err g c =
     lines) (sym c.loop-row.invariant.counted)
     (sent_part _ (g.W.Write.contents c.loop-row.writer) _ lines c.loop-row.row-index _ at.0 at.1
     c.loop-row.invariant.sent
-    (subst (AppendsFront (g.W.Write.contents c.loop-row.writer)
+    (subst (AppendsPrefix (g.W.Write.contents c.loop-row.writer)
     (g.W.Write.contents c.send.new.writer)) c.put_in.ensures c.in-Err.ensures.err))
 
 pub loop-row-preserved : goal.loop-row-preserved

@@ -19,8 +19,7 @@ returns-in-Err-request_of-clause-cut g c =
     (sym c.buffered.ensures) at.1 in
     refused_made _ (g.R.Read.remaining c.next_head.new.reader)
     (buffered_bytes c.next_head.new.buffer)
-    c.in-Ok-Head.spans.len at.0 c.in-Err-request_of.fault c.head_is_unique.ensures.only
-    c.head_is_unique.ensures.begun
+    c.in-Ok-Head.spans.len at.0 c.in-Err-request_of.fault
     (record {
       keeps = c.in-Ok-Head.ensures.remaining;
       reads = at.1.reads;

@@ -1,4 +1,6 @@
-use Rattle.std.proofs.Common.{◌≡◌, ℕ, List, subst, sym, ap, ◌∙◌, false}
+use Rattle.std.proofs.Common.{◌≡◌, ℕ, List, length, arith, subst, sym, ap, ◌∙◌, false}
+use Rattle.httparse.specs.Grammar.{HasNoRequest}
+use Rattle.http_messages.proofs.UniqueHeads.{full_has_no_head}
 use Rattle.httparse.specs.Spans.{RequestOverflows}
 use Rattle.http_messages.specs.Blank.{is_blank}
 use Rattle.http_messages.specs.ReadBuffer.{buffered_bytes}
@@ -7,11 +9,22 @@ use Rattle.http_messages.proofs.next_head.next_head.Goals as goal
 
 pub returns-in-Bad-clause-not_blank : goal.returns-in-Bad-clause-not_blank
 returns-in-Bad-clause-not_blank g c =
+    λ _. not_blank_bad (buffered_bytes c.reads.buffer) (g.R.Read.remaining c.reads.reader)
+    (subst (RequestOverflows 64) c.buffered.ensures c.in-Bad.ensures)
+
+pub returns-then-len-clause-bad : goal.returns-then-len-clause-bad
+returns-then-len-clause-bad g c =
     let bytes : List ℕ = buffered_bytes c.reads.buffer in
-    let over : RequestOverflows 64 bytes =
-    subst (RequestOverflows 64) c.buffered.ensures c.in-Bad.ensures in
-    λ _. not_blank_bad bytes (g.R.Read.remaining c.reads.reader)
-    (λ more ends. c.head_is_unique.ensures.blank bytes more ends over)
+    let long : length bytes ≡ 8192 =
+    omega (
+      arith,
+      c.len.ensures.value,
+      c.len-in-reads.ensures,
+      c.if-len.true,
+      c.reads.invariant.0,
+    ) in
+    λ _. full_has_no_head bytes (g.R.Read.remaining c.reads.reader) long
+    (subst HasNoRequest c.buffered.ensures c.in-More.ensures)
 
 pub returns-then-branch-eq0-clause-not_blank : goal.returns-then-branch-eq0-clause-not_blank
 returns-then-branch-eq0-clause-not_blank g c =

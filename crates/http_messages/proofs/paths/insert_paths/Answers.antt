@@ -1,4 +1,4 @@
-use Rattle.std.proofs.Common.{◌≡◌, ◌∙◌, ap, sym, rules, Some, Err, drop}
+use Rattle.std.proofs.Common.{◌≡◌, ◌∙◌, ap, sym, rules, Err}
 use Rattle.std.proofs.lemmas.List.{drop_all}
 use Rattle.http_messages.specs.Table.{all_placed, texts_of}
 use Rattle.http_messages.proofs.PathLemmas.{placed_next}

@@ -1,4 +1,4 @@
-use Rattle.std.proofs.Common.{◌≡◌, map, Some, drop, Bor, ℕ, List}
+use Rattle.std.proofs.Common.{◌≡◌, Some, drop}
 use Rattle.matchit.specs.Rows.{RowsOf}
 use Rattle.matchit.specs.Router.{RouteOf}
 use Rattle.http_messages.specs.declared.paths.Route.{Route}

@@ -1,7 +1,7 @@
 use Rattle.std.proofs.Common.{◌≡◌, ◌&&◌, Bool, true, false, [], ◌∷◌, ◌++◌, map, refl, ap, ◌∙◌}
 use Rattle.std.specs.Prelude.{not, if◌then◌else◌}
 use Rattle.numbers.specs.Abstraction.{subject_of}
-use Rattle.model.specs.Content.{BroadcastKey, BroadcastRow, row_of}
+use Rattle.model.specs.Content.{BroadcastKey, BroadcastRow, row_of, broadcast_key}
 use Rattle.model.specs.Abstraction.{status_of}
 use Rattle.version.specs.Abstraction.{model_with_windows, set_of, windows_of}
 use Rattle.delivery.specs.declared.broadcast.Broadcast.{Broadcast}
@@ -53,10 +53,7 @@ returns c =
     (λ b. b && is_sending (status_of c.args.version.now.status)) c.completes-completes.ensures) in
     let kept : map entry_model (items_of c.only_if.result)
     ≡ (if not c.acknowledged-broadcast.result.is_open then [] else (
-      record {
-        id = c.args.wait.id;
-        attempt = c.args.wait.attempt;
-      },
+      broadcast_key c.args.wait.id c.args.wait.attempt,
       broadcast_row_of c.acknowledged-broadcast.result,
     ) ∷ []) =
     ap (map entry_model) c.only_if.ensures
@@ -65,10 +62,8 @@ returns c =
     ∙ ap (λ (k : BroadcastKey). if not c.acknowledged-broadcast.result.is_open then [] else
     (k, broadcast_row_of c.acknowledged-broadcast.result) ∷ []) c.broadcast_of-key.ensures in
     let gone : map broadcast_key_of (items_of c.only_if-2.result)
-    ≡ (if not c.acknowledged-broadcast.result.is_open then record {
-      id = c.args.wait.id;
-      attempt = c.args.wait.attempt;
-    } ∷ [] else []) =
+    ≡ (if not c.acknowledged-broadcast.result.is_open
+    then broadcast_key c.args.wait.id c.args.wait.attempt ∷ [] else []) =
     ap (map broadcast_key_of) c.only_if-2.ensures
     ∙ when-seen broadcast_key_of c.broadcast_of-key.result
     (not c.acknowledged-broadcast.result.is_open)
@@ -77,14 +72,14 @@ returns c =
     ap (λ (n : Changes). let x : Changes = record n {
       versions = items_of c.versions_of.result;
       broadcasts = map entry_model (items_of c.only_if.result);
-      taken_broadcasts = map broadcast_key_of (items_of c.only_if-2.result);
-      taken_waits = wait_key_of c.args.wait ∷ [];
+      deleted_broadcasts = map broadcast_key_of (items_of c.only_if-2.result);
+      deleted_waits = wait_key_of c.args.wait ∷ [];
     } in x) c.requires
     ∙ (λ i. record no_changes {
       versions = items_of c.versions_of.result;
       broadcasts = kept i;
-      taken_broadcasts = gone i;
-      taken_waits = wait_key_of c.args.wait ∷ [];
+      deleted_broadcasts = gone i;
+      deleted_waits = wait_key_of c.args.wait ∷ [];
     })
     ∙ ap (λ row. acknowledgement_changes c.args.wait.carrier.number c.args.wait.minute.number
     c.args.wait.id

@@ -14,9 +14,9 @@ returns c = λ w windows now v after.
     ap (λ (n : Changes). let x : Changes = record n {
       broadcasts = (broadcast_key_of c.broadcast_of.result, broadcast_row_of c.acknowledged.result)
           ∷ [];
-      taken_waits = wait_key_of c.args.wait ∷ [];
+      deleted_waits = wait_key_of c.args.wait ∷ [];
     } in x) c.requires
     ∙ (λ i. record no_changes {
       broadcasts = (c.broadcast_of.ensures i, broadcast i) ∷ [];
-      taken_waits = wait_key_of c.args.wait ∷ [];
+      deleted_waits = wait_key_of c.args.wait ∷ [];
     })

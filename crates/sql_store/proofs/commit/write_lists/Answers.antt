@@ -11,13 +11,13 @@ returns-clause-applies g c =
     let d = state g.S.Store c.put_versions.new.tx.conn.now in
     let e = state g.S.Store c.put_broadcasts.new.tx.conn.now in
     let f = state g.S.Store c.put_waits.new.tx.conn.now in
-    let h = state g.S.Store c.take_broadcasts.new.tx.conn.now in
-    let i = state g.S.Store c.take_waits.new.tx.conn.now in
+    let h = state g.S.Store c.delete_broadcasts.new.tx.conn.now in
+    let i = state g.S.Store c.delete_waits.new.tx.conn.now in
     let two = makes_then a b d true _ _ c.in_ok-clear_versions.ensures.applies
     c.in_ok-put_versions.ensures.applies in
     let three = makes_then a d e true _ _ two c.in_ok-put_broadcasts.ensures.applies in
     let four = makes_then a e f true _ _ three c.in_ok-put_waits.ensures.applies in
-    let five = makes_then a f h true _ _ four c.in_ok-take_broadcasts.ensures.applies in
+    let five = makes_then a f h true _ _ four c.in_ok-delete_broadcasts.ensures.applies in
     alike a i true _ (lists c.args.changes.now) (λ m. rw (
       c.as_slice.ensures,
       c.as_slice-2.ensures,
@@ -26,4 +26,4 @@ returns-clause-applies g c =
       c.as_slice-5.ensures,
       c.as_slice-6.ensures,
     ) refl)
-    (makes_then a h i true _ _ five c.in_ok-take_waits.ensures.applies)
+    (makes_then a h i true _ _ five c.in_ok-delete_waits.ensures.applies)

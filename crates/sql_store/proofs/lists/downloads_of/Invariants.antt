@@ -3,5 +3,5 @@ use Rattle.sql_store.specs.Lists.{download_of}
 use Rattle.sql_store.proofs.lists.downloads_of.Given as goal
 
 -- The downloads passed are in the list.
-abbrev pub invariant-loop-wait : goal.invariant-loop-wait
-invariant-loop-wait l = l.downloads.items ≡ map download_of (take l.wait-index l.waits)
+abbrev pub invariant-loop-key : goal.invariant-loop-key
+invariant-loop-key l = l.downloads.items ≡ map download_of (take l.key-index l.waits)

@@ -1,8 +1,8 @@
 use Rattle.std.proofs.Common.{◌≡◌, map, take}
-use Rattle.sql_rows.specs.declared.keyed.KeyedWait.{KeyedWait}
+use Rattle.sql_store.specs.Lists.{WaitRow}
 use Rattle.sql_store.proofs.lists.subjects_of.Given as goal
 
 -- The subjects passed are in the list.
-abbrev pub invariant-loop-wait : goal.invariant-loop-wait
-invariant-loop-wait l =
-    l.subjects.items ≡ map (λ (w : KeyedWait). w.subject) (take l.wait-index l.waits)
+abbrev pub invariant-loop-subject : goal.invariant-loop-subject
+invariant-loop-subject l =
+    l.subjects.items ≡ map (λ (w : WaitRow). w.1) (take l.subject-index l.waits)

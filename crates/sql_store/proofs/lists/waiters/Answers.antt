@@ -10,7 +10,8 @@ use Rattle.sql_rows.proofs.BoundLemmas.{bound_broadcast_key}
 use Rattle.sql_rows.proofs.QueriesListed.{wait_seen, waits_of_picked}
 use Rattle.sql_store.specs.Lists.{is_waiting}
 use Rattle.sql_store.specs.Store.{content_at}
-use Rattle.sql_store.proofs.WaiterLemmas.{key_at, no_great_wait, no_waiters, waiters_are}
+use Rattle.model.specs.Content.{wait_key}
+use Rattle.sql_store.proofs.WaiterLemmas.{no_great_wait, no_waiters, waiters_are}
 use Rattle.sql_store.proofs.lists.waiters.Goals as goal
 use Rattle.sql_store.proofs.lists.waiters.Goals.{then-key-ge9223372036854775808-via-then-key-ge9223372036854775808, then-key-ge9223372036854775808-via-else-key-ge9223372036854775808+then-key-ge9223372036854775808-2}
 use Rattle.numbers.proofs.Small.{false_second, false_first}
@@ -31,7 +32,7 @@ returns-then-key-ge9223372036854775808-clause-value g c up =
     subst (AreWaiters (content_at old) c.args.minute.number c.args.key.id c.args.key.attempt)
     (sym c.new.ensures.items)
     (no_waiters (content_at old) c.args.minute.number c.args.key.id c.args.key.attempt
-    (λ k. no_great_wait old.now.trees (key_at k c.args.minute.number c.args.key.id
+    (λ k. no_great_wait old.now.trees (wait_key k c.args.minute.number c.args.key.id
     c.args.key.attempt) great))
 
 pub returns-clause-value : goal.returns-clause-value

@@ -1,23 +1,25 @@
-use Rattle.std.proofs.Common.{◌≡◌, nat_lt, ◌&&◌, false, sym, arith}
+use Rattle.std.proofs.Common.{rules, ◌≡◌, pos, [], ◌∷◌, nat_lt, ◌&&◌, false, sym, arith}
+use Rattle.std.specs.FinMap.{get}
+use Rattle.sqlite.specs.declared.types.Value.TheVariants.{Int}
 use Rattle.sqlite.specs.Held.{state}
-use Rattle.settle.specs.Abstraction.{broadcast_key_of}
-use Rattle.sql_rows.proofs.FoundLemmas.{no_great_broadcast}
-use Rattle.sql_store.proofs.LookupLemmas.{broadcast_is}
+use Rattle.settle.specs.Abstraction.{broadcast_key_of, broadcast_row_of}
+use Rattle.sql_rows.specs.Content.{broadcast_in, content_in}
+use Rattle.sql_rows.specs.declared.statement.Query.TheVariants.{BroadcastKeyed}
+use Rattle.sql_rows.proofs.FoundLemmas.{broadcast_found, no_great_broadcast}
+use Rattle.sql_store.proofs.LookupLemmas.{keyed_is, two_bound}
 use Rattle.sql_store.proofs.lookups.broadcast.Goals as goal
 use Rattle.sql_store.proofs.lookups.broadcast.Goals.{then-key-ge9223372036854775808-via-then-key-ge9223372036854775808, then-key-ge9223372036854775808-via-else-key-ge9223372036854775808+then-key-ge9223372036854775808-2}
 use Rattle.numbers.proofs.Small.{false_second, false_first}
 
-pub returns-in-Some-clause-value : goal.returns-in-Some-clause-value
-returns-in-Some-clause-value g c up =
-    broadcast_is (state g.S.Store c.args.db.now.conn).now.trees c.number.result c.number-2.result
-    (broadcast_key_of c.args.key) c.number.ensures c.number-2.ensures c.in_ok-found.found _
-    c.in-Some.is (c.in_ok-found.ensures.value up)
-
-pub returns-in-None-clause-value : goal.returns-in-None-clause-value
-returns-in-None-clause-value g c up =
-    broadcast_is (state g.S.Store c.args.db.now.conn).now.trees c.number.result c.number-2.result
-    (broadcast_key_of c.args.key) c.number.ensures c.number-2.ensures c.in_ok-found.found _
-    c.in-None.is (c.in_ok-found.ensures.value up)
+pub returns-clause-value : goal.returns-clause-value
+returns-clause-value g c up =
+    let db = (state g.S.Store c.args.db.now.conn).now.trees in
+    let k = broadcast_key_of c.args.key in
+    keyed_is BroadcastKeyed broadcast_in broadcast_key_of broadcast_row_of db _
+    (Int (pos k.id) ∷ Int (pos k.attempt) ∷ []) c.in_ok-found.found c.map.result
+    (get (content_in db).broadcasts k) (search rules)
+    (two_bound c.number.result c.number-2.result k.id k.attempt c.number.ensures
+    c.number-2.ensures) (broadcast_found db k) (c.in_ok-found.ensures.value up)
 
 pub returns-then-key-ge9223372036854775808-clause-value :
     goal.returns-then-key-ge9223372036854775808-clause-value

@@ -1,18 +1,14 @@
-use Rattle.std.proofs.Common.{◌≡◌, nat_lt, false, sym, arith}
+use Rattle.std.proofs.Common.{rules, ◌≡◌, nat_lt, false, sym, arith}
 use Rattle.sqlite.specs.Held.{state}
 use Rattle.sql_rows.proofs.Rerouted.{no_great_version}
 use Rattle.sql_store.proofs.LookupLemmas.{version_is}
 use Rattle.sql_store.proofs.lookups.version.Goals as goal
 
-pub returns-in-Some-clause-value : goal.returns-in-Some-clause-value
-returns-in-Some-clause-value g c up =
+pub returns-clause-value : goal.returns-clause-value
+returns-clause-value g c up =
     version_is (state g.S.Store c.args.db.now.conn).now.trees c.number.result c.args.id
-    c.number.ensures c.in_ok-found.found _ c.in-Some.is (c.in_ok-found.ensures.value up)
-
-pub returns-in-None-clause-value : goal.returns-in-None-clause-value
-returns-in-None-clause-value g c up =
-    version_is (state g.S.Store c.args.db.now.conn).now.trees c.number.result c.args.id
-    c.number.ensures c.in_ok-found.found _ c.in-None.is (c.in_ok-found.ensures.value up)
+    c.number.ensures c.in_ok-found.found c.map.result (search rules)
+    (c.in_ok-found.ensures.value up)
 
 pub returns-then-id-ge9223372036854775808-clause-value :
     goal.returns-then-id-ge9223372036854775808-clause-value

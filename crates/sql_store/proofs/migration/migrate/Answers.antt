@@ -2,7 +2,7 @@ use Rattle.std.proofs.Common.{rules, IsTrue, true, subst, sym, ◌∙◌}
 use Rattle.sqlite.specs.Effect.{Database}
 use Rattle.sqlite.specs.Held.{state}
 use Rattle.version.specs.Abstraction.{windows_of}
-use Rattle.sql_store.specs.Migration.{AreStayingRead, IsCarried, IsMovedFrom, WereItsWindows}
+use Rattle.sql_store.specs.Migration.{AreStayingRead, IsCarried, IsMovedFrom, HasTheseWindows}
 use Rattle.sql_store.proofs.CallLemmas.{looked_then}
 use Rattle.sql_store.proofs.MigrationLemmas.{looked_moves}
 use Rattle.sql_store.proofs.migration.migrate.Goals as goal
@@ -24,7 +24,7 @@ returns-clause-moves g c =
     record {
       staying = subst (λ (x : Database). AreStayingRead c.args.schema_version x.trees)
           (sym (second.now ∙ first.now)) (c.in_ok-see_staying.ensures.value second.was_open);
-      windows = subst (λ (x : Database). WereItsWindows w x.trees) (sym second.now)
+      windows = subst (λ (x : Database). HasTheseWindows w x.trees) (sym second.now)
           (c.in_ok-has_windows.ensures.own up own);
       carried = carried;
     }) true c.in_ok-carry_over.ensures.moves

@@ -4,7 +4,7 @@ use Rattle.sqlite.specs.State.{HasCleanDisk}
 use Rattle.sql_rows.specs.Statements.{all_text}
 use Rattle.sql_store.specs.Store.{HasQueried, clean_if_open}
 use Rattle.sql_store.proofs.MigrationLemmas.{settled_as}
-use Rattle.sql_store.specs.Through.{TellsNone}
+use Rattle.sql_store.specs.Through.{BlankMeansNone}
 use Rattle.sql_store.proofs.ThroughLemmas.{old_plain, old_read, table_looked}
 use Rattle.sql_store.proofs.migration.see.Goals as goal
 
@@ -20,7 +20,8 @@ returns-in_err-read_table-clause-queried g c =
     let new = state g.S.Store c.read_table.new.conn in
     let fails : is_ok c.from_residual.result ≡ false = search rules in
     let looked : HasQueried old new (is_ok c.read_table.result) =
-    table_looked g.T.FromRow.seen_in TellsNone (all_text c.args.table) old new c.read_table.result
+    table_looked g.T.FromRow.seen_in BlankMeansNone (all_text c.args.table) old new
+    c.read_table.result
     (old_plain g.T.FromRow.seen_in c.args.table old new c.args.schema_version c.requires.has
     c.requires.old)
     (λ was. settled_as c.args.schema_version old (c.requires.old was))
@@ -44,7 +45,8 @@ returns-clause-queried g c =
     let old = state g.S.Store c.args.conn.now in
     let new = state g.S.Store c.read_table.new.conn in
     let looked : HasQueried old new (is_ok c.read_table.result) =
-    table_looked g.T.FromRow.seen_in TellsNone (all_text c.args.table) old new c.read_table.result
+    table_looked g.T.FromRow.seen_in BlankMeansNone (all_text c.args.table) old new
+    c.read_table.result
     (old_plain g.T.FromRow.seen_in c.args.table old new c.args.schema_version c.requires.has
     c.requires.old)
     (λ was. settled_as c.args.schema_version old (c.requires.old was))

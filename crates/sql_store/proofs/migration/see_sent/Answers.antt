@@ -6,7 +6,7 @@ use Rattle.sql_rows.specs.declared.statement.Table.TheVariants.{NextRouting, Wai
 use Rattle.sql_rows.specs.declared.migration.SchemaVersion.TheVariants.{First}
 use Rattle.sql_store.specs.Migration.{AreNextsRead}
 use Rattle.sql_store.specs.Whole.{IsRead}
-use Rattle.sql_store.proofs.WholeLemmas.{broadcasts_read, nexts_read, waits_read}
+use Rattle.sql_store.proofs.WholeLemmas.{broadcast_rows, next_rows, wait_rows}
 use Rattle.sql_store.proofs.migration.see_sent.Goals as goal
 
 pub returns-clause-value : goal.returns-clause-value
@@ -16,12 +16,12 @@ returns-clause-value g c up =
     let second = c.in_ok-see-2.ensures.queried.same third.was_open in
     let first = c.in_ok-see.ensures.queried.same second.was_open in
     record {
-      broadcasts = broadcasts_read db false (c.in_ok-see.ensures.value second.was_open);
-      waits = waits_read db false (subst (λ (d : Database). IsRead Wait wait_in d.trees false)
-          first.now (c.in_ok-see-2.ensures.value third.was_open));
+      broadcasts = (broadcast_rows db false (c.in_ok-see.ensures.value second.was_open)).each;
+      waits = (wait_rows db false (subst (λ (d : Database). IsRead Wait wait_in d.trees false)
+          first.now (c.in_ok-see-2.ensures.value third.was_open))).each;
       nexts = subst (λ f. AreNextsRead f db) (sym c.in-Modify.is)
-          (nexts_read db false (subst (λ (d : Database). IsRead NextRouting next_row_in d.trees
-          false) (second.now ∙ first.now) (c.in_ok-see-3.ensures.value up)));
+          (next_rows db false (subst (λ (d : Database). IsRead NextRouting next_row_in d.trees
+          false) (second.now ∙ first.now) (c.in_ok-see-3.ensures.value up))).each;
     }
 
 pub returns-in_default-clause-value : goal.returns-in_default-clause-value
@@ -31,8 +31,8 @@ returns-in_default-clause-value g c up =
     let first = c.in_ok-see.ensures.queried.same second.was_open in
     let is : c.args.schema_version ≡ First = search rules in
     record {
-      broadcasts = broadcasts_read db false (c.in_ok-see.ensures.value second.was_open);
-      waits = waits_read db false (subst (λ (d : Database). IsRead Wait wait_in d.trees false)
-          first.now (c.in_ok-see-2.ensures.value up));
+      broadcasts = (broadcast_rows db false (c.in_ok-see.ensures.value second.was_open)).each;
+      waits = (wait_rows db false (subst (λ (d : Database). IsRead Wait wait_in d.trees false)
+          first.now (c.in_ok-see-2.ensures.value up))).each;
       nexts = subst (λ f. AreNextsRead f db) (sym is) (λ r at. absurd at);
     }

@@ -5,7 +5,7 @@ use Rattle.sqlite.proofs.StateLemmas.{survives_then}
 use Rattle.sql_rows.specs.Statements.{all_text}
 use Rattle.sql_rows.specs.declared.statement.Query.TheVariants.{All}
 use Rattle.sql_rows.proofs.StatementLemmas.{query_selects}
-use Rattle.sql_store.specs.Through.{TellsNone}
+use Rattle.sql_store.specs.Through.{BlankMeansNone}
 use Rattle.sql_store.proofs.CallLemmas.{fails_as, query_commits_nothing}
 use Rattle.sql_store.proofs.ThroughLemmas.{err_from, read_from}
 use Rattle.sql_store.proofs.through.read_table.Goals as goal
@@ -34,7 +34,7 @@ pub returns-clause-all : goal.returns-clause-all
 returns-clause-all g c =
     let told = read_from g.S.Store (all_text c.args.table) c.text.ensures c.args.conn.now
     c.in_ok-rows.rows.conn.now c.read_rows.new.rows.conn.now c.requires.plain
-    c.in_ok-rows.ensures.begun c.read_rows.ensures.survives g.T.FromRow.seen_in TellsNone
+    c.in_ok-rows.ensures.begun c.read_rows.ensures.survives g.T.FromRow.seen_in BlankMeansNone
     c.read_rows.result c.read_rows.ensures.all in
     search rules
 

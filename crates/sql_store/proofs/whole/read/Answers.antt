@@ -2,7 +2,7 @@ use Rattle.sqlite.specs.Held.{state}
 use Rattle.sqlite.specs.State.{HasCleanDisk}
 use Rattle.sql_rows.specs.Statements.{all_text}
 use Rattle.sql_store.specs.Store.{clean_if_open, settled}
-use Rattle.sql_store.specs.Through.{TellsNone}
+use Rattle.sql_store.specs.Through.{BlankMeansNone}
 use Rattle.sql_store.proofs.CallLemmas.{looked_ours}
 use Rattle.sql_store.proofs.ThroughLemmas.{ours_plain, ours_read, table_looked}
 use Rattle.sql_store.proofs.whole.read.Goals as goal
@@ -26,7 +26,8 @@ pub returns-clause-queried : goal.returns-clause-queried
 returns-clause-queried g c =
     let old = state g.S.Store c.args.db.now.conn in
     let new = state g.S.Store c.read_table.new.conn in
-    table_looked g.T.FromRow.seen_in TellsNone (all_text c.args.table) old new c.read_table.result
+    table_looked g.T.FromRow.seen_in BlankMeansNone (all_text c.args.table) old new
+    c.read_table.result
     (ours_plain g.T.FromRow.seen_in c.args.table old new c.args.db.now.ours)
     (λ was. settled old (c.args.db.now.ours was))
     (clean_if_open new.is_clean new.is_open (g.met.S.Store.shut_if_dirty _))
@@ -38,7 +39,7 @@ invariant_of-db g c =
     let new = state g.S.Store c.read_table.new.conn in
     record {
       ours = looked_ours old new _ c.args.db.now.ours
-          (table_looked g.T.FromRow.seen_in TellsNone (all_text c.args.table) old new
+          (table_looked g.T.FromRow.seen_in BlankMeansNone (all_text c.args.table) old new
           c.read_table.result (ours_plain g.T.FromRow.seen_in c.args.table old new
           c.args.db.now.ours)
           (λ was. settled old (c.args.db.now.ours was))

@@ -21,6 +21,6 @@ pub returns-clause-spares : goal.returns-clause-spares
 returns-clause-spares c =
     spares-beside c.args.tables.now (record c.args.tables.now {
       clock = c.moved-tables.result;
-      broadcasts = c.take_broadcasts.new.map;
-      waits = c.take_waits.new.waits;
+      broadcasts = c.delete_broadcasts.new.map;
+      waits = c.delete_waits.new.waits;
     }) refl (all-kept c.args.tables.now)

@@ -6,16 +6,16 @@ use Rattle.store.proofs.Undone.{all-kept, versions-undone}
 use Rattle.store.proofs.commit.put_sole_version.Goals as goal
 
 -- The tables after the stale keys are deleted.
-taken : (c : goal.After-take_version_keys) → AreIndexed c.take_version_keys.new.tables
-    × AddNoStale c.args.tables.now c.take_version_keys.new.tables
+taken : (c : goal.After-delete_version_keys) → AreIndexed c.delete_version_keys.new.tables
+    × AddNoStale c.args.tables.now c.delete_version_keys.new.tables
 taken c =
     let put = c.put_row_keys.ensures in
-    sole-taken c.args.tables.now c.put_row_keys.new.tables c.take_version_keys.new.tables
+    sole-taken c.args.tables.now c.put_row_keys.new.tables c.delete_version_keys.new.tables
     c.write.new.self c.note.new.self c.args.id c.args.row.now c.needed_keys-present_keys.result
     c.version_keys-keys.result c.unneeded_keys.result (search rules)
     c.needed_keys-present_keys.ensures.own c.needed_keys-present_keys.ensures.without
     c.version_keys-keys.ensures c.unneeded_keys.ensures put.same put.keeps put.adds_keys
-    c.in-Ok.ensures.ok c.in_ok-new.ensures.there c.requires c.take_version_keys.ensures
+    c.in-Ok.ensures.ok c.in_ok-new.ensures.there c.requires c.delete_version_keys.ensures
 
 pub returns-then-replaced-clause-indexed : goal.returns-then-replaced-clause-indexed
 returns-then-replaced-clause-indexed c = (taken c).0
@@ -55,16 +55,16 @@ pub returns-in-Err-clause-refused : goal.returns-in-Err-clause-refused
 returns-in-Err-clause-refused c =
     let put = c.put_row_keys.ensures in
     record {
-      content = c.take_version_keys-in-Err.ensures.content
+      content = c.delete_version_keys-in-Err.ensures.content
           ∙ ap (λ m. record (content_of c.put_row_keys.new.tables) { versions = m })
           c.in-Err.ensures.err ∙ put.same;
       keeps = versions-undone c.in_ok-new.new c.args.tables.now c.put_row_keys.new.tables
-          c.put_row_keys.new.tables c.take_version_keys-in-Err.new.tables
+          c.put_row_keys.new.tables c.delete_version_keys-in-Err.new.tables
           c.in_ok-new.ensures.are_new
           put.keeps
-          (all-kept c.put_row_keys.new.tables) c.take_version_keys-in-Err.ensures.keeps;
-      adds = versions-undone c.in_ok-new.new c.take_version_keys-in-Err.new.tables
+          (all-kept c.put_row_keys.new.tables) c.delete_version_keys-in-Err.ensures.keeps;
+      adds = versions-undone c.in_ok-new.new c.delete_version_keys-in-Err.new.tables
           c.put_row_keys.new.tables c.put_row_keys.new.tables c.args.tables.now
-          c.take_version_keys-in-Err.ensures.gone c.take_version_keys-in-Err.ensures.adds
+          c.delete_version_keys-in-Err.ensures.gone c.delete_version_keys-in-Err.ensures.adds
           (all-kept c.put_row_keys.new.tables) c.in_ok-new.ensures.adds_new;
     }
