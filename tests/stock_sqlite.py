@@ -3,7 +3,7 @@
 
     tests/stock_sqlite.py      (build first: cd crates/npacd && rt run -- --help)
 
-The expected rows are worked out from docs/RULES.md and docs/FILES.md for the messages below. tests/moved_files.py tests the files that
+The expected rows are worked out from docs/RULES.md and docs/FILES.md for the messages below. tests/migrated_files.py tests the files that
 the program has migrated, and its answers then.
 """
 import os
@@ -17,7 +17,7 @@ from pathlib import Path
 sys.path.insert(0, str(Path(__file__).resolve().parents[1] / "bench"))
 from lib.messages import message
 from lib.program import PROGRAM, WINDOWS
-from moved_files import found_in_all
+from migrated_files import found_in_all
 
 TN, LRN = "2025331234", "2025440000"
 PARTIES = f'"new":"AAAA","old":"BBBB","tn":"{TN}"'
@@ -61,7 +61,8 @@ QUERIES = [
     ("SELECT spid FROM wait WHERE id = 1 ORDER BY spid", [("AAAA",), ("BBBB",)]),
     ("SELECT now, next_id, present FROM clock2 WHERE one = 0", [(100, 3, 1)]),
     ("SELECT pending_retention, broadcast FROM window_set WHERE number = 1", [(500, 15)]),
-    ("SELECT printf('%010d', lrn), printf('%04d', cic) FROM version2 WHERE holds = 2025331234", [("2025440000", "0288")]),
+    ("SELECT printf('%010d', lrn), iif(cic IS NULL, '', printf('%04d', cic)) FROM version2 WHERE holds = 2025331234",
+     [("2025440000", "0288")]),
     ("SELECT minute, id, attempt, subject FROM wait WHERE spid = 'AAAA' ORDER BY minute, id, attempt",
      [(100, 1, 2, 2025331234), (100, 2, 1, 2025337001)]),
 ]

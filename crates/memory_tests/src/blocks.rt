@@ -50,7 +50,7 @@ fn versions_of(alloc: Global, rows: &[Row<'_>]) -> Option<Vec<(u64, VersionRow)>
 }
 
 // Commits these rows to the store.
-fn takes(alloc: Global, store: &mut MemoryStore, rows: &[Row<'_>]) -> Option<()> {
+fn commit_rows(alloc: Global, store: &mut MemoryStore, rows: &[Row<'_>]) -> Option<()> {
     let versions = versions_of(alloc, rows)?;
     let changes = Changes {
         versions: Few::Many(versions),
@@ -59,7 +59,7 @@ fn takes(alloc: Global, store: &mut MemoryStore, rows: &[Row<'_>]) -> Option<()>
     store.commit(&changes).ok()
 }
 
-fn number(text: &str, is_in_force: bool, is_open: bool) -> Option<NumberInUse> {
+fn number_in_use(text: &str, is_in_force: bool, is_open: bool) -> Option<NumberInUse> {
     Some(NumberInUse {
         tn: Tn::read(text)?,
         is_in_force,
@@ -72,7 +72,7 @@ fn in_block(store: &mut MemoryStore, block: &str) -> Option<Vec<NumberInUse>> {
 }
 
 // The first and the last number of the block, one with a version in force and an open one, and one
-// with an ended version. Beside them the block itself, and a number of each neighboring block.
+// with an ended version. Also the block itself, and a number of each neighboring block.
 static ROWS: [Row<'static>; 9] = [
     (1, "2025331999", false, true),
     (2, "2025332000", true, true),
@@ -86,28 +86,28 @@ static ROWS: [Row<'static>; 9] = [
 ];
 
 // Returns whether these numbers of the block are in use, and no others.
-fn are_in(store: &mut MemoryStore, block: &str, wanted: &[NumberInUse]) -> Option<bool> {
-    Some(in_block(store, block)?.as_slice() == wanted)
+fn are_in_use(store: &mut MemoryStore, block: &str, expected: &[NumberInUse]) -> Option<bool> {
+    Some(in_block(store, block)?.as_slice() == expected)
 }
 
-fn listed(store: &mut MemoryStore) -> Option<[bool; 3]> {
+fn list_checks(store: &mut MemoryStore) -> Option<[bool; 3]> {
     let own = [
-        number("2025331000", true, false)?,
-        number("2025331234", false, true)?,
-        number("2025331500", true, true)?,
-        number("2025331999", false, true)?,
+        number_in_use("2025331000", true, false)?,
+        number_in_use("2025331234", false, true)?,
+        number_in_use("2025331500", true, true)?,
+        number_in_use("2025331999", false, true)?,
     ];
-    let next = [number("2025332000", true, true)?];
+    let next = [number_in_use("2025332000", true, true)?];
     Some([
-        are_in(store, "2025331", &own)?,
-        are_in(store, "2025332", &next)?,
-        are_in(store, "2025333", &[])?,
+        are_in_use(store, "2025331", &own)?,
+        are_in_use(store, "2025332", &next)?,
+        are_in_use(store, "2025333", &[])?,
     ])
 }
 
 fn are_listed_in(alloc: Global, store: &mut MemoryStore) -> Option<[bool; 3]> {
-    takes(alloc, store, &ROWS)?;
-    listed(store)
+    commit_rows(alloc, store, &ROWS)?;
+    list_checks(store)
 }
 
 fn are_listed(alloc: Global) -> Option<[bool; 3]> {

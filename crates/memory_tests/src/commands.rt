@@ -6,7 +6,7 @@ use store::MemoryStore;
 use version::{Create, Creator};
 
 /// Returns a routing without a carrier's identification code.
-pub fn routed_to(lrn: &str) -> Option<Routing> {
+pub fn routing_to(lrn: &str) -> Option<Routing> {
     Some(Routing {
         lrn: Lrn::read(lrn)?,
         cic: None,
@@ -15,7 +15,7 @@ pub fn routed_to(lrn: &str) -> Option<Routing> {
 
 /// Returns the routing of AAAA.
 pub fn routing() -> Option<Routing> {
-    routed_to("2025440000")
+    routing_to("2025440000")
 }
 
 /// Returns a provider's create of the port of a number from BBBB to AAAA.
@@ -33,7 +33,7 @@ pub fn create_of(number: &str, due: Minute, creator: Creator) -> Option<Create> 
 }
 
 /// Executes a command of a caller, which must be accepted.
-pub fn does(register: &mut Register<MemoryStore>, caller: Spid, command: Command) -> Option<()> {
+pub fn execute(register: &mut Register<MemoryStore>, caller: Spid, command: Command) -> Option<()> {
     match register.do_it(caller, &command) {
         Ok(_) => Some(()),
         Err(_) => None,

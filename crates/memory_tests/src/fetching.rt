@@ -1,6 +1,6 @@
 //! Tests what carriers fetch.
 use crate::commands::routing;
-use crate::port::{FIRST_PORT, Said, Texts, is_served, new_register};
+use crate::fixture::{Exchange, FIRST_PORT, Transcript, is_served, new_register};
 use delivery::{Download, Mirror};
 use model::{Action, Refusal};
 use numbers::{Minute, Routing, Spid, Subject, Tn};
@@ -9,20 +9,26 @@ use requests::{Command, Reply};
 use std::alloc::Global;
 use store::MemoryStore;
 
-type Desk = Register<MemoryStore>;
+type MemoryRegister = Register<MemoryStore>;
 
 // Returns whether the register serves these rows, `count` messages.
-fn is_told(alloc: Global, register: &mut Desk, rows: &[Said<'_>], count: u64) -> bool {
-    let mut texts = Texts::new(alloc);
-    texts.add_rows(alloc, rows).is_ok() && is_served(alloc, register, texts.asked.as_str(), count)
+fn are_exchanges_served(
+    alloc: Global,
+    register: &mut MemoryRegister,
+    exchanges: &[Exchange<'_>],
+    count: u64,
+) -> bool {
+    let mut transcript = Transcript::new(alloc);
+    transcript.add_all(alloc, exchanges).is_ok()
+        && is_served(alloc, register, transcript.requests.as_str(), count)
 }
 
 // Serves the first port up to its activation: eight messages.
-fn is_sent(alloc: Global, register: &mut Desk) -> bool {
-    is_told(alloc, register, &FIRST_PORT[..8], 8)
+fn is_first_port_sent(alloc: Global, register: &mut MemoryRegister) -> bool {
+    are_exchanges_served(alloc, register, &FIRST_PORT[..8], 8)
 }
 
-fn download() -> Option<Download> {
+fn expected_download() -> Option<Download> {
     Some(Download {
         id: 1,
         attempt: 1,
@@ -33,9 +39,14 @@ fn download() -> Option<Download> {
     })
 }
 
-// Returns whether a carrier that asks for `many` downloads fetches these.
-fn fetches(register: &mut Desk, caller: Spid, many: usize, wanted: &[Download]) -> Option<bool> {
-    Some(register.fetch(caller, many).ok()?.as_slice() == wanted)
+// Returns whether a carrier that asks for `count` downloads fetches these.
+fn has_downloads(
+    register: &mut MemoryRegister,
+    caller: Spid,
+    count: usize,
+    expected: &[Download],
+) -> Option<bool> {
+    Some(register.fetch(caller, count).ok()?.as_slice() == expected)
 }
 
 // Returns whether a copy has the routing of a download after it is applied.
@@ -46,44 +57,44 @@ fn is_copied(alloc: Global, download: &Download) -> bool {
 
 // Returns whether the old provider's fetches are right, before it acknowledges, with a count of
 // zero, and afterwards; and whether its copy follows.
-fn fetched(alloc: Global, register: &mut Desk) -> Option<[bool; 4]> {
+fn fetch_checks(alloc: Global, register: &mut MemoryRegister) -> Option<[bool; 4]> {
     let caller = Spid::read("BBBB")?;
-    let wanted = download()?;
-    let first = fetches(register, caller, 10, &[wanted])?;
-    let none = fetches(register, caller, 0, &[])?;
+    let expected = expected_download()?;
+    let first = has_downloads(register, caller, 10, &[expected])?;
+    let none = has_downloads(register, caller, 0, &[])?;
     register.acknowledge(caller, 1, 1).ok()?;
-    let after = fetches(register, caller, 10, &[])?;
-    Some([first, none, after, is_copied(alloc, &wanted)])
+    let after = has_downloads(register, caller, 10, &[])?;
+    Some([first, none, after, is_copied(alloc, &expected)])
 }
 
 // Returns whether a caller without a queue is refused.
-fn refused(register: &mut Desk) -> bool {
+fn is_refused(register: &mut MemoryRegister) -> bool {
     match register.fetch(Spid::NPAC, 10) {
         Err(refusal) => refusal == Refusal::UnknownCarrier,
         Ok(_) => false,
     }
 }
 
-fn seen_in(alloc: Global, register: &mut Desk) -> Option<([bool; 4], bool)> {
-    if !is_sent(alloc, register) {
+fn checks_in(alloc: Global, register: &mut MemoryRegister) -> Option<([bool; 4], bool)> {
+    if !is_first_port_sent(alloc, register) {
         return None;
     }
-    Some((fetched(alloc, register)?, refused(register)))
+    Some((fetch_checks(alloc, register)?, is_refused(register)))
 }
 
-fn seen(alloc: Global) -> Option<([bool; 4], bool)> {
+fn checks(alloc: Global) -> Option<([bool; 4], bool)> {
     let mut register = new_register(alloc)?;
-    seen_in(alloc, &mut register)
+    checks_in(alloc, &mut register)
 }
 
 #[test]
-fn a_carrier_fetches_what_waits(rt: HostRuntime) {
-    assert_eq!(rt; seen(rt.alloc()), Some(([true; 4], true)));
+fn a_carrier_fetches_its_pending_downloads(rt: HostRuntime) {
+    assert_eq!(rt; checks(rt.alloc()), Some(([true; 4], true)));
 }
 
 // The number is given back at 10, which only one carrier acknowledges in time, and is ported again
 // at 30.
-static GIVEN_BACK: [Said<'static>; 7] = [
+static RETURNED_AND_PORTED: [Exchange<'static>; 7] = [
     ("NPAC", "/clock", r#"{"minute":10}"#, ""),
     ("AAAA", "/subscriptionVersionDisconnect", r#"{"id":1}"#, ""),
     (
@@ -110,7 +121,11 @@ static GIVEN_BACK: [Said<'static>; 7] = [
 
 // Applies the carrier's next download to its copy, acknowledges it, and returns the copy's routing
 // of the number.
-fn followed(register: &mut Desk, caller: Spid, copy: &mut Mirror) -> Option<Option<Routing>> {
+fn follow_download(
+    register: &mut MemoryRegister,
+    caller: Spid,
+    copy: &mut Mirror,
+) -> Option<Option<Routing>> {
     let downloads = register.fetch(caller, 1).ok()?;
     let next = downloads.first()?;
     copy.apply(next).ok()?;
@@ -119,19 +134,19 @@ fn followed(register: &mut Desk, caller: Spid, copy: &mut Mirror) -> Option<Opti
 }
 
 // Follows the carrier's next two downloads, one after the other.
-fn followed_twice(
-    register: &mut Desk,
+fn follow_two_downloads(
+    register: &mut MemoryRegister,
     caller: Spid,
     copy: &mut Mirror,
 ) -> Option<[Option<Routing>; 2]> {
     Some([
-        followed(register, caller, copy)?,
-        followed(register, caller, copy)?,
+        follow_download(register, caller, copy)?,
+        follow_download(register, caller, copy)?,
     ])
 }
 
 // Starts a newcomer's copy with everything in force.
-fn starts(register: &mut Desk, spid: Spid, copy: &mut Mirror) -> Option<()> {
+fn start_copy(register: &mut MemoryRegister, spid: Spid, copy: &mut Mirror) -> Option<()> {
     let command = Command::RegisterCarrier { spid };
     match register.do_it(Spid::NPAC, &command).ok()? {
         Reply::Registered { spid: _, rows } => copy.start(&rows).ok(),
@@ -141,83 +156,83 @@ fn starts(register: &mut Desk, spid: Spid, copy: &mut Mirror) -> Option<()> {
 
 // The routings of the number in the copies of the old provider and of a newcomer: after the port,
 // after its return, and after the second port.
-type Followed = [[Option<Routing>; 3]; 2];
+type CopyHistories = [[Option<Routing>; 3]; 2];
 
-fn copies(
+fn follow_number(
     alloc: Global,
-    register: &mut Desk,
-    olds: &mut Mirror,
-    newcomers: &mut Mirror,
-) -> Option<Followed> {
+    register: &mut MemoryRegister,
+    old_copy: &mut Mirror,
+    newcomer_copy: &mut Mirror,
+) -> Option<CopyHistories> {
     let [old, new, newcomer] = [
         Spid::read("BBBB")?,
         Spid::read("AAAA")?,
         Spid::read("CCCC")?,
     ];
     register.acknowledge(new, 1, 1).ok()?;
-    let ported = followed(register, old, olds)?;
-    starts(register, newcomer, newcomers)?;
-    let begun = newcomers.get(download()?.subject);
-    if !is_told(alloc, register, &GIVEN_BACK, 7) {
+    let ported = follow_download(register, old, old_copy)?;
+    start_copy(register, newcomer, newcomer_copy)?;
+    let started = newcomer_copy.get(expected_download()?.subject);
+    if !are_exchanges_served(alloc, register, &RETURNED_AND_PORTED, 7) {
         return None;
     }
-    let [given_back, again] = followed_twice(register, old, olds)?;
-    let [taken_away, back] = followed_twice(register, newcomer, newcomers)?;
-    Some([[ported, given_back, again], [begun, taken_away, back]])
+    let [returned, again] = follow_two_downloads(register, old, old_copy)?;
+    let [removed, restored] = follow_two_downloads(register, newcomer, newcomer_copy)?;
+    Some([[ported, returned, again], [started, removed, restored]])
 }
 
-fn walked_in(alloc: Global, register: &mut Desk) -> Option<Followed> {
-    if !is_sent(alloc, register) {
+fn histories_in(alloc: Global, register: &mut MemoryRegister) -> Option<CopyHistories> {
+    if !is_first_port_sent(alloc, register) {
         return None;
     }
-    let mut olds = Mirror::new(alloc);
-    let mut newcomers = Mirror::new(alloc);
-    copies(alloc, register, &mut olds, &mut newcomers)
+    let mut old_copy = Mirror::new(alloc);
+    let mut newcomer_copy = Mirror::new(alloc);
+    follow_number(alloc, register, &mut old_copy, &mut newcomer_copy)
 }
 
-fn walked(alloc: Global) -> Option<Followed> {
+fn histories(alloc: Global) -> Option<CopyHistories> {
     let mut register = new_register(alloc)?;
-    walked_in(alloc, &mut register)
+    histories_in(alloc, &mut register)
 }
 
 #[test]
 fn copies_follow_a_number(rt: HostRuntime) {
     let each = [routing(), None, routing()];
-    assert_eq!(rt; walked(rt.alloc()), Some([each, each]));
+    assert_eq!(rt; histories(rt.alloc()), Some([each, each]));
 }
 
 // Returns whether downloads of this number, and of no other, are pending for the carrier.
-fn waits_for(register: &mut Desk, caller: Spid, subject: Subject) -> Option<bool> {
+fn is_only_pending(register: &mut MemoryRegister, caller: Spid, subject: Subject) -> Option<bool> {
     let subjects = register.waiting(caller).ok()?;
     Some(subjects.as_slice() == [subject].as_slice())
 }
 
 // Returns whether the pending downloads are right: as the first port is sent, after it is
 // acknowledged, and with two downloads of the number.
-fn awaited_in(alloc: Global, register: &mut Desk) -> Option<[bool; 4]> {
-    if !is_sent(alloc, register) {
+fn pending_checks_in(alloc: Global, register: &mut MemoryRegister) -> Option<[bool; 4]> {
+    if !is_first_port_sent(alloc, register) {
         return None;
     }
     let [old, new] = [Spid::read("BBBB")?, Spid::read("AAAA")?];
-    let subject = download()?.subject;
-    let sent = waits_for(register, old, subject)?;
+    let subject = expected_download()?.subject;
+    let sent = is_only_pending(register, old, subject)?;
     register.acknowledge(old, 1, 1).ok()?;
     register.acknowledge(new, 1, 1).ok()?;
     let none = register.waiting(old).ok()?.is_empty();
-    if !is_told(alloc, register, &GIVEN_BACK, 7) {
+    if !are_exchanges_served(alloc, register, &RETURNED_AND_PORTED, 7) {
         return None;
     }
     let both = register.fetch(old, 10).ok()?.len() == 2;
-    let again = waits_for(register, old, subject)?;
+    let again = is_only_pending(register, old, subject)?;
     Some([sent, none, both, again])
 }
 
-fn awaited(alloc: Global) -> Option<[bool; 4]> {
+fn pending_checks(alloc: Global) -> Option<[bool; 4]> {
     let mut register = new_register(alloc)?;
-    awaited_in(alloc, &mut register)
+    pending_checks_in(alloc, &mut register)
 }
 
-fn has_no_queue_in(register: &mut Desk) -> bool {
+fn has_no_queue_in(register: &mut MemoryRegister) -> bool {
     match register.waiting(Spid::NPAC) {
         Err(refusal) => refusal == Refusal::UnknownCarrier,
         Ok(_) => false,
@@ -230,7 +245,7 @@ fn has_no_queue(alloc: Global) -> Option<bool> {
 }
 
 #[test]
-fn a_carrier_is_told_what_waits(rt: HostRuntime) {
-    assert_eq!(rt; awaited(rt.alloc()), Some([true; 4]));
+fn a_carrier_gets_its_pending_subjects(rt: HostRuntime) {
+    assert_eq!(rt; pending_checks(rt.alloc()), Some([true; 4]));
     assert_eq!(rt; has_no_queue(rt.alloc()), Some(true));
 }

@@ -1,6 +1,6 @@
 //! Tests a reader and a writer that are interrupted before each byte: the responses stay the same.
-use crate::failing::{Story, story_of_first_port};
-use crate::port::{is_so, new_register, whole};
+use crate::fixture::{assert_served, new_register, served_to_end};
+use crate::io_faults::{Story, story_of_first_port};
 use api::{NoTicks, Options, serve};
 use register::Register;
 use std::io;
@@ -10,12 +10,12 @@ use store::MemoryStore;
 
 // A reader that returns one byte at every other call.
 #[derive(Drop)]
-struct HaltingReader<'a> {
+struct InterruptedReader<'a> {
     rest: &'a [u8],
     is_ready: bool,
 }
 
-impl Read for HaltingReader<'_> {
+impl Read for InterruptedReader<'_> {
     fn read(&mut self, buf: &mut [u8]) -> io::Result<usize> {
         self.is_ready = !self.is_ready;
         if !self.is_ready {
@@ -28,12 +28,12 @@ impl Read for HaltingReader<'_> {
 
 // A writer that takes one byte at every other call, and flushes at every other one.
 #[derive(Drop)]
-struct HaltingWriter {
+struct InterruptedWriter {
     bytes: Vec<u8>,
     is_ready: bool,
 }
 
-impl Write for HaltingWriter {
+impl Write for InterruptedWriter {
     fn write(&mut self, buf: &[u8]) -> io::Result<usize> {
         self.is_ready = !self.is_ready;
         if !self.is_ready {
@@ -54,21 +54,21 @@ impl Write for HaltingWriter {
 }
 
 // Tests that these are the responses of the story.
-fn is_answered_in<T: Abort + AllocGlobal>(
+fn assert_answered_in<T: Abort + AllocGlobal>(
     rt: &T,
     register: &mut Register<MemoryStore>,
     story: &Story,
 ) {
-    let mut reader = HaltingReader {
-        rest: story.texts.asked.as_bytes(),
+    let mut reader = InterruptedReader {
+        rest: story.transcript.requests.as_bytes(),
         is_ready: true,
     };
-    let mut writer = HaltingWriter {
+    let mut writer = InterruptedWriter {
         bytes: Vec::new(rt.alloc()),
         is_ready: true,
     };
     let options = Options { clock_route: true };
-    let ended = serve(
+    let served = serve(
         rt.alloc(),
         register,
         &mut NoTicks,
@@ -76,23 +76,23 @@ fn is_answered_in<T: Abort + AllocGlobal>(
         &mut reader,
         &mut writer,
     );
-    is_so(
+    assert_served(
         rt,
         &writer.bytes,
-        story.texts.answered.as_str(),
-        ended,
-        whole(11),
+        story.transcript.responses.as_str(),
+        served,
+        served_to_end(11),
     );
 }
 
-fn is_answered<T: Abort + AllocGlobal>(rt: &T) -> Option<()> {
+fn assert_answered<T: Abort + AllocGlobal>(rt: &T) -> Option<()> {
     let story = story_of_first_port(rt.alloc())?;
     let mut register = new_register(rt.alloc())?;
-    is_answered_in(rt, &mut register, &story);
+    assert_answered_in(rt, &mut register, &story);
     Some(())
 }
 
 #[test]
-fn what_is_interrupted_is_tried_again(rt: HostRuntime) {
-    assert!(rt; is_answered(&rt).is_some());
+fn interrupted_calls_are_tried_again(rt: HostRuntime) {
+    assert!(rt; assert_answered(&rt).is_some());
 }

@@ -4,42 +4,43 @@
 #[cfg(test)]
 mod blocks;
 #[cfg(test)]
-mod broken_off;
-#[cfg(test)]
 mod commands;
-#[cfg(test)]
 #[cfg(test)]
 mod cuts;
 #[cfg(test)]
-mod deep;
+mod delivery_tests;
 #[cfg(test)]
-mod delivery_trials;
+mod failed_firings;
 #[cfg(test)]
-mod failing;
-#[cfg(test)]
-mod faulty;
+mod faulty_io;
 #[cfg(test)]
 mod fetching;
 #[cfg(test)]
 mod files;
 #[cfg(test)]
+mod fixture;
+#[cfg(test)]
+mod flushing;
+#[cfg(test)]
 mod interrupted;
 #[cfg(test)]
-mod large;
+mod io_faults;
+#[cfg(test)]
+mod large_messages;
 #[cfg(test)]
 mod laws;
 #[cfg(test)]
-mod meaning_trials;
+mod many_broadcasts;
 #[cfg(test)]
-mod mirror_trials;
+mod mirror_tests;
 #[cfg(test)]
-mod numbers_trials;
+mod model_tests;
+#[cfg(test)]
+mod numbers_tests;
 #[cfg(test)]
 mod opening;
 #[cfg(test)]
-mod pool_trials;
-#[cfg(test)]
-mod port;
+mod pool_tests;
 #[cfg(test)]
 mod retries;
 #[cfg(test)]
@@ -49,12 +50,10 @@ mod settling;
 #[cfg(test)]
 mod stores;
 #[cfg(test)]
-mod telnp_trials;
+mod supplied_minutes;
 #[cfg(test)]
-mod ticking;
+mod telnp_tests;
 #[cfg(test)]
-mod version_trials;
+mod version_tests;
 #[cfg(test)]
-mod waiting;
-#[cfg(test)]
-mod windows_trials;
+mod windows_tests;

@@ -1,5 +1,8 @@
 //! Tests opening a store, and opening it again.
-use crate::port::{Said, WINDOWS, after_the_first_port, hears, opened, stream_of, whole};
+use crate::fixture::{
+    Exchange, WINDOWS, assert_responses, open_register, register_after_first_port, served_to_end,
+    transcript_of_all,
+};
 use model::Refusal;
 use numbers::Spid;
 use register::{OpenFault, Register};
@@ -11,11 +14,11 @@ use windows::Windows;
 
 // Returns a store that has served the first port.
 fn served_store(alloc: Global) -> Option<MemoryStore> {
-    Some(after_the_first_port(alloc)?.close())
+    Some(register_after_first_port(alloc)?.close())
 }
 
 // The port's number is routed, and a carrier that registers gets its one row.
-static AFTERWARDS: [Said<'static>; 2] = [
+static AFTERWARDS: [Exchange<'static>; 2] = [
     (
         "AAAA",
         "/query",
@@ -30,25 +33,34 @@ static AFTERWARDS: [Said<'static>; 2] = [
     ),
 ];
 
-fn goes_on<T: Abort + AllocGlobal>(rt: &T, register: &mut Register<MemoryStore>) -> Option<()> {
-    let texts = stream_of(rt.alloc(), &AFTERWARDS)?;
-    let mut reader = texts.asked.as_bytes();
-    hears(rt, register, &mut reader, texts.answered.as_str(), whole(2));
+fn assert_continues<T: Abort + AllocGlobal>(
+    rt: &T,
+    register: &mut Register<MemoryStore>,
+) -> Option<()> {
+    let transcript = transcript_of_all(rt.alloc(), &AFTERWARDS)?;
+    let mut reader = transcript.requests.as_bytes();
+    assert_responses(
+        rt,
+        register,
+        &mut reader,
+        transcript.responses.as_str(),
+        served_to_end(2),
+    );
     Some(())
 }
 
-fn goes_on_over<T: Abort + AllocGlobal>(rt: &T, store: MemoryStore) -> Option<()> {
-    let mut register = opened(rt.alloc(), store)?;
-    goes_on(rt, &mut register)
+fn assert_continues_over<T: Abort + AllocGlobal>(rt: &T, store: MemoryStore) -> Option<()> {
+    let mut register = open_register(rt.alloc(), store)?;
+    assert_continues(rt, &mut register)
 }
 
-fn is_opened_again<T: Abort + AllocGlobal>(rt: &T) -> Option<()> {
-    goes_on_over(rt, served_store(rt.alloc())?)
+fn assert_reopened<T: Abort + AllocGlobal>(rt: &T) -> Option<()> {
+    assert_continues_over(rt, served_store(rt.alloc())?)
 }
 
 #[test]
 fn a_store_is_opened_again(rt: HostRuntime) {
-    assert!(rt; is_opened_again(&rt).is_some());
+    assert!(rt; assert_reopened(&rt).is_some());
 }
 
 // Returns the windows of the tests, except for the broadcast's.
@@ -60,25 +72,25 @@ fn other_windows(alloc: Global) -> Option<Windows> {
 }
 
 // Opens a store with other windows, and returns the store and the fault.
-fn handed_back(alloc: Global) -> Option<(MemoryStore, OpenFault)> {
+fn open_with_other_windows(alloc: Global) -> Option<(MemoryStore, OpenFault)> {
     let windows = other_windows(alloc)?;
     Register::open(alloc, served_store(alloc)?, &windows).err()
 }
 
 // Tests that other windows are refused, and the store works on with its own.
-fn is_handed_back<T: Abort + AllocGlobal>(rt: &T) -> Option<()> {
-    let (store, fault) = handed_back(rt.alloc())?;
+fn assert_windows_differ<T: Abort + AllocGlobal>(rt: &T) -> Option<()> {
+    let (store, fault) = open_with_other_windows(rt.alloc())?;
     assert_eq!(rt; fault, OpenFault::WindowsDiffer);
-    goes_on_over(rt, store)
+    assert_continues_over(rt, store)
 }
 
 #[test]
-fn other_windows_are_refused_and_the_store_handed_back(rt: HostRuntime) {
-    assert!(rt; is_handed_back(&rt).is_some());
+fn other_windows_are_refused_and_the_store_returned(rt: HostRuntime) {
+    assert!(rt; assert_windows_differ(&rt).is_some());
 }
 
 // The administrator sets the other windows.
-static SET_ANEW: [Said<'static>; 1] = [(
+static OTHER_WINDOWS_SET: [Exchange<'static>; 1] = [(
     "NPAC",
     "/windows",
     r#"{"broadcast":16,"cancellation_final":60,"cancellation_initial":60,"conflict_expiration":1000,"conflict_resolution":120,"conflict_restriction":30,"final_concurrence":60,"initial_concurrence":60,"pending_retention":500}"#,
@@ -86,39 +98,42 @@ static SET_ANEW: [Said<'static>; 1] = [(
 )];
 
 // Returns a store that was opened with the windows of the tests, and now has the other windows.
-fn store_set_anew<T: Abort + AllocGlobal>(rt: &T) -> Option<MemoryStore> {
-    let mut register = after_the_first_port(rt.alloc())?;
-    let texts = stream_of(rt.alloc(), &SET_ANEW)?;
-    let mut reader = texts.asked.as_bytes();
-    hears(
+fn store_with_other_windows<T: Abort + AllocGlobal>(rt: &T) -> Option<MemoryStore> {
+    let mut register = register_after_first_port(rt.alloc())?;
+    let transcript = transcript_of_all(rt.alloc(), &OTHER_WINDOWS_SET)?;
+    let mut reader = transcript.requests.as_bytes();
+    assert_responses(
         rt,
         &mut register,
         &mut reader,
-        texts.answered.as_str(),
-        whole(1),
+        transcript.responses.as_str(),
+        served_to_end(1),
     );
     Some(register.close())
 }
 
 // Tests that the store refuses its first windows, and works with the current ones.
-fn goes_on_with_the_present<T: Abort + AllocGlobal>(rt: &T) -> Option<()> {
+fn assert_continues_with_present<T: Abort + AllocGlobal>(rt: &T) -> Option<()> {
     let first = Windows::from_toml(rt.alloc(), WINDOWS).ok()?;
-    let store = store_set_anew(rt)?;
+    let store = store_with_other_windows(rt)?;
     let (store, fault) = Register::open(rt.alloc(), store, &first).err()?;
     assert_eq!(rt; fault, OpenFault::WindowsDiffer);
     let present = other_windows(rt.alloc())?;
     let mut register = Register::open(rt.alloc(), store, &present).ok()?;
-    goes_on(rt, &mut register)
+    assert_continues(rt, &mut register)
 }
 
 #[test]
 fn a_store_is_opened_with_its_present_windows(rt: HostRuntime) {
-    assert!(rt; goes_on_with_the_present(&rt).is_some());
+    assert!(rt; assert_continues_with_present(&rt).is_some());
 }
 
 // Sets windows until a refusal. Returns how often that succeeded, and why the administrator and
 // another caller are refused then.
-fn sets_in(alloc: Global, register: &mut Register<MemoryStore>) -> Option<(u16, [Refusal; 2])> {
+fn count_sets_in(
+    alloc: Global,
+    register: &mut Register<MemoryStore>,
+) -> Option<(u16, [Refusal; 2])> {
     let command = Command::SetWindows {
         windows: Windows::from_toml(alloc, WINDOWS).ok()?,
     };
@@ -135,13 +150,13 @@ fn sets_in(alloc: Global, register: &mut Register<MemoryStore>) -> Option<(u16, 
     None
 }
 
-fn sets(alloc: Global) -> Option<(u16, [Refusal; 2])> {
-    let mut register = after_the_first_port(alloc)?;
-    sets_in(alloc, &mut register)
+fn count_sets(alloc: Global) -> Option<(u16, [Refusal; 2])> {
+    let mut register = register_after_first_port(alloc)?;
+    count_sets_in(alloc, &mut register)
 }
 
 #[test]
-fn a_thousand_sets_are_all(rt: HostRuntime) {
-    let wanted = Some((1000, [Refusal::Full, Refusal::NotAdmin]));
-    assert_eq!(rt; sets(rt.alloc()), wanted);
+fn a_thousand_sets_are_the_most(rt: HostRuntime) {
+    let expected = Some((1000, [Refusal::Full, Refusal::NotAdmin]));
+    assert_eq!(rt; count_sets(rt.alloc()), expected);
 }

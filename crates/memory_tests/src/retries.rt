@@ -2,7 +2,9 @@
 //!
 //! `rt try --test --fail-alloc N` runs it with its N-th allocation refused; `bench/run
 //! refused-memory` does the same to the built program, for every N.
-use crate::port::{FIRST_PORT, Said, Texts, new_register, texts_of, whole};
+use crate::fixture::{
+    Exchange, FIRST_PORT, Transcript, new_register, served_to_end, transcript_of,
+};
 use api::{Fault, NoTicks, Options, serve};
 use register::Register;
 use std::alloc::Global;
@@ -13,85 +15,96 @@ const NO_MEMORY: &str =
 
 // The response to a message: right, or an allocation failure without any effect.
 #[derive(Clone, Copy)]
-enum Heard {
-    Right,
-    Refused,
+enum SendOutcome {
+    Answered,
+    NoMemory,
     Wrong,
 }
 
-fn say(
+fn send(
     alloc: Global,
     register: &mut Register<MemoryStore>,
-    texts: &Texts,
-    bytes: &mut Vec<u8>,
-) -> Heard {
-    bytes.clear();
+    transcript: &Transcript,
+    responses: &mut Vec<u8>,
+) -> SendOutcome {
+    responses.clear();
     let options = Options { clock_route: true };
-    let mut reader = texts.asked.as_bytes();
-    let served = serve(alloc, register, &mut NoTicks, &options, &mut reader, bytes);
-    if served == whole(1) && bytes.as_slice() == texts.answered.as_bytes() {
-        return Heard::Right;
+    let mut reader = transcript.requests.as_bytes();
+    let served = serve(
+        alloc,
+        register,
+        &mut NoTicks,
+        &options,
+        &mut reader,
+        responses,
+    );
+    if served == served_to_end(1) && responses.as_slice() == transcript.responses.as_bytes() {
+        return SendOutcome::Answered;
     }
-    let is_refused = served == whole(1) && bytes.as_slice() == NO_MEMORY.as_bytes();
-    if is_refused || (served == Err(Fault::Memory(0)) && bytes.is_empty()) {
-        return Heard::Refused;
+    let is_refused = served == served_to_end(1) && responses.as_slice() == NO_MEMORY.as_bytes();
+    if is_refused || (served == Err(Fault::Memory(0)) && responses.is_empty()) {
+        return SendOutcome::NoMemory;
     }
-    Heard::Wrong
+    SendOutcome::Wrong
 }
 
-fn register_at_last(alloc: Global) -> Option<Register<MemoryStore>> {
+fn open_with_retry(alloc: Global) -> Option<Register<MemoryStore>> {
     match new_register(alloc) {
         Some(register) => Some(register),
         None => new_register(alloc),
     }
 }
 
-fn texts_at_last(alloc: Global, said: &Said<'_>) -> Option<Texts> {
-    match texts_of(alloc, said) {
-        Ok(texts) => Some(texts),
-        Err(_) => texts_of(alloc, said).ok(),
+fn transcript_with_retry(alloc: Global, exchange: &Exchange<'_>) -> Option<Transcript> {
+    match transcript_of(alloc, exchange) {
+        Ok(transcript) => Some(transcript),
+        Err(_) => transcript_of(alloc, exchange).ok(),
     }
 }
 
-fn room_at_last(alloc: Global) -> Option<Vec<u8>> {
+fn buffer_with_retry(alloc: Global) -> Option<Vec<u8>> {
     match Vec::with_capacity(alloc, 4096) {
-        Ok(room) => Some(room),
+        Ok(buffer) => Some(buffer),
         Err(_) => Vec::with_capacity(alloc, 4096).ok(),
     }
 }
 
 // Sends a row, and sends it again if an allocation failed.
-fn said_again(
+fn send_with_retry(
     alloc: Global,
     register: &mut Register<MemoryStore>,
-    said: &Said<'_>,
-    bytes: &mut Vec<u8>,
-) -> Option<Heard> {
-    let texts = texts_at_last(alloc, said)?;
-    match say(alloc, register, &texts, bytes) {
-        Heard::Refused => Some(say(alloc, register, &texts, bytes)),
-        heard => Some(heard),
+    exchange: &Exchange<'_>,
+    responses: &mut Vec<u8>,
+) -> Option<SendOutcome> {
+    let transcript = transcript_with_retry(alloc, exchange)?;
+    match send(alloc, register, &transcript, responses) {
+        SendOutcome::NoMemory => Some(send(alloc, register, &transcript, responses)),
+        outcome => Some(outcome),
     }
 }
 
 // Returns whether each row of the first port is answered, at the first or the second attempt.
-fn is_answered(alloc: Global, register: &mut Register<MemoryStore>, bytes: &mut Vec<u8>) -> bool {
-    for said in &FIRST_PORT {
-        match said_again(alloc, register, said, bytes) {
-            Some(Heard::Right) => {}
+fn are_all_answered(
+    alloc: Global,
+    register: &mut Register<MemoryStore>,
+    responses: &mut Vec<u8>,
+) -> bool {
+    for exchange in &FIRST_PORT {
+        match send_with_retry(alloc, register, exchange, responses) {
+            Some(SendOutcome::Answered) => {}
             _ => return false,
         }
     }
     true
 }
 
-fn is_answered_at_last(alloc: Global) -> Option<bool> {
-    let mut bytes = room_at_last(alloc)?;
-    let mut register = register_at_last(alloc)?;
-    Some(is_answered(alloc, &mut register, &mut bytes))
+fn are_all_answered_with_retry(alloc: Global) -> Option<bool> {
+    let mut responses = buffer_with_retry(alloc)?;
+    let mut register = open_with_retry(alloc)?;
+    Some(are_all_answered(alloc, &mut register, &mut responses))
 }
 
 #[test]
 fn a_refused_message_may_be_sent_again(rt: HostRuntime) {
-    assert_eq!(rt; is_answered_at_last(rt.alloc()), Some(true));
+    assert_eq!(rt; are_all_answered_with_retry(rt.alloc()), Some(true));
 }

@@ -21,7 +21,7 @@ const WINDOWS: Windows = Windows {
 };
 
 // Returns a version of the number sending its create from 700 on.
-fn sent(number: &str, attempt: u64) -> Option<Version> {
+fn sending_version(number: &str, attempt: u64) -> Option<Version> {
     let minute = Minute::new(700)?;
     Some(Version {
         subject: Subject::Number(Tn::read(number)?),
@@ -42,10 +42,13 @@ fn sent(number: &str, attempt: u64) -> Option<Version> {
 
 // Returns version 7 at its first attempt, and version 9 at its second.
 fn versions() -> Option<[(u64, Version); 2]> {
-    Some([(7, sent("2025337003", 1)?), (9, sent("2025337005", 2)?)])
+    Some([
+        (7, sending_version("2025337003", 1)?),
+        (9, sending_version("2025337005", 2)?),
+    ])
 }
 
-fn begun(alloc: Global, versions: &[(u64, Version)]) -> Option<Changes> {
+fn begin_sending(alloc: Global, versions: &[(u64, Version)]) -> Option<Changes> {
     let all_carriers = [Spid::read("AAAA")?, Spid::read("BBBB")?];
     let minute = Minute::new(700)?;
     let mut changes = Changes::none(alloc);
@@ -66,10 +69,10 @@ fn begun(alloc: Global, versions: &[(u64, Version)]) -> Option<Changes> {
 // Returns whether each version has its row: open, not in force, and with the deadline 715.
 fn has_rows(changes: &Changes, versions: &[(u64, Version)]) -> bool {
     let rows = changes.versions.as_slice();
-    for ((id, row), (wanted, version)) in rows.iter().zip(versions) {
-        let is_over = row.deadline.map(|minute| minute.number) == Some(715);
-        let is_own = id == wanted && row.version == *version;
-        if !is_own || !is_over || row.is_in_force || !row.is_open {
+    for ((id, row), (expected, version)) in rows.iter().zip(versions) {
+        let is_deadline = row.deadline.map(|minute| minute.number) == Some(715);
+        let is_version = id == expected && row.version == *version;
+        if !is_version || !is_deadline || row.is_in_force || !row.is_open {
             return false;
         }
     }
@@ -88,7 +91,12 @@ fn broadcast(id: u64, attempt: u64, number: &str) -> Option<(BroadcastKey, Broad
     Some((BroadcastKey { id, attempt }, broadcast))
 }
 
-fn wait(carrier: &str, id: u64, attempt: u64, number: &str) -> Option<(WaitKey, Subject)> {
+fn waiting_download(
+    carrier: &str,
+    id: u64,
+    attempt: u64,
+    number: &str,
+) -> Option<(WaitKey, Subject)> {
     let key = WaitKey {
         carrier: Spid::read(carrier)?,
         minute: Minute::new(700)?,
@@ -99,21 +107,21 @@ fn wait(carrier: &str, id: u64, attempt: u64, number: &str) -> Option<(WaitKey, 
 }
 
 fn has_broadcasts(changes: &Changes) -> Option<bool> {
-    let wanted = [
+    let expected = [
         broadcast(7, 1, "2025337003")?,
         broadcast(9, 2, "2025337005")?,
     ];
-    Some(changes.broadcasts.as_slice() == wanted.as_slice())
+    Some(changes.broadcasts.as_slice() == expected.as_slice())
 }
 
 fn has_waits(changes: &Changes) -> Option<bool> {
-    let wanted = [
-        wait("AAAA", 7, 1, "2025337003")?,
-        wait("BBBB", 7, 1, "2025337003")?,
-        wait("AAAA", 9, 2, "2025337005")?,
-        wait("BBBB", 9, 2, "2025337005")?,
+    let expected = [
+        waiting_download("AAAA", 7, 1, "2025337003")?,
+        waiting_download("BBBB", 7, 1, "2025337003")?,
+        waiting_download("AAAA", 9, 2, "2025337005")?,
+        waiting_download("BBBB", 9, 2, "2025337005")?,
     ];
-    Some(changes.waits.as_slice() == wanted.as_slice())
+    Some(changes.waits.as_slice() == expected.as_slice())
 }
 
 // Returns whether the changes have these versions' rows, their broadcasts, and the pending
@@ -128,7 +136,7 @@ fn has_all(changes: &Changes, versions: &[(u64, Version)]) -> Option<[bool; 3]> 
 
 fn are_begun(alloc: Global) -> Option<[bool; 3]> {
     let versions = versions()?;
-    let changes = begun(alloc, &versions)?;
+    let changes = begin_sending(alloc, &versions)?;
     has_all(&changes, &versions)
 }
 

@@ -1,5 +1,8 @@
 //! Tests what a call settles: the subjects that it reads, and no other.
-use crate::port::{FIRST_PORT, Said, Texts, answer, asked, is_answered, is_served, opened};
+use crate::fixture::{
+    Exchange, FIRST_PORT, Transcript, encode_request, encode_response, is_answered, is_served,
+    open_register,
+};
 use register::Register;
 use settle::Store;
 use std::alloc::{AllocError, Global};
@@ -7,36 +10,36 @@ use std::cell::Cell;
 use store::{CommitCounter, MemoryStore};
 
 // Appends the old provider's create of a number, due at 300.
-fn offer(alloc: Global, line: u64, out: &mut String) -> Result<(), AllocError> {
+fn append_create(alloc: Global, line: u64, out: &mut String) -> Result<(), AllocError> {
     let body = format!(in alloc;
         "{{\"authorized\":true,\"due\":300,\"new\":\"AAAA\",\"old\":\"BBBB\",\"tn\":\"202533{line}\"}}"
     )?;
     let path = "/subscriptionVersionOldSP-Create";
-    let text = asked(alloc, &("BBBB", path, body.as_str(), ""))?;
-    out.push_str(text.as_str())
+    let request = encode_request(alloc, &("BBBB", path, body.as_str(), ""))?;
+    out.push_str(request.as_str())
 }
 
-static AT_120: Said<'static> = ("NPAC", "/clock", r#"{"minute":120}"#, r#"{"now":120}"#);
+static AT_120: Exchange<'static> = ("NPAC", "/clock", r#"{"minute":120}"#, r#"{"now":120}"#);
 
 // Adds the messages that open a register, a thousand creates whose windows end at 120, and the
 // clock at that minute.
-fn ask_until_120(alloc: Global, texts: &mut Texts) -> Result<(), AllocError> {
-    texts.add_rows(alloc, &FIRST_PORT[..5])?;
+fn append_until_120(alloc: Global, transcript: &mut Transcript) -> Result<(), AllocError> {
+    transcript.add_all(alloc, &FIRST_PORT[..5])?;
     for line in 1000..2000 {
-        offer(alloc, line, &mut texts.asked)?;
+        append_create(alloc, line, &mut transcript.requests)?;
     }
-    let clock = asked(alloc, &AT_120)?;
-    texts.asked.push_str(clock.as_str())
+    let clock = encode_request(alloc, &AT_120)?;
+    transcript.requests.push_str(clock.as_str())
 }
 
-fn is_told_until_120<S: Store>(alloc: Global, register: &mut Register<S>) -> bool {
-    let mut texts = Texts::new(alloc);
-    ask_until_120(alloc, &mut texts).is_ok()
-        && is_served(alloc, register, texts.asked.as_str(), 1006)
+fn is_served_until_120<S: Store>(alloc: Global, register: &mut Register<S>) -> bool {
+    let mut transcript = Transcript::new(alloc);
+    append_until_120(alloc, &mut transcript).is_ok()
+        && is_served(alloc, register, transcript.requests.as_str(), 1006)
 }
 
 // A request, the status of its response, and how many commits it makes.
-type Step = (Said<'static>, &'static str, u64);
+type Step = (Exchange<'static>, &'static str, u64);
 
 static STEPS: [Step; 6] = [
     // A query for a number that has no version.
@@ -97,49 +100,53 @@ static STEPS: [Step; 6] = [
     ),
 ];
 
-fn takes<S: Store>(alloc: Global, register: &mut Register<S>, step: &Step) -> Option<bool> {
-    let text = asked(alloc, &step.0).ok()?;
-    let wanted = answer(alloc, step.1, step.0.3).ok()?;
-    Some(is_answered(alloc, register, text.as_str(), wanted.as_str()))
+fn is_step_answered<S: Store>(
+    alloc: Global,
+    register: &mut Register<S>,
+    step: &Step,
+) -> Option<bool> {
+    let request = encode_request(alloc, &step.0).ok()?;
+    let expected = encode_response(alloc, step.1, step.0.3).ok()?;
+    Some(is_answered(alloc, register, request.as_str(), expected.as_str()))
 }
 
 // Returns the first step with another response, or another number of commits.
-fn taken_otherwise<S: Store>(
+fn first_wrong_step<S: Store>(
     alloc: Global,
     register: &mut Register<S>,
     commits: &Cell<u64>,
 ) -> Option<usize> {
-    for (at, step) in STEPS.iter().enumerate() {
+    for (index, step) in STEPS.iter().enumerate() {
         commits.set(0);
-        if takes(alloc, register, step) != Some(true) || commits.get() != step.2 {
-            return Some(at);
+        if is_step_answered(alloc, register, step) != Some(true) || commits.get() != step.2 {
+            return Some(index);
         }
     }
     None
 }
 
-fn settled_otherwise_in<S: Store>(
+fn settle_and_check_in<S: Store>(
     alloc: Global,
     register: &mut Register<S>,
     commits: &Cell<u64>,
 ) -> Option<Option<usize>> {
-    if !is_told_until_120(alloc, register) {
+    if !is_served_until_120(alloc, register) {
         return None;
     }
-    Some(taken_otherwise(alloc, register, commits))
+    Some(first_wrong_step(alloc, register, commits))
 }
 
-fn settled_otherwise(alloc: Global, commits: &Cell<u64>) -> Option<Option<usize>> {
+fn settle_and_check(alloc: Global, commits: &Cell<u64>) -> Option<Option<usize>> {
     let store = CommitCounter {
         store: MemoryStore::new(alloc),
         commits,
     };
-    let mut register = opened(alloc, store)?;
-    settled_otherwise_in(alloc, &mut register, commits)
+    let mut register = open_register(alloc, store)?;
+    settle_and_check_in(alloc, &mut register, commits)
 }
 
 #[test]
-fn a_call_settles_what_it_reads_alone(rt: HostRuntime) {
+fn a_call_settles_only_what_it_reads(rt: HostRuntime) {
     let commits = Cell::new(0);
-    assert_eq!(rt; settled_otherwise(rt.alloc(), &commits), Some(None));
+    assert_eq!(rt; settle_and_check(rt.alloc(), &commits), Some(None));
 }

@@ -40,7 +40,7 @@ fn make_sample() -> Option<Sample> {
     })
 }
 
-fn row(sample: &Sample) -> VersionRow {
+fn version_row(sample: &Sample) -> VersionRow {
     let version = Version {
         subject: sample.subject,
         old_provider: sample.carrier,
@@ -71,7 +71,7 @@ const KEY: BroadcastKey = BroadcastKey { id: 1, attempt: 1 };
 
 // Adds a version in force and its broadcast, pending for one carrier.
 fn add_version(changes: &mut Changes, sample: &Sample) -> Option<()> {
-    changes.versions = Few::One([(1, row(sample))]);
+    changes.versions = Few::One([(1, version_row(sample))]);
     let sent = Broadcast::send(Minute::ZERO, sample.subject, Action::Create, None);
     changes.broadcasts = Few::One([(KEY, sent)]);
     let wait = WaitKey {
@@ -83,7 +83,7 @@ fn add_version(changes: &mut Changes, sample: &Sample) -> Option<()> {
     changes.waits.push((wait, sample.subject)).ok()
 }
 
-fn changes(alloc: Global, sample: &Sample) -> Option<Changes> {
+fn sample_changes(alloc: Global, sample: &Sample) -> Option<Changes> {
     let row = BlockRow {
         donor: sample.carrier,
         last: None,
@@ -115,7 +115,7 @@ fn another_wait() -> Option<WaitKey> {
 
 // Returns whether there is a clock, and a carrier, a routing number, a code and a block with the
 // sample's keys, and the first set of windows.
-fn registered(store: &mut MemoryStore, sample: &Sample) -> Option<[bool; 6]> {
+fn registry_checks(store: &mut MemoryStore, sample: &Sample) -> Option<[bool; 6]> {
     Some([
         store.clock().ok()?.is_some(),
         store.carrier(sample.carrier).ok()?,
@@ -128,7 +128,7 @@ fn registered(store: &mut MemoryStore, sample: &Sample) -> Option<[bool; 6]> {
 
 // Returns whether there is a version by id, in force and open, and a broadcast, and whether another
 // carrier's download would be the last.
-fn ported(store: &mut MemoryStore, sample: &Sample) -> Option<[bool; 5]> {
+fn version_checks(store: &mut MemoryStore, sample: &Sample) -> Option<[bool; 5]> {
     Some([
         store.version(1).ok()?.is_some(),
         store.version_in_force(sample.subject).ok()?.is_some(),
@@ -139,21 +139,21 @@ fn ported(store: &mut MemoryStore, sample: &Sample) -> Option<[bool; 5]> {
 }
 
 // Returns how many downloads of the sample are pending for its carrier.
-fn about(store: &mut MemoryStore, sample: &Sample) -> Option<usize> {
+fn count_waits_about(store: &mut MemoryStore, sample: &Sample) -> Option<usize> {
     let about = store.waits_about(sample.carrier, sample.subject).ok()?;
     Some(about.as_slice().len())
 }
 
 // Returns how many rows each list of one carrier or one broadcast has.
-fn waiting(store: &mut MemoryStore, sample: &Sample) -> Option<[usize; 4]> {
+fn waiting_counts(store: &mut MemoryStore, sample: &Sample) -> Option<[usize; 4]> {
     let waits = store.waits(sample.carrier).ok()?.len();
-    let front = store.front(sample.carrier, 10).ok()?.len();
+    let first = store.front(sample.carrier, 10).ok()?.len();
     let waiters = store.waiters(Minute::ZERO, KEY).ok()?.len();
-    Some([about(store, sample)?, waits, front, waiters])
+    Some([count_waits_about(store, sample)?, waits, first, waiters])
 }
 
 // Returns how many rows each other list has.
-fn listed(store: &mut MemoryStore) -> Option<[usize; 4]> {
+fn list_counts(store: &mut MemoryStore) -> Option<[usize; 4]> {
     let block = BlockId::read("2025331")?;
     let carriers = store.carriers().ok()?.len();
     let broadcasts = store.open_broadcasts().ok()?.len();
@@ -167,27 +167,27 @@ fn is_committed(store: &mut MemoryStore, changes: &Changes) -> bool {
 }
 
 // Returns whether the reads are right after a commit that was made, or was refused.
-fn is_read(store: &mut MemoryStore, sample: &Sample, done: bool) -> Option<bool> {
-    let registered = registered(store, sample)?;
-    let ported = ported(store, sample)?;
-    let lists = [waiting(store, sample)?, listed(store)?];
-    let are_rows = registered == [false, done, done, done, done, done];
-    let are_versions = ported == [done, done, false, done, !done];
-    let are_lists = lists == [[usize::from(done); 4]; 2];
+fn are_reads_expected(store: &mut MemoryStore, sample: &Sample, is_done: bool) -> Option<bool> {
+    let registered = registry_checks(store, sample)?;
+    let ported = version_checks(store, sample)?;
+    let lists = [waiting_counts(store, sample)?, list_counts(store)?];
+    let are_rows = registered == [false, is_done, is_done, is_done, is_done, is_done];
+    let are_versions = ported == [is_done, is_done, false, is_done, !is_done];
+    let are_lists = lists == [[usize::from(is_done); 4]; 2];
     Some(are_rows && are_versions && are_lists && store.failures() == 0)
 }
 
-fn is_found(alloc: Global) -> Option<bool> {
+fn is_sample_read(alloc: Global) -> Option<bool> {
     let sample = make_sample()?;
-    let changes = changes(alloc, &sample)?;
+    let changes = sample_changes(alloc, &sample)?;
     let mut store = MemoryStore::new(alloc);
-    let done = is_committed(&mut store, &changes);
-    is_read(&mut store, &sample, done)
+    let is_done = is_committed(&mut store, &changes);
+    are_reads_expected(&mut store, &sample, is_done)
 }
 
 #[test]
 fn commits_and_reads(rt: HostRuntime) {
-    assert_eq!(rt; is_found(rt.alloc()), Some(true));
+    assert_eq!(rt; is_sample_read(rt.alloc()), Some(true));
 }
 
 // The id of a version, and its deadline.
@@ -197,7 +197,7 @@ fn changes_of(alloc: Global, versions: &[Deadline]) -> Option<Changes> {
     let sample = make_sample()?;
     let mut rows = Vec::new(alloc);
     for (id, deadline) in versions {
-        let mut row = row(&sample);
+        let mut row = version_row(&sample);
         row.deadline = deadline.and_then(Minute::new);
         rows.push((*id, row)).ok()?;
     }
@@ -218,24 +218,24 @@ fn least_due(store: &mut MemoryStore, now: u64) -> Option<Option<u64>> {
     Some(least.map(|version| version.id))
 }
 
-static FIRST: [Deadline; 4] = [(1, Some(30)), (2, Some(10)), (3, Some(20)), (4, None)];
+static FIRST_DEADLINES: [Deadline; 4] = [(1, Some(30)), (2, Some(10)), (3, Some(20)), (4, None)];
 
 // The second version loses its deadline, and a fifth is added.
-static NEXT: [Deadline; 2] = [(2, None), (5, Some(40))];
+static NEXT_DEADLINES: [Deadline; 2] = [(2, None), (5, Some(40))];
 
 // Returns whether the least deadline is right after the first commit, made or refused: none is due
 // at 9, and the second is from 10 on.
-fn is_second_due(store: &mut MemoryStore, done: bool) -> Option<bool> {
-    let second = if done { Some(2) } else { None };
+fn is_second_due(store: &mut MemoryStore, is_done: bool) -> Option<bool> {
+    let second = if is_done { Some(2) } else { None };
     let early = least_due(store, 9)?;
     Some(early.is_none() && least_due(store, 10)? == second && least_due(store, 1000)? == second)
 }
 
 fn is_least_found_in(alloc: Global, store: &mut MemoryStore) -> Option<bool> {
-    let done = are_committed(alloc, store, &FIRST)?;
-    let at_first = is_second_due(store, done)?;
-    let changed = are_committed(alloc, store, &NEXT)?;
-    let least = match (done, changed) {
+    let is_done = are_committed(alloc, store, &FIRST_DEADLINES)?;
+    let at_first = is_second_due(store, is_done)?;
+    let changed = are_committed(alloc, store, &NEXT_DEADLINES)?;
+    let least = match (is_done, changed) {
         (true, true) => Some(3),
         (true, false) => Some(2),
         (false, true) => Some(5),
@@ -275,7 +275,7 @@ fn waits_of(alloc: Global, sample: &Sample, attempts: &[u64]) -> Option<Changes>
 }
 
 // Returns whether the attempts are consecutive from the first on.
-fn rise(downloads: &[DownloadKey]) -> bool {
+fn are_ascending(downloads: &[DownloadKey]) -> bool {
     let mut next: u64 = 1;
     for download in downloads {
         if download.attempt != next {
@@ -286,38 +286,42 @@ fn rise(downloads: &[DownloadKey]) -> bool {
     true
 }
 
-// Returns whether `many` downloads are pending, consecutive from the first attempt on.
-fn are_told(store: &mut MemoryStore, sample: &Sample, many: usize) -> Option<bool> {
-    let told = store.waits_about(sample.carrier, sample.subject).ok()?;
-    Some(told.as_slice().len() == many && rise(told.as_slice()))
+// Returns whether `count` downloads are pending, consecutive from the first attempt on.
+fn are_downloads_read(store: &mut MemoryStore, sample: &Sample, count: usize) -> Option<bool> {
+    let downloads = store.waits_about(sample.carrier, sample.subject).ok()?;
+    Some(downloads.as_slice().len() == count && are_ascending(downloads.as_slice()))
 }
 
 // Returns whether all downloads of a commit are read, or none if it was refused.
-fn are_put_and_told(store: &mut MemoryStore, sample: &Sample, changes: &Changes) -> Option<bool> {
-    let done = is_committed(store, changes);
-    are_told(store, sample, if done { changes.waits.len() } else { 0 })
+fn are_committed_and_read(
+    store: &mut MemoryStore,
+    sample: &Sample,
+    changes: &Changes,
+) -> Option<bool> {
+    let is_done = is_committed(store, changes);
+    are_downloads_read(store, sample, if is_done { changes.waits.len() } else { 0 })
 }
 
-fn are_told_in_order(alloc: Global, attempts: &[u64]) -> Option<bool> {
+fn are_read_in_order(alloc: Global, attempts: &[u64]) -> Option<bool> {
     let sample = make_sample()?;
     let changes = waits_of(alloc, &sample, attempts)?;
     let mut store = MemoryStore::new(alloc);
-    are_put_and_told(&mut store, &sample, &changes)
+    are_committed_and_read(&mut store, &sample, &changes)
 }
 
 static ATTEMPTS: [&[u64]; 4] = [&[], &[2, 1], &[3, 1, 2], &[5, 3, 1, 4, 2]];
 
-// Returns the first row whose downloads are read otherwise.
-fn told_otherwise(alloc: Global) -> Option<usize> {
-    for (at, attempts) in ATTEMPTS.iter().enumerate() {
-        if are_told_in_order(alloc, attempts) != Some(true) {
-            return Some(at);
+// Returns the first row whose downloads are read in another order.
+fn first_wrong_order(alloc: Global) -> Option<usize> {
+    for (index, attempts) in ATTEMPTS.iter().enumerate() {
+        if are_read_in_order(alloc, attempts) != Some(true) {
+            return Some(index);
         }
     }
     None
 }
 
 #[test]
-fn downloads_about_a_subject_are_told_in_order(rt: HostRuntime) {
-    assert_eq!(rt; told_otherwise(rt.alloc()), None);
+fn downloads_about_a_subject_are_read_in_order(rt: HostRuntime) {
+    assert_eq!(rt; first_wrong_order(rt.alloc()), None);
 }

@@ -1,12 +1,12 @@
-//! The messages and answers of the stories `failed-block` and `failed-block-jump`
+//! The requests and responses of the stories `failed-block` and `failed-block-jump`
 //! (`tests/stories`), from an assignment on.
-use crate::said::Said;
+use crate::messages::Request;
 
-/// A message, and the status and the body of its answer.
-pub type Row<'a> = (Said<'a>, &'a str, &'a str);
+/// A message, and the status and the body of its response.
+pub type Exchange<'a> = (Request<'a>, &'a str, &'a str);
 
-/// Rows of a story, in order.
-pub type Rows<'a> = &'a [Row<'a>];
+/// Exchanges of a story, in order.
+pub type Exchanges<'a> = &'a [Exchange<'a>];
 
 const ASSIGN: &str = "/blocks/assign";
 
@@ -14,7 +14,7 @@ const RELEASE: &str = "/blocks/release";
 
 const ACKNOWLEDGE: &str = "/downloads/acknowledge";
 
-const QUERY: Said<'static> = ("AAAA", "/query", r#"{"uri":"tel:+12025337003"}"#);
+const QUERY: Request<'static> = ("AAAA", "/query", r#"{"uri":"tel:+12025337003"}"#);
 
 const TO_CCCC: &str = r#"{"block":"2025337","holder":"CCCC","lrn":"2025550000"}"#;
 
@@ -53,12 +53,12 @@ const HELD_BY_AAAA: &str = concat!(
     r#""phase":null,"release":null,"since":40,"status":"active","subject":"2025337"}"#
 );
 
-const GIVEN_BACK: &str = concat!(
+const RELEASING: &str = concat!(
     r#"{"attempt":2,"cic":null,"due":40,"id":4,"lrn":"2025440000","new":"AAAA","old":"BBBB","#,
     r#""phase":null,"release":null,"since":40,"status":"sending","subject":"2025337"}"#
 );
 
-const NONE_WAITS: &str = r#"{"downloads":[]}"#;
+const NONE_PENDING: &str = r#"{"downloads":[]}"#;
 
 const TAKEN: &str = r#"{"error":"block_taken","number":24}"#;
 
@@ -67,15 +67,15 @@ const WRONG_STATUS: &str = r#"{"error":"wrong_status","number":13}"#;
 const NO_VERSION: &str = r#"{"error":"not_found","number":10}"#;
 
 /// The part of `failed-block` from the first assignment to the second.
-pub const FAILING: Rows<'static> = &[
+pub const FAILING: Exchanges<'static> = &[
     (("NPAC", "/clock", r#"{"minute":36}"#), OK, r#"{"now":36}"#),
     (("CCCC", "/versions/3", ""), OK, SENT_TO_CCCC),
     (("NPAC", ASSIGN, TO_CCCC), CONFLICT, TAKEN),
     (("NPAC", "/clock", r#"{"minute":37}"#), OK, r#"{"now":37}"#),
     (("CCCC", "/versions/3", ""), OK, FAILED_AT_37),
-    (("AAAA", "/downloads/10", ""), OK, NONE_WAITS),
-    (("BBBB", "/downloads/10", ""), OK, NONE_WAITS),
-    (("CCCC", "/downloads/10", ""), OK, NONE_WAITS),
+    (("AAAA", "/downloads/10", ""), OK, NONE_PENDING),
+    (("BBBB", "/downloads/10", ""), OK, NONE_PENDING),
+    (("CCCC", "/downloads/10", ""), OK, NONE_PENDING),
     (
         ("CCCC", ACKNOWLEDGE, r#"{"attempt":1,"id":3}"#),
         NOT_FOUND,
@@ -125,7 +125,7 @@ pub const FAILING: Rows<'static> = &[
 ];
 
 /// The part of `failed-block` from the second assignment to its end.
-pub const GOING_ON: Rows<'static> = &[
+pub const CONTINUING: Exchanges<'static> = &[
     (("CCCC", "/versions/3", ""), OK, FAILED_AT_37),
     (("AAAA", ACKNOWLEDGE, OF_FOURTH), OK, SENT_TO_AAAA),
     (("BBBB", ACKNOWLEDGE, OF_FOURTH), OK, SENT_TO_AAAA),
@@ -140,7 +140,7 @@ pub const GOING_ON: Rows<'static> = &[
         "403 Forbidden",
         r#"{"error":"not_yours","number":11}"#,
     ),
-    (("AAAA", RELEASE, BLOCK), OK, GIVEN_BACK),
+    (("AAAA", RELEASE, BLOCK), OK, RELEASING),
 ];
 
 const ASSIGNED_AT_2000: &str = concat!(
@@ -156,7 +156,7 @@ const PARTLY_FAILED_AT_15: &str = concat!(
 
 // Two numbers of the block that one carrier has not acknowledged, and the block as it was assigned
 // last.
-const WAITING: &str = concat!(
+const PENDING: &str = concat!(
     r#"{"downloads":["#,
     r#"{"action":"create","attempt":1,"cic":null,"id":1,"lrn":"2025330000","minute":0,"#,
     r#""subject":"2025337001"},"#,
@@ -167,7 +167,7 @@ const WAITING: &str = concat!(
 );
 
 /// The part of `failed-block-jump` from the assignment to its end.
-pub const JUMPED_OVER: Rows<'static> = &[
+pub const JUMPED_OVER: Exchanges<'static> = &[
     (
         ("NPAC", "/clock", r#"{"minute":2000}"#),
         OK,
@@ -176,5 +176,5 @@ pub const JUMPED_OVER: Rows<'static> = &[
     (("NPAC", ASSIGN, TO_CCCC), OK, ASSIGNED_AT_2000),
     (("CCCC", "/versions/3", ""), OK, FAILED_AT_37),
     (("CCCC", "/versions/1", ""), OK, PARTLY_FAILED_AT_15),
-    (("CCCC", "/downloads/10", ""), OK, WAITING),
+    (("CCCC", "/downloads/10", ""), OK, PENDING),
 ];

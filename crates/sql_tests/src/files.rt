@@ -1,6 +1,6 @@
 //! A database file and its log in memory. Either can be made to stop.
-use crate::deeds::{DbOperation, PLAIN, Rows, Tell, with_database};
-use crate::said::Story;
+use crate::messages::Requests;
+use crate::operations::{DbOperation, RequestBatches, RowDump, WITHOUT_CHECKPOINTS, with_database};
 use sqlite::{Files, Options};
 use sqlite_disk::{Disk, Fuse, Memory};
 use std::alloc::Global;
@@ -10,7 +10,7 @@ pub type Fused = Fuse<Memory>;
 
 /// The bytes of a database file and of its log.
 #[derive(Drop)]
-pub struct Held {
+pub struct FileBytes {
     pub log: Vec<u8>,
     pub db: Vec<u8>,
 }
@@ -23,22 +23,22 @@ pub struct Calls {
 }
 
 /// Files that never stop.
-pub const ENDLESS: Calls = Calls {
+pub const UNLIMITED: Calls = Calls {
     log: u64::MAX,
     db: u64::MAX,
 };
 
 /// Copies the bytes.
-pub fn copy_of(alloc: Global, bytes: &[u8]) -> Option<Vec<u8>> {
+pub fn copy_bytes(alloc: Global, bytes: &[u8]) -> Option<Vec<u8>> {
     let mut copy = Vec::new(alloc);
     copy.extend_from_slice(bytes).ok()?;
     Some(copy)
 }
 
-impl Held {
+impl FileBytes {
     /// Creates empty files, as before the first open.
-    pub fn nothing(alloc: Global) -> Held {
-        Held {
+    pub fn empty(alloc: Global) -> FileBytes {
+        FileBytes {
             log: Vec::new(alloc),
             db: Vec::new(alloc),
         }
@@ -46,15 +46,15 @@ impl Held {
 }
 
 /// Copies the bytes of both files.
-pub fn held_in(alloc: Global, files: &Files<Fused>) -> Option<Held> {
-    Some(Held {
-        log: copy_of(alloc, files.log.inner().bytes())?,
-        db: copy_of(alloc, files.db.inner().bytes())?,
+pub fn bytes_of(alloc: Global, files: &Files<Fused>) -> Option<FileBytes> {
+    Some(FileBytes {
+        log: copy_bytes(alloc, files.log.inner().bytes())?,
+        db: copy_bytes(alloc, files.db.inner().bytes())?,
     })
 }
 
 // Creates a file with these bytes, which survive a crash.
-fn file_with(alloc: Global, bytes: &[u8], calls: u64) -> Option<Fused> {
+fn new_file(alloc: Global, bytes: &[u8], calls: u64) -> Option<Fused> {
     let mut file = Memory::new(alloc);
     file.write_at(0, bytes).ok()?;
     file.sync().ok()?;
@@ -62,32 +62,42 @@ fn file_with(alloc: Global, bytes: &[u8], calls: u64) -> Option<Fused> {
 }
 
 /// Creates files with these bytes that pass on this many calls.
-pub fn files_with(alloc: Global, held: &Held, calls: Calls) -> Option<Files<Fused>> {
+pub fn new_files(alloc: Global, file_bytes: &FileBytes, calls: Calls) -> Option<Files<Fused>> {
     Some(Files {
-        log: file_with(alloc, &held.log, calls.log)?,
-        db: file_with(alloc, &held.db, calls.db)?,
+        log: new_file(alloc, &file_bytes.log, calls.log)?,
+        db: new_file(alloc, &file_bytes.db, calls.db)?,
     })
 }
 
 /// Runs an operation on a database in these bytes. Returns its result, and the bytes afterwards.
-pub fn done_in<D: DbOperation>(
+pub fn run_in<D: DbOperation>(
     alloc: Global,
-    held: &Held,
+    file_bytes: &FileBytes,
     options: Options,
-    deed: D,
-) -> Option<(D::Made, Held)> {
-    let (made, files) = with_database(alloc, files_with(alloc, held, ENDLESS)?, options, deed);
-    Some((made?, held_in(alloc, &files)?))
+    operation: D,
+) -> Option<(D::Output, FileBytes)> {
+    let (output, files) = with_database(
+        alloc,
+        new_files(alloc, file_bytes, UNLIMITED)?,
+        options,
+        operation,
+    );
+    Some((output?, bytes_of(alloc, &files)?))
 }
 
 /// Returns the content of these bytes: every row, and the schema.
-pub fn rows_in(alloc: Global, held: &Held) -> Option<Vec<u8>> {
-    let (rows, _held) = done_in(alloc, held, PLAIN, Rows)?;
+pub fn rows_in(alloc: Global, file_bytes: &FileBytes) -> Option<Vec<u8>> {
+    let (rows, _file_bytes) = run_in(alloc, file_bytes, WITHOUT_CHECKPOINTS, RowDump)?;
     Some(rows)
 }
 
-/// Returns the bytes of a new register that accepted these stories.
-pub fn told_stories(alloc: Global, stories: &[Story<'_>], options: Options) -> Option<Held> {
-    let (_told, held) = done_in(alloc, &Held::nothing(alloc), options, Tell(stories))?;
-    Some(held)
+/// Returns the bytes of a new register that accepted these batches of requests.
+pub fn files_after(alloc: Global, batches: &[Requests<'_>], options: Options) -> Option<FileBytes> {
+    let (_sent, file_bytes) = run_in(
+        alloc,
+        &FileBytes::empty(alloc),
+        options,
+        RequestBatches(batches),
+    )?;
+    Some(file_bytes)
 }

@@ -3,29 +3,28 @@
 #![tactic(auto)]
 
 #[cfg(test)]
-#[cfg(test)]
-mod deeds;
-#[cfg(test)]
-mod earlier;
+mod crashes;
 #[cfg(test)]
 mod failed_block;
 #[cfg(test)]
 mod files;
 #[cfg(test)]
+mod first_format;
+#[cfg(test)]
+mod messages;
+#[cfg(test)]
+mod migrations;
+#[cfg(test)]
 mod minutes;
 #[cfg(test)]
-mod moved;
+mod operations;
 #[cfg(test)]
 mod program;
 #[cfg(test)]
-mod refused;
+mod refused_files;
 #[cfg(test)]
 mod rows;
 #[cfg(test)]
-mod said;
+mod scenarios;
 #[cfg(test)]
 mod settling;
-#[cfg(test)]
-mod stops;
-#[cfg(test)]
-mod stories;

@@ -7,9 +7,9 @@ use std::time::{Clock, Duration};
 
 // A clock that always shows the same time since 1970.
 #[derive(Clone, Copy)]
-struct Still(Duration);
+struct FixedClock(Duration);
 
-impl Clock for Still {
+impl Clock for FixedClock {
     fn monotonic(&self) -> io::Result<Duration> {
         Ok(Duration::ZERO)
     }
@@ -20,7 +20,7 @@ impl Clock for Still {
 }
 
 fn minute_at(seconds: u64) -> Option<Minute> {
-    let clock = Still(Duration::from_secs(seconds));
+    let clock = FixedClock(Duration::from_secs(seconds));
     let mut minutes = MachineMinutes { clock: &clock };
     minutes.next()
 }

@@ -32,8 +32,8 @@ fn add_value(value: ValueRef<'_>, text: &mut Vec<u8>) -> Option<()> {
 }
 
 // Appends a value. Its first byte distinguishes a text from other bytes.
-fn add_bytes(first: &[u8], bytes: &[u8], text: &mut Vec<u8>) -> Option<()> {
-    text.extend_from_slice(first).ok()?;
+fn add_bytes(tag: &[u8], bytes: &[u8], text: &mut Vec<u8>) -> Option<()> {
+    text.extend_from_slice(tag).ok()?;
     text.extend_from_slice(bytes).ok()?;
     text.extend_from_slice(b"|").ok()
 }
@@ -46,7 +46,11 @@ fn add_row(row: &Row, text: &mut Vec<u8>) -> Option<()> {
 }
 
 // Appends the result of a query to a text, one line for each row.
-fn add_shown<S: Alter>(conn: &mut Connection<S>, query: &str, text: &mut Vec<u8>) -> Option<()> {
+fn append_result<S: Alter>(
+    conn: &mut Connection<S>,
+    query: &str,
+    text: &mut Vec<u8>,
+) -> Option<()> {
     let rows = conn.query_all(query, &[]).ok()?;
     for row in &rows {
         add_row(row, text)?;
@@ -60,7 +64,7 @@ pub fn rows_of<S: Alter>(alloc: Global, conn: &mut Connection<S>) -> Option<Vec<
     for query in QUERIES {
         text.extend_from_slice(query.as_bytes()).ok()?;
         text.extend_from_slice(b"\n").ok()?;
-        add_shown(conn, query, &mut text)?;
+        append_result(conn, query, &mut text)?;
     }
     Some(text)
 }

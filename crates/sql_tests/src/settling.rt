@@ -1,6 +1,6 @@
 //! Tests that a call to a register over a database settles the subjects that it reads, and no
 //! other.
-use crate::said::{Said, Story, WINDOWS, message, windows_of};
+use crate::messages::{Request, Requests, WINDOWS, encode_request, windows_of};
 use api::{NoTicks, Options, serve};
 use register::Register;
 use settle::Store;
@@ -10,61 +10,68 @@ use std::cell::Cell;
 use store::CommitCounter;
 
 // Two carriers, and a code that one of them holds.
-static OPENING: Story<'static> = &[
+static OPENING: Requests<'static> = &[
     ("NPAC", "/carriers", r#"{"spid":"AAAA"}"#),
     ("NPAC", "/carriers", r#"{"spid":"BBBB"}"#),
     ("NPAC", "/codes", r#"{"code":"202533","spid":"BBBB"}"#),
 ];
 
 // Appends the old provider's create of a number, due at 300.
-fn offer(alloc: Global, line: u64, out: &mut String) -> Result<(), AllocError> {
+fn append_create(alloc: Global, line: u64, out: &mut String) -> Result<(), AllocError> {
     let body = format!(in alloc;
         "{{\"authorized\":true,\"due\":300,\"new\":\"AAAA\",\"old\":\"BBBB\",\"tn\":\"202533{line}\"}}"
     )?;
     let path = "/subscriptionVersionOldSP-Create";
-    out.push_str(message(alloc, &("BBBB", path, body.as_str()))?.as_str())
+    out.push_str(encode_request(alloc, &("BBBB", path, body.as_str()))?.as_str())
 }
 
-static AT_120: Said<'static> = ("NPAC", "/clock", r#"{"minute":120}"#);
+static AT_120: Request<'static> = ("NPAC", "/clock", r#"{"minute":120}"#);
 
 // The number of messages that open a register, make a thousand creates whose windows end at 120,
 // and move the clock to that minute.
 const UNTIL_120: u64 = 1004;
 
-fn ask_until_120(alloc: Global) -> Result<String, AllocError> {
+fn requests_until_120(alloc: Global) -> Result<String, AllocError> {
     let mut text = String::new(alloc);
-    for said in OPENING {
-        text.push_str(message(alloc, said)?.as_str())?;
+    for request in OPENING {
+        text.push_str(encode_request(alloc, request)?.as_str())?;
     }
     for line in 1000..2000 {
-        offer(alloc, line, &mut text)?;
+        append_create(alloc, line, &mut text)?;
     }
-    text.push_str(message(alloc, &AT_120)?.as_str())?;
+    text.push_str(encode_request(alloc, &AT_120)?.as_str())?;
     Ok(text)
 }
 
-// Returns the answers to messages, and how many there are.
-fn heard<S: Store>(alloc: Global, register: &mut Register<S>, text: &str) -> (Vec<u8>, u64) {
-    let mut heard = Vec::new(alloc);
+// Returns the responses to messages, and how many there are.
+fn serve_text<S: Store>(alloc: Global, register: &mut Register<S>, text: &str) -> (Vec<u8>, u64) {
+    let mut responses = Vec::new(alloc);
     let options = Options { clock_route: true };
     let reader = &mut text.as_bytes();
-    let served = serve(alloc, register, &mut NoTicks, &options, reader, &mut heard);
+    let served = serve(
+        alloc,
+        register,
+        &mut NoTicks,
+        &options,
+        reader,
+        &mut responses,
+    );
     let count = match served {
         Ok(served) => served.count,
         Err(_fault) => 0,
     };
-    (heard, count)
+    (responses, count)
 }
 
-fn is_told_until_120<S: Store>(alloc: Global, register: &mut Register<S>) -> bool {
-    match ask_until_120(alloc) {
-        Ok(text) => heard(alloc, register, text.as_str()).1 == UNTIL_120,
+fn is_served_until_120<S: Store>(alloc: Global, register: &mut Register<S>) -> bool {
+    match requests_until_120(alloc) {
+        Ok(text) => serve_text(alloc, register, text.as_str()).1 == UNTIL_120,
         Err(_refused) => false,
     }
 }
 
-// A message, the body of its answer, and how many commits the store gets.
-type Step = (Said<'static>, &'static str, u64);
+// A message, the body of its response, and how many commits the store gets.
+type Step = (Request<'static>, &'static str, u64);
 
 static STEPS: [Step; 6] = [
     // A query of a number without a version.
@@ -97,23 +104,27 @@ static STEPS: [Step; 6] = [
     ),
 ];
 
-fn takes<S: Store>(alloc: Global, register: &mut Register<S>, step: &Step) -> Option<bool> {
-    let text = message(alloc, &step.0).ok()?;
-    let (heard, count) = heard(alloc, register, text.as_str());
-    let wanted = format!(in alloc; "\r\n\r\n{}", step.1).ok()?;
-    Some(count == 1 && heard.ends_with(wanted.as_bytes()))
+fn is_step_answered<S: Store>(
+    alloc: Global,
+    register: &mut Register<S>,
+    step: &Step,
+) -> Option<bool> {
+    let text = encode_request(alloc, &step.0).ok()?;
+    let (responses, count) = serve_text(alloc, register, text.as_str());
+    let expected = format!(in alloc; "\r\n\r\n{}", step.1).ok()?;
+    Some(count == 1 && responses.ends_with(expected.as_bytes()))
 }
 
-// Returns the first step with another answer, or another number of commits.
-fn taken_otherwise<S: Store>(
+// Returns the first step with another response, or another number of commits.
+fn first_wrong_step<S: Store>(
     alloc: Global,
     register: &mut Register<S>,
     commits: &Cell<u64>,
 ) -> Option<usize> {
-    for (at, step) in STEPS.iter().enumerate() {
+    for (index, step) in STEPS.iter().enumerate() {
         commits.set(0);
-        if takes(alloc, register, step) != Some(true) || commits.get() != step.2 {
-            return Some(at);
+        if is_step_answered(alloc, register, step) != Some(true) || commits.get() != step.2 {
+            return Some(index);
         }
     }
     None
@@ -121,7 +132,7 @@ fn taken_otherwise<S: Store>(
 
 // Runs the steps over a store. Returns nothing if the thousand creates are not accepted; and the
 // store afterwards.
-fn settled_over<S: Store>(
+fn settle_and_check_over<S: Store>(
     alloc: Global,
     store: S,
     commits: &Cell<u64>,
@@ -131,28 +142,28 @@ fn settled_over<S: Store>(
     };
     match Register::open(alloc, store, &windows) {
         Ok(mut register) => {
-            let is_told = is_told_until_120(alloc, &mut register);
-            let otherwise = taken_otherwise(alloc, &mut register, commits);
-            let settled = if is_told { Some(otherwise) } else { None };
-            (settled, register.close())
+            let is_served = is_served_until_120(alloc, &mut register);
+            let wrong_step = first_wrong_step(alloc, &mut register, commits);
+            let checked = if is_served { Some(wrong_step) } else { None };
+            (checked, register.close())
         }
         Err((store, _fault)) => (None, store),
     }
 }
 
-fn settled_otherwise(alloc: Global, commits: &Cell<u64>) -> Option<Option<usize>> {
+fn settle_and_check(alloc: Global, commits: &Cell<u64>) -> Option<Option<usize>> {
     let store = CommitCounter {
         store: SqlStore::in_memory(alloc).ok()?,
         commits,
     };
-    let (settled, counted) = settled_over(alloc, store, commits);
-    let CommitCounter { store, commits: _ } = counted;
+    let (checked, counter) = settle_and_check_over(alloc, store, commits);
+    let CommitCounter { store, commits: _ } = counter;
     let _database = store.release().into_store();
-    settled
+    checked
 }
 
 #[test]
-fn a_call_settles_what_it_reads_alone(rt: HostRuntime) {
+fn a_call_settles_only_what_it_reads(rt: HostRuntime) {
     let commits = Cell::new(0);
-    assert_eq!(rt; settled_otherwise(rt.alloc(), &commits), Some(None));
+    assert_eq!(rt; settle_and_check(rt.alloc(), &commits), Some(None));
 }

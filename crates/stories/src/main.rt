@@ -1,4 +1,4 @@
-//! Plays the stories in the files that the command line names, and prints the answers.
+//! Plays the stories in the files that the command line names, and prints the responses.
 //!
 //! Serves each file to a new register in memory, whole and byte by byte, and to one over a
 //! database. Plays each message by message too, with messages that are cut and with stores that
@@ -10,18 +10,18 @@
 #![tactic(auto)]
 
 mod cuts;
-mod failing;
 mod fault;
 mod played_story;
+mod store_faults;
 mod story;
 
-use cuts::{cuts_of, first_wrong_cut, is_hostile};
-use failing::{Asking, Over, Played, ask_dead};
+use cuts::{count_cuts, first_wrong_cut, has_malformed_message};
 use fault::Fault;
 use played_story::PlayedStory;
 use std::io::Write;
 use std::rt::{Env, Files};
 use std::{env, fs, io};
+use store_faults::{StoreCalls, StoreKind, SweepResult, find_store_calls};
 use story::{new_register, play, play_stored};
 use windows::Windows;
 
@@ -30,18 +30,18 @@ fn read_windows<T: Files + AllocGlobal>(rt: &T) -> Result<Windows, Fault> {
     Ok(Windows::from_toml(rt.alloc(), text.as_str())?)
 }
 
-// Prints the answers of a register over a database, if they differ from `heard`, and how often its
-// store failed, if it did.
-fn tell_stored<T: AllocGlobal + Print>(
+// Prints the responses of a register over a database, if they differ from `output`, and how often
+// its store failed, if it did.
+fn print_stored<T: AllocGlobal + Print>(
     rt: &T,
     windows: &Windows,
     name: &str,
     story: &[u8],
-    heard: &[u8],
+    output: &[u8],
 ) -> Result<(), Fault> {
     let (stored, failures) = play_stored(rt.alloc(), windows, story)?;
     let mut out = io::writer(rt);
-    if stored.as_slice() != heard {
+    if stored.as_slice() != output {
         writeln!(out, "story {name}, from a database")?;
         out.write_all(&stored)?;
     }
@@ -53,137 +53,141 @@ fn tell_stored<T: AllocGlobal + Print>(
 
 // How thoroughly a story is played message by message.
 #[derive(Clone, Copy, Debug, PartialEq, Eq)]
-enum Manner {
+enum Thoroughness {
     // As much as the time of the gate allows.
-    Short,
+    Sampled,
     // With each call of the database failing and each message cut, and their numbers printed.
-    Each,
+    Exhaustive,
 }
 
 // A story with more messages is played over a database with only each 31st call failing.
 const FEW_MESSAGES: usize = 11;
 
-const STEP_OF_DATABASE: u64 = 31;
+const DATABASE_STRIDE: u64 = 31;
 
 // A story with more bytes is played over memory with only each seventh call failing.
 const FEW_BYTES: usize = 100_000;
 
-const STEP_OF_MEMORY: u64 = 7;
+const MEMORY_STRIDE: u64 = 7;
 
-impl Manner {
+impl Thoroughness {
     // Returns how many calls lie between one that fails and the next.
-    fn every(self, over: Over, tale: &PlayedStory) -> u64 {
-        match over {
-            Over::Memory if self == Manner::Short && tale.size() > FEW_BYTES => STEP_OF_MEMORY,
-            Over::Database if self == Manner::Short && tale.len() > FEW_MESSAGES =>
-                STEP_OF_DATABASE,
+    fn stride(self, kind: StoreKind, played: &PlayedStory) -> u64 {
+        match kind {
+            StoreKind::Memory if self == Thoroughness::Sampled && played.size() > FEW_BYTES =>
+                MEMORY_STRIDE,
+            StoreKind::Database if self == Thoroughness::Sampled && played.len() > FEW_MESSAGES =>
+                DATABASE_STRIDE,
             _ => 1,
         }
     }
 }
 
-fn name_of(over: Over) -> &'static str {
-    match over {
-        Over::Memory => "memory",
-        Over::Database => "the database",
+fn kind_name(kind: StoreKind) -> &'static str {
+    match kind {
+        StoreKind::Memory => "memory",
+        StoreKind::Database => "the database",
     }
 }
 
 // Prints the call of a store after which a message was answered differently than it should be, if
 // one was.
-fn tell_failing<T: AllocGlobal + Print>(
+fn print_failing<T: AllocGlobal + Print>(
     rt: &T,
     windows: &Windows,
     name: &str,
-    asking: &Asking<'_>,
-    manner: Manner,
-    over: Over,
+    calls: &StoreCalls<'_>,
+    thoroughness: Thoroughness,
+    kind: StoreKind,
 ) -> Result<(), Fault> {
-    let over_it = name_of(over);
-    let every = manner.every(over, asking.tale);
+    let store_name = kind_name(kind);
+    let stride = thoroughness.stride(kind, calls.played);
     let mut out = io::writer(rt);
-    match asking.sweep(rt.alloc(), windows, over, every)? {
-        Played::Same(0) => writeln!(out, "story {name}, no call of {over_it}")?,
-        Played::Same(count) if manner == Manner::Each => {
-            writeln!(out, "story {name}, {count} calls of {over_it}")?;
+    match calls.sweep(rt.alloc(), windows, kind, stride)? {
+        SweepResult::Consistent(0) => writeln!(out, "story {name}, no call of {store_name}")?,
+        SweepResult::Consistent(count) if thoroughness == Thoroughness::Exhaustive => {
+            writeln!(out, "story {name}, {count} calls of {store_name}")?;
         }
-        Played::Same(_) => {}
-        Played::Otherwise(before) => {
-            writeln!(out, "story {name}, a failure of {over_it} after {before}")?;
+        SweepResult::Consistent(_) => {}
+        SweepResult::Mismatch(before) => {
+            writeln!(
+                out,
+                "story {name}, a failure of {store_name} after {before}"
+            )?;
         }
     }
     Ok(())
 }
 
 // Prints the message that is answered differently than it should be when it is cut, if one is.
-fn tell_cuts<T: AllocGlobal + Print>(
+fn print_cuts<T: AllocGlobal + Print>(
     rt: &T,
     windows: &Windows,
     name: &str,
-    tale: &PlayedStory,
-    manner: Manner,
+    played: &PlayedStory,
+    thoroughness: Thoroughness,
 ) -> Result<(), Fault> {
-    if manner == Manner::Short && !is_hostile(tale) {
+    if thoroughness == Thoroughness::Sampled && !has_malformed_message(played) {
         return Ok(());
     }
     let mut register = new_register(rt.alloc(), windows)?;
     let mut out = io::writer(rt);
-    if let Some(cut) = first_wrong_cut(rt.alloc(), &mut register, tale) {
+    if let Some(cut) = first_wrong_cut(rt.alloc(), &mut register, played) {
         writeln!(
             out,
             "story {name}, message {} cut after {}",
             cut.message, cut.place
         )?;
-    } else if manner == Manner::Each {
-        writeln!(out, "story {name}, {} cuts", cuts_of(tale))?;
+    } else if thoroughness == Thoroughness::Exhaustive {
+        writeln!(out, "story {name}, {} cuts", count_cuts(played))?;
     }
     Ok(())
 }
 
 // Prints what differs when the story is played message by message.
-fn tell_messages<T: AllocGlobal + Print>(
+fn print_messages<T: AllocGlobal + Print>(
     rt: &T,
     windows: &Windows,
     name: &str,
-    tale: &PlayedStory,
-    manner: Manner,
+    played: &PlayedStory,
+    thoroughness: Thoroughness,
 ) -> Result<(), Fault> {
-    tell_cuts(rt, windows, name, tale, manner)?;
-    let Some(asking) = ask_dead(rt.alloc(), windows, tale)? else {
+    print_cuts(rt, windows, name, played, thoroughness)?;
+    let Some(calls) = find_store_calls(rt.alloc(), windows, played)? else {
         let mut out = io::writer(rt);
         writeln!(out, "story {name}, a store that fails always")?;
         return Ok(());
     };
-    for over in [Over::Memory, Over::Database] {
-        tell_failing(rt, windows, name, &asking, manner, over)?;
+    for kind in [StoreKind::Memory, StoreKind::Database] {
+        print_failing(rt, windows, name, &calls, thoroughness, kind)?;
     }
     Ok(())
 }
 
-// Prints a story's name and its answers, and its answers byte by byte if they differ.
-fn tell<T: Files + AllocGlobal + Print>(
+// Prints a story's name and its responses, and its responses byte by byte if they differ.
+fn print_story<T: Files + AllocGlobal + Print>(
     rt: &T,
     windows: &Windows,
     name: &str,
-    manner: Manner,
+    thoroughness: Thoroughness,
 ) -> Result<(), Fault> {
     let story = fs::read(rt, name)?;
-    let heard = play(rt.alloc(), windows, &story, usize::MAX)?;
+    let output = play(rt.alloc(), windows, &story, usize::MAX)?;
     let again = play(rt.alloc(), windows, &story, 1)?;
     let mut out = io::writer(rt);
     writeln!(out, "story {name}")?;
-    out.write_all(&heard)?;
-    if again != heard {
+    out.write_all(&output)?;
+    if again != output {
         writeln!(out, "story {name}, byte by byte")?;
         out.write_all(&again)?;
     }
-    tell_stored(rt, windows, name, &story, &heard)?;
-    let tale = PlayedStory::of(rt.alloc(), windows, &story)?;
-    if tale.heard != heard {
+    print_stored(rt, windows, name, &story, &output)?;
+    let played = PlayedStory::of(rt.alloc(), windows, &story)?;
+    if played.output != output {
         writeln!(out, "story {name}, message by message")?;
-        out.write_all(&tale.heard)?;
+        out.write_all(&played.output)?;
     }
-    tell_messages(rt, windows, name, &tale, manner)
+    print_messages(rt, windows, name, &played, thoroughness)
 }
 
 fn words_of<T: AllocGlobal + Env>(rt: &T) -> io::Result<Vec<String>> {
@@ -191,19 +195,19 @@ fn words_of<T: AllocGlobal + Env>(rt: &T) -> io::Result<Vec<String>> {
     Ok(words)
 }
 
-fn tell_all<T: Files + AllocGlobal + Print + Env>(rt: &T) -> Result<(), Fault> {
+fn print_all<T: Files + AllocGlobal + Print + Env>(rt: &T) -> Result<(), Fault> {
     let windows = read_windows(rt)?;
-    let mut manner = Manner::Short;
+    let mut thoroughness = Thoroughness::Sampled;
     for name in words_of(rt)?.iter().skip(1) {
         if name.as_str() == "--each" {
-            manner = Manner::Each;
+            thoroughness = Thoroughness::Exhaustive;
         } else {
-            tell(rt, &windows, name.as_str(), manner)?;
+            print_story(rt, &windows, name.as_str(), thoroughness)?;
         }
     }
     Ok(())
 }
 
 fn main(rt: HostRuntime) -> Result<(), Fault> {
-    tell_all(&rt)
+    print_all(&rt)
 }

@@ -1,6 +1,6 @@
 //! A story, message by message.
 use crate::fault::Fault;
-use crate::story::{BREAK, Pieces, hear, new_register, tell_end};
+use crate::story::{BREAK, Pieces, new_register, serve_connection, write_end};
 use register::Register;
 use settle::Store;
 use std::alloc::Global;
@@ -9,27 +9,28 @@ use windows::Windows;
 
 const END_OF_HEAD: &[u8] = b"\r\n\r\n";
 
-// A message and its answer.
+// A message and its response.
 #[derive(Clone, Copy)]
-struct Told {
+struct PlayedMessage {
     // Where its bytes end among those of the story, with the unread ones after it.
-    asked: usize,
-    // Where its answer ends among those of the story.
-    answered: usize,
+    request_end: usize,
+    // Where its response ends among those of the story.
+    response_end: usize,
     // How many bytes it has.
     length: usize,
     // Whether its connection ends after it.
-    ends: bool,
+    ends_connection: bool,
 }
 
-/// The messages and the answers of a story.
+/// The messages and the responses of a story.
 #[derive(Drop)]
 pub struct PlayedStory {
-    asked: Vec<u8>,
-    answered: Vec<u8>,
-    told: Vec<Told>,
-    /// The answers, with a line after those of each connection, as the whole connections have them.
-    pub heard: Vec<u8>,
+    requests: Vec<u8>,
+    responses: Vec<u8>,
+    messages: Vec<PlayedMessage>,
+    /// The responses, with a line after those of each connection, as the whole connections have
+    /// them.
+    pub output: Vec<u8>,
 }
 
 /// Returns where the head of the first message ends, if it does.
@@ -75,14 +76,14 @@ fn cut(bytes: &[u8]) -> (&[u8], &[u8]) {
 impl PlayedStory {
     fn new(alloc: Global) -> PlayedStory {
         PlayedStory {
-            asked: Vec::new(alloc),
-            answered: Vec::new(alloc),
-            told: Vec::new(alloc),
-            heard: Vec::new(alloc),
+            requests: Vec::new(alloc),
+            responses: Vec::new(alloc),
+            messages: Vec::new(alloc),
+            output: Vec::new(alloc),
         }
     }
 
-    // Adds a message, with the rest of its connection, and its answer. Returns how many messages
+    // Adds a message, with the rest of its connection, and its response. Returns how many messages
     // were answered, and how serving ended.
     fn add(
         &mut self,
@@ -91,21 +92,26 @@ impl PlayedStory {
         message: &[u8],
         rest: &[u8],
     ) -> Result<(u64, &'static str), Fault> {
-        let mut answer = Vec::new(alloc);
-        let (count, how) = hear(alloc, register, Pieces::whole(message), &mut answer);
-        let is_read_on = how == "input";
-        self.asked
+        let mut response = Vec::new(alloc);
+        let (count, ending) = serve_connection(
+            alloc,
+            register,
+            Pieces::whole(message),
+            &mut response,
+        );
+        let is_read_on = ending == "input";
+        self.requests
             .extend_from_slice(if is_read_on { message } else { rest })?;
-        self.answered.extend_from_slice(&answer)?;
-        self.heard.extend_from_slice(&answer)?;
-        let told = Told {
-            asked: self.asked.len(),
-            answered: self.answered.len(),
+        self.responses.extend_from_slice(&response)?;
+        self.output.extend_from_slice(&response)?;
+        let message = PlayedMessage {
+            request_end: self.requests.len(),
+            response_end: self.responses.len(),
             length: message.len(),
-            ends: !is_read_on || message.len() == rest.len(),
+            ends_connection: !is_read_on || message.len() == rest.len(),
         };
-        match self.told.push(told) {
-            Ok(()) => Ok((count, how)),
+        match self.messages.push(message) {
+            Ok(()) => Ok((count, ending)),
             Err(_refused) => Err(Fault::Memory),
         }
     }
@@ -119,117 +125,117 @@ impl PlayedStory {
     ) -> Result<(), Fault> {
         let mut rest = connection;
         let mut all = 0u64;
-        let mut how = "input";
+        let mut ending = "input";
         for _ in 0..connection.len() {
-            if rest.is_empty() || how != "input" {
+            if rest.is_empty() || ending != "input" {
                 break;
             }
-            let (message, behind) = cut(rest);
+            let (message, after) = cut(rest);
             let (count, end) = self.add(alloc, register, message, rest)?;
             all = all.saturating_add(count);
-            how = end;
-            rest = behind;
+            ending = end;
+            rest = after;
         }
-        tell_end(&mut self.heard, all, how)?;
+        write_end(&mut self.output, all, ending)?;
         Ok(())
     }
 
     /// Plays a story, each message on a connection of its own.
     pub fn of(alloc: Global, windows: &Windows, story: &[u8]) -> Result<PlayedStory, Fault> {
         let mut register = new_register(alloc, windows)?;
-        let mut tale = PlayedStory::new(alloc);
+        let mut played = PlayedStory::new(alloc);
         for connection in story.split(|byte| *byte == BREAK) {
-            tale.add_connection(alloc, &mut register, connection)?;
+            played.add_connection(alloc, &mut register, connection)?;
         }
-        Ok(tale)
+        Ok(played)
     }
 
     /// Returns how many messages there are.
     pub fn len(&self) -> usize {
-        self.told.len()
+        self.messages.len()
     }
 
     /// Returns how many bytes the messages have.
     pub fn size(&self) -> usize {
-        self.asked.len()
+        self.requests.len()
     }
 
-    // Returns where the bytes of the first `count` messages end, and their answers.
+    // Returns where the bytes of the first `count` messages end, and their responses.
     fn ends_of(&self, count: usize) -> (usize, usize) {
         let last = match count.checked_sub(1) {
-            Some(last) => self.told.get(last),
+            Some(last) => self.messages.get(last),
             None => None,
         };
         match last {
-            Some(told) => (told.asked, told.answered),
+            Some(message) => (message.request_end, message.response_end),
             None => (0, 0),
         }
     }
 
     // Returns the bytes of the messages from `from` to before `to`.
-    fn asked_between(&self, from: usize, to: usize) -> &[u8] {
+    fn requests_between(&self, from: usize, to: usize) -> &[u8] {
         let range = self.ends_of(from).0..self.ends_of(to).0;
-        self.asked.get(range).unwrap_or(&[])
+        self.requests.get(range).unwrap_or(&[])
     }
 
-    /// Returns the answers to these messages.
-    pub fn answered_between(&self, from: usize, to: usize) -> &[u8] {
+    /// Returns the responses to these messages.
+    pub fn responses_between(&self, from: usize, to: usize) -> &[u8] {
         let range = self.ends_of(from).1..self.ends_of(to).1;
-        self.answered.get(range).unwrap_or(&[])
+        self.responses.get(range).unwrap_or(&[])
     }
 
-    /// Returns the answer to a message.
-    pub fn answer(&self, place: usize) -> &[u8] {
-        self.answered_between(place, place.saturating_add(1))
+    /// Returns the response to a message.
+    pub fn response(&self, place: usize) -> &[u8] {
+        self.responses_between(place, place.saturating_add(1))
     }
 
     /// Returns the bytes of a message, without the unread ones after it.
     pub fn message(&self, place: usize) -> &[u8] {
-        let bytes = self.asked_between(place, place.saturating_add(1));
-        match self.told.get(place) {
-            Some(told) => bytes.get(..told.length).unwrap_or(bytes),
+        let bytes = self.requests_between(place, place.saturating_add(1));
+        match self.messages.get(place) {
+            Some(message) => bytes.get(..message.length).unwrap_or(bytes),
             None => bytes,
         }
     }
 
-    fn ends(&self, place: usize) -> bool {
-        match self.told.get(place) {
-            Some(told) => told.ends,
+    fn ends_connection(&self, place: usize) -> bool {
+        match self.messages.get(place) {
+            Some(message) => message.ends_connection,
             None => false,
         }
     }
 
-    /// Returns a register's answers to the messages from `from` to before `to`, on as few
+    /// Returns a register's responses to the messages from `from` to before `to`, on as few
     /// connections as possible.
-    pub fn hear_between<S: Store>(
+    pub fn serve_between<S: Store>(
         &self,
         alloc: Global,
         register: &mut Register<S>,
         from: usize,
         to: usize,
     ) -> Vec<u8> {
-        let mut heard = Vec::new(alloc);
+        let mut responses = Vec::new(alloc);
         let mut first = from;
         for place in from..to {
             let next = place.saturating_add(1);
-            if next == to || self.ends(place) {
-                let connection = Pieces::whole(self.asked_between(first, next));
-                hear(alloc, register, connection, &mut heard);
+            if next == to || self.ends_connection(place) {
+                let connection = Pieces::whole(self.requests_between(first, next));
+                serve_connection(alloc, register, connection, &mut responses);
                 first = next;
             }
         }
-        heard
+        responses
     }
 
     /// Returns whether a register answers these messages as the story does.
-    pub fn is_told_between<S: Store>(
+    pub fn has_same_responses<S: Store>(
         &self,
         alloc: Global,
         register: &mut Register<S>,
         from: usize,
         to: usize,
     ) -> bool {
-        let heard = self.hear_between(alloc, register, from, to);
-        heard.as_slice() == self.answered_between(from, to)
+        let responses = self.serve_between(alloc, register, from, to);
+        responses.as_slice() == self.responses_between(from, to)
     }
 }

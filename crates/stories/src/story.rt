@@ -40,7 +40,7 @@ impl Read for Pieces<'_> {
     }
 }
 
-fn name_of(end: End) -> &'static str {
+fn end_name(end: End) -> &'static str {
     match end {
         End::Input => "input",
         End::Closed => "closed",
@@ -49,45 +49,45 @@ fn name_of(end: End) -> &'static str {
 }
 
 // Returns how many messages were answered, and how serving ended.
-fn ended(served: Result<Served, api::Fault>) -> (u64, &'static str) {
+fn outcome_of(served: Result<Served, api::Fault>) -> (u64, &'static str) {
     match served {
-        Ok(served) => (served.count, name_of(served.end)),
+        Ok(served) => (served.count, end_name(served.end)),
         Err(api::Fault::Read(count)) => (count, "read"),
         Err(api::Fault::Write(count)) => (count, "write"),
         Err(api::Fault::Memory(count)) => (count, "no_memory"),
     }
 }
 
-/// Serves a connection, and appends its answers. Returns how many messages were answered, and how
+/// Serves a connection, and appends its responses. Returns how many messages were answered, and how
 /// serving ended.
-pub fn hear<S: Store>(
+pub fn serve_connection<S: Store>(
     alloc: Global,
     register: &mut Register<S>,
     mut connection: Pieces<'_>,
-    heard: &mut Vec<u8>,
+    output: &mut Vec<u8>,
 ) -> (u64, &'static str) {
     let options = Options { clock_route: true };
     let reader = &mut connection;
-    ended(serve(alloc, register, &mut NoTicks, &options, reader, heard))
+    outcome_of(serve(alloc, register, &mut NoTicks, &options, reader, output))
 }
 
-/// Writes the line that follows the answers of a connection.
-pub fn tell_end(heard: &mut Vec<u8>, count: u64, how: &str) -> io::Result<()> {
-    writeln!(heard, "\n{count} answered, {how}")
+/// Writes the line that follows the responses of a connection.
+pub fn write_end(output: &mut Vec<u8>, count: u64, ending: &str) -> io::Result<()> {
+    writeln!(output, "\n{count} answered, {ending}")
 }
 
-fn hear_all<S: Store>(
+fn serve_story<S: Store>(
     alloc: Global,
     register: &mut Register<S>,
     story: &[u8],
     size: usize,
 ) -> io::Result<Vec<u8>> {
-    let mut heard = Vec::new(alloc);
+    let mut output = Vec::new(alloc);
     for rest in story.split(|byte| *byte == BREAK) {
-        let (count, how) = hear(alloc, register, Pieces { rest, size }, &mut heard);
-        tell_end(&mut heard, count, how)?;
+        let (count, ending) = serve_connection(alloc, register, Pieces { rest, size }, &mut output);
+        write_end(&mut output, count, ending)?;
     }
-    Ok(heard)
+    Ok(output)
 }
 
 /// Opens a new register in memory.
@@ -98,14 +98,15 @@ pub fn new_register(alloc: Global, windows: &Windows) -> Result<Register<MemoryS
     }
 }
 
-/// Returns the answers to a story's connections, which are served in order to a new register in
+/// Returns the responses to a story's connections, which are served in order to a new register in
 /// memory, in pieces of at most this size.
 pub fn play(alloc: Global, windows: &Windows, story: &[u8], size: usize) -> Result<Vec<u8>, Fault> {
     let mut register = new_register(alloc, windows)?;
-    Ok(hear_all(alloc, &mut register, story, size)?)
+    Ok(serve_story(alloc, &mut register, story, size)?)
 }
 
-/// Returns the answers of a new register over a database in memory, and how often its store failed.
+/// Returns the responses of a new register over a database in memory, and how often its store
+/// failed.
 pub fn play_stored(
     alloc: Global,
     windows: &Windows,
@@ -114,11 +115,11 @@ pub fn play_stored(
     let store = SqlStore::in_memory(alloc)?;
     match Register::open(alloc, store, windows) {
         Ok(mut register) => {
-            let heard = hear_all(alloc, &mut register, story, usize::MAX);
+            let output = serve_story(alloc, &mut register, story, usize::MAX);
             let store = register.close();
             let failures = store.failures();
             let _database = store.release().into_store();
-            Ok((heard?, failures))
+            Ok((output?, failures))
         }
         Err((store, fault)) => {
             let _database = store.release().into_store();

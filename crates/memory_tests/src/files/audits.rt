@@ -1,7 +1,10 @@
 //! Tests audits of copies, and the export of pooled numbers.
-use crate::commands::{does, routed_to};
-use crate::faulty::{Filling, MUCH, Piecewise};
-use crate::files::started::{Desk, acknowledge_all, exports, ported, runs, started, whole_within};
+use crate::commands::{execute, routing_to};
+use crate::faulty_io::{ChunkedReader, LimitedWriter, MAX_CHUNK};
+use crate::files::fixture::{
+    MemoryRegister, acknowledge_all, count_lines_within, is_exported_in, is_run_in,
+    register_with_carriers, register_with_port,
+};
 use bulk::{BulkFault, FaultKind, audit};
 use numbers::{BlockId, Line, Minute, Spid};
 use pool::Assignment;
@@ -11,17 +14,17 @@ use std::alloc::Global;
 /// A carrier, its copy, the findings, and the result of the audit.
 type Row<'a> = (&'a str, &'a str, &'a str, Result<u64, BulkFault>);
 
-const STRANGER: Result<u64, BulkFault> = Err(BulkFault {
+const UNKNOWN_CARRIER: Result<u64, BulkFault> = Err(BulkFault {
     kind: FaultKind::UnknownCarrier,
     rows: 0,
 });
 
-const NO_HEADER: Result<u64, BulkFault> = Err(BulkFault {
+const BAD_HEADER: Result<u64, BulkFault> = Err(BulkFault {
     kind: FaultKind::BadHeader,
     rows: 0,
 });
 
-const NO_COPY: Result<u64, BulkFault> = Err(BulkFault {
+const BAD_FILE: Result<u64, BulkFault> = Err(BulkFault {
     kind: FaultKind::BadFile,
     rows: 0,
 });
@@ -82,64 +85,64 @@ static ROWS: [Row<'static>; 20] = [
         "subject,finding\n2025331234,waiting\n",
         Ok(1),
     ),
-    ("DDDD", "subject,lrn,cic\n", "", STRANGER),
-    ("NPAC", "", "", STRANGER),
-    ("AAAA", "", "", NO_HEADER),
-    ("AAAA", "subject,lrn\n", "", NO_HEADER),
+    ("DDDD", "subject,lrn,cic\n", "", UNKNOWN_CARRIER),
+    ("NPAC", "", "", UNKNOWN_CARRIER),
+    ("AAAA", "", "", BAD_HEADER),
+    ("AAAA", "subject,lrn\n", "", BAD_HEADER),
     (
         "AAAA",
         "subject,lrn,cic\n2025331234,2025440000\n",
         "",
-        NO_COPY,
+        BAD_FILE,
     ),
     (
         "AAAA",
         "subject,lrn,cic\n2025331234,2025440000,,\n",
         "",
-        NO_COPY,
+        BAD_FILE,
     ),
     (
         "AAAA",
         "subject,lrn,cic\n202533123,2025440000,\n",
         "",
-        NO_COPY,
+        BAD_FILE,
     ),
     (
         "AAAA",
         "subject,lrn,cic\n2025331234,202544000,\n",
         "",
-        NO_COPY,
+        BAD_FILE,
     ),
     (
         "AAAA",
         "subject,lrn,cic\n2025331234,2025440000,288\n",
         "",
-        NO_COPY,
+        BAD_FILE,
     ),
     (
         "AAAA",
         "subject,lrn,cic\n2025331234,2025440000,\n2025339999,2025330000,\n2025331234,2025440000,\n",
         "",
-        NO_COPY,
+        BAD_FILE,
     ),
     (
         "AAAA",
         "subject,lrn,cic\n2025331234-2025331235,2025440000,\n",
         "",
-        NO_COPY,
+        BAD_FILE,
     ),
 ];
 
-fn is_audited(alloc: Global, register: &mut Desk, row: &Row<'_>) -> Option<bool> {
+fn is_audited(alloc: Global, register: &mut MemoryRegister, row: &Row<'_>) -> Option<bool> {
     let (name, copy, findings, result) = *row;
     let carrier = Spid::read(name)?;
-    let mut written = Vec::new(alloc);
-    let audited = audit(alloc, register, carrier, copy.as_bytes(), &mut written);
-    Some(audited == result && written.as_slice() == findings.as_bytes())
+    let mut output = Vec::new(alloc);
+    let actual = audit(alloc, register, carrier, copy.as_bytes(), &mut output);
+    Some(actual == result && output.as_slice() == findings.as_bytes())
 }
 
 // Returns the first copy with another result.
-fn audited_otherwise_in(alloc: Global, register: &mut Desk) -> Option<&'static str> {
+fn first_wrong_copy_in(alloc: Global, register: &mut MemoryRegister) -> Option<&'static str> {
     for row in &ROWS {
         if is_audited(alloc, register, row) != Some(true) {
             return Some(row.1);
@@ -148,14 +151,14 @@ fn audited_otherwise_in(alloc: Global, register: &mut Desk) -> Option<&'static s
     None
 }
 
-fn audited_otherwise(alloc: Global) -> Option<Option<&'static str>> {
-    let mut register = ported(alloc)?;
-    Some(audited_otherwise_in(alloc, &mut register))
+fn first_wrong_copy(alloc: Global) -> Option<Option<&'static str>> {
+    let mut register = register_with_port(alloc)?;
+    Some(first_wrong_copy_in(alloc, &mut register))
 }
 
 #[test]
 fn copies_are_compared(rt: HostRuntime) {
-    assert_eq!(rt; audited_otherwise(rt.alloc()), Some(None));
+    assert_eq!(rt; first_wrong_copy(rt.alloc()), Some(None));
 }
 
 const COPY: &str = "subject,lrn,cic\n2025331234,2025550000,\n2025339999,2025330000,\n";
@@ -164,123 +167,129 @@ const FINDINGS_HEADER: &str = "subject,finding\n";
 
 static FINDINGS: [&str; 2] = ["2025331234,different\n", "2025339999,extra\n"];
 
-const AUDITED: &str = "subject,finding\n2025331234,different\n2025339999,extra\n";
+const AUDIT_REPORT: &str = "subject,finding\n2025331234,different\n2025339999,extra\n";
 
 fn audit_of_port(
     alloc: Global,
-    reader: Piecewise<'_>,
-    writer: &mut Filling,
+    reader: ChunkedReader<'_>,
+    writer: &mut LimitedWriter,
 ) -> Option<Result<u64, BulkFault>> {
     let carrier = Spid::read("AAAA")?;
-    let mut register = ported(alloc)?;
+    let mut register = register_with_port(alloc)?;
     Some(audit(alloc, &mut register, carrier, reader, writer))
 }
 
 // Returns whether a reader that fails at a place leaves nothing written.
-fn is_read_so(alloc: Global, place: usize) -> Option<bool> {
-    let reader = Piecewise {
+fn is_read_fault_reported(alloc: Global, place: usize) -> Option<bool> {
+    let reader = ChunkedReader {
         rest: COPY.as_bytes().get(..place)?,
-        most: MUCH,
-        fails: true,
+        chunk_size: MAX_CHUNK,
+        fails_at_end: true,
     };
-    let mut writer = Filling {
+    let mut writer = LimitedWriter {
         bytes: Vec::new(alloc),
-        room: MUCH,
+        capacity: MAX_CHUNK,
     };
-    let unread = Err(BulkFault {
+    let read_fault = Err(BulkFault {
         kind: FaultKind::Read,
         rows: 0,
     });
-    let audited = audit_of_port(alloc, reader, &mut writer)?;
-    Some(audited == unread && writer.bytes.is_empty())
+    let actual = audit_of_port(alloc, reader, &mut writer)?;
+    Some(actual == read_fault && writer.bytes.is_empty())
 }
 
-// Returns whether a writer that takes `room` bytes has a prefix of the findings.
-fn is_written_so(alloc: Global, room: usize) -> Option<bool> {
-    let reader = Piecewise {
+// Returns whether a writer that takes `capacity` bytes has a prefix of the findings.
+fn is_write_fault_reported(alloc: Global, capacity: usize) -> Option<bool> {
+    let reader = ChunkedReader {
         rest: COPY.as_bytes(),
-        most: 1,
-        fails: false,
+        chunk_size: 1,
+        fails_at_end: false,
     };
-    let mut writer = Filling {
+    let mut writer = LimitedWriter {
         bytes: Vec::new(alloc),
-        room,
+        capacity,
     };
-    let whole = whole_within(FINDINGS_HEADER.len(), &FINDINGS, room) as u64;
-    let wanted = if room < AUDITED.len() {
+    let whole_lines = count_lines_within(FINDINGS_HEADER.len(), &FINDINGS, capacity) as u64;
+    let expected = if capacity < AUDIT_REPORT.len() {
         Err(BulkFault {
             kind: FaultKind::Write,
-            rows: whole,
+            rows: whole_lines,
         })
     } else {
-        Ok(whole)
+        Ok(whole_lines)
     };
-    let audited = audit_of_port(alloc, reader, &mut writer)?;
-    let front = AUDITED.as_bytes().get(..room)?;
-    Some(audited == wanted && writer.bytes.as_slice() == front)
+    let actual = audit_of_port(alloc, reader, &mut writer)?;
+    let prefix = AUDIT_REPORT.as_bytes().get(..capacity)?;
+    Some(actual == expected && writer.bytes.as_slice() == prefix)
 }
 
 fn first_wrong_place(alloc: Global) -> Option<usize> {
     for place in 0..=COPY.len() {
-        if is_read_so(alloc, place) != Some(true) {
+        if is_read_fault_reported(alloc, place) != Some(true) {
             return Some(place);
         }
     }
-    for room in 0..=AUDITED.len() {
-        if is_written_so(alloc, room) != Some(true) {
-            return Some(room);
+    for capacity in 0..=AUDIT_REPORT.len() {
+        if is_write_fault_reported(alloc, capacity) != Some(true) {
+            return Some(capacity);
         }
     }
     None
 }
 
 #[test]
-fn an_audit_that_breaks_off(rt: HostRuntime) {
+fn an_audit_with_a_failing_reader_or_writer(rt: HostRuntime) {
     assert!(rt; first_wrong_place(rt.alloc()) == None);
 }
 
 // Returns the lines of the block that are in use.
-fn used(alloc: Global) -> Option<Vec<Line>> {
+fn used_lines(alloc: Global) -> Option<Vec<Line>> {
     let mut used = Vec::new(alloc);
     used.push(Line::read("001")?).ok()?;
     used.push(Line::read("002")?).ok()?;
     Some(used)
 }
 
-fn donate(alloc: Global, register: &mut Desk) -> Option<()> {
+fn donate(alloc: Global, register: &mut MemoryRegister) -> Option<()> {
     let donor = Spid::read("BBBB")?;
     let block = BlockId::read("2025337")?;
-    let routing = routed_to("2025330000")?;
-    let used = used(alloc)?;
+    let routing = routing_to("2025330000")?;
+    let used = used_lines(alloc)?;
     let donation = Command::Donate {
         block,
         used,
         routing,
     };
-    does(register, donor, donation)
+    execute(register, donor, donation)
 }
 
-fn assign(register: &mut Desk) -> Option<()> {
+fn assign(register: &mut MemoryRegister) -> Option<()> {
     let assignment = Command::Assign(Assignment {
         block: BlockId::read("2025337")?,
         holder: Spid::read("CCCC")?,
-        routing: routed_to("2025550000")?,
+        routing: routing_to("2025550000")?,
     });
-    does(register, Spid::NPAC, assignment)
+    execute(register, Spid::NPAC, assignment)
 }
 
-const AGAIN: &str =
+const ACTIVATION: &str =
     "caller,action,subject,old,new,due,lrn,cic,flag\nBBBB,subscriptionVersionActivate,2025337002,,,,,,\n";
 
-const SENT_AGAIN: &str = "row,subject,result,id\n1,2025337002,ok,2\n";
+const ACTIVATION_REPORT: &str = "row,subject,result,id\n1,2025337002,ok,2\n";
 
 // Donates a block with two numbers in use. The second is sent again after no carrier acknowledged
 // it.
-fn pool_block(alloc: Global, register: &mut Desk) -> Option<()> {
+fn pool_block(alloc: Global, register: &mut MemoryRegister) -> Option<()> {
     donate(alloc, register)?;
     acknowledge_all(register, 1, 1)?;
     register.clock(Minute::new(20)?).ok()?;
-    if !runs(alloc, register, AGAIN.as_bytes(), SENT_AGAIN, Ok(1)) {
+    if !is_run_in(
+        alloc,
+        register,
+        ACTIVATION.as_bytes(),
+        ACTIVATION_REPORT,
+        Ok(1),
+    ) {
         return None;
     }
     acknowledge_all(register, 2, 2)?;
@@ -288,16 +297,16 @@ fn pool_block(alloc: Global, register: &mut Desk) -> Option<()> {
     acknowledge_all(register, 3, 1)
 }
 
-const POOLED: &str =
+const POOL_EXPORT: &str =
     "subject,lrn,cic\n2025337,2025550000,\n2025337001,2025330000,\n2025337002,2025330000,\n";
 
-fn is_pool_exported_in(alloc: Global, register: &mut Desk) -> Option<bool> {
+fn is_pool_exported_in(alloc: Global, register: &mut MemoryRegister) -> Option<bool> {
     pool_block(alloc, register)?;
-    Some(exports(alloc, register, POOLED, 3))
+    Some(is_exported_in(alloc, register, POOL_EXPORT, 3))
 }
 
 fn is_pool_exported(alloc: Global) -> Option<bool> {
-    let mut register = started(alloc)?;
+    let mut register = register_with_carriers(alloc)?;
     is_pool_exported_in(alloc, &mut register)
 }
 

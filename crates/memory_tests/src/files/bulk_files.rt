@@ -1,13 +1,16 @@
 //! Tests bulk files and exports over memory: worked files with their reports, each kind of bad row,
 //! and what is in force afterwards.
-use crate::files::started::{Desk, PORTED, acknowledge_all, exports, is_run, runs, started};
+use crate::files::fixture::{
+    MemoryRegister, PORT_REPORT, acknowledge_all, is_exported_in, is_run, is_run_in,
+    register_with_carriers,
+};
 use bulk::{BulkFault, FaultKind, run_file};
 use std::alloc::Global;
 
 /// A file, its report, and the result of the run.
 type Row<'a> = (&'a str, &'a str, Result<u64, BulkFault>);
 
-const NO_HEADER: Result<u64, BulkFault> = Err(BulkFault {
+const BAD_HEADER: Result<u64, BulkFault> = Err(BulkFault {
     kind: FaultKind::BadHeader,
     rows: 0,
 });
@@ -23,8 +26,12 @@ static ROWS: [Row<'static>; 12] = [
         "row,subject,result,id\n",
         Ok(0),
     ),
-    ("", "", NO_HEADER),
-    ("caller,action,subject,old,new,due,lrn,cic\n", "", NO_HEADER),
+    ("", "", BAD_HEADER),
+    (
+        "caller,action,subject,old,new,due,lrn,cic\n",
+        "",
+        BAD_HEADER,
+    ),
     (
         "\u{feff}caller,action,subject,old,new,due,lrn,cic,flag\r\nAAAA,subscriptionVersionActivate,2025331234,,,,,,\r\n",
         "row,subject,result,id\n1,2025331234,not_found,\n",
@@ -68,10 +75,10 @@ static ROWS: [Row<'static>; 12] = [
 ];
 
 // Returns the first row with another report or result.
-fn run_otherwise(alloc: Global) -> Option<usize> {
-    for (at, (file, report, wanted)) in ROWS.iter().enumerate() {
-        if is_run(alloc, file.as_bytes(), report, *wanted) != Some(true) {
-            return Some(at);
+fn first_wrong_run(alloc: Global) -> Option<usize> {
+    for (index, (file, report, expected)) in ROWS.iter().enumerate() {
+        if is_run(alloc, file.as_bytes(), report, *expected) != Some(true) {
+            return Some(index);
         }
     }
     None
@@ -79,7 +86,7 @@ fn run_otherwise(alloc: Global) -> Option<usize> {
 
 #[test]
 fn files_are_run_and_reported(rt: HostRuntime) {
-    assert_eq!(rt; run_otherwise(rt.alloc()), None);
+    assert_eq!(rt; first_wrong_run(rt.alloc()), None);
 }
 
 const NOT_UTF_8: &[u8] =
@@ -106,21 +113,21 @@ fn are_of_one_row(report: &str) -> bool {
 }
 
 // Returns whether the beginning, the end and each line of the report are right.
-fn is_of_the_range(report: &str) -> bool {
+fn is_range_report(report: &str) -> bool {
     report.starts_with("row,subject,result,id\n1,2025331000,ok,1\n1,2025331001,ok,2\n")
         && report.ends_with("1,2025331998,ok,999\n1,2025331999,ok,1000\n")
         && are_of_one_row(report)
 }
 
-fn is_range_run_in(alloc: Global, register: &mut Desk) -> Option<bool> {
-    let mut written = Vec::new(alloc);
-    let ran = run_file(alloc, register, RANGE.as_bytes(), &mut written);
-    let report = str::from_utf8(written.as_slice()).ok()?;
-    Some(ran == Ok(1000) && is_of_the_range(report))
+fn is_range_run_in(alloc: Global, register: &mut MemoryRegister) -> Option<bool> {
+    let mut output = Vec::new(alloc);
+    let run_result = run_file(alloc, register, RANGE.as_bytes(), &mut output);
+    let report = str::from_utf8(output.as_slice()).ok()?;
+    Some(run_result == Ok(1000) && is_range_report(report))
 }
 
 fn is_range_run(alloc: Global) -> Option<bool> {
-    let mut register = started(alloc)?;
+    let mut register = register_with_carriers(alloc)?;
     is_range_run_in(alloc, &mut register)
 }
 
@@ -133,20 +140,20 @@ const PORT: &str =
     "caller,action,subject,old,new,due,lrn,cic,flag\nAAAA,subscriptionVersionNewSP-Create,2025331234,BBBB,AAAA,0,2025440000,0288,\nBBBB,subscriptionVersionOldSP-Create,2025331234,BBBB,AAAA,0,,,yes\nAAAA,subscriptionVersionActivate,2025331234,,,,,,\n";
 
 // Returns whether the exports are right before a port, and after it with all acknowledgements.
-fn is_exported_in(alloc: Global, register: &mut Desk) -> Option<[bool; 3]> {
-    let none = exports(alloc, register, "subject,lrn,cic\n", 0);
-    let ran = runs(alloc, register, PORT.as_bytes(), PORTED, Ok(3));
+fn export_checks_in(alloc: Global, register: &mut MemoryRegister) -> Option<[bool; 3]> {
+    let is_empty = is_exported_in(alloc, register, "subject,lrn,cic\n", 0);
+    let is_run = is_run_in(alloc, register, PORT.as_bytes(), PORT_REPORT, Ok(3));
     acknowledge_all(register, 1, 1)?;
     let rows = "subject,lrn,cic\n2025331234,2025440000,0288\n";
-    Some([none, ran, exports(alloc, register, rows, 1)])
+    Some([is_empty, is_run, is_exported_in(alloc, register, rows, 1)])
 }
 
-fn is_exported(alloc: Global) -> Option<[bool; 3]> {
-    let mut register = started(alloc)?;
-    is_exported_in(alloc, &mut register)
+fn export_checks(alloc: Global) -> Option<[bool; 3]> {
+    let mut register = register_with_carriers(alloc)?;
+    export_checks_in(alloc, &mut register)
 }
 
 #[test]
 fn what_is_in_force_is_exported(rt: HostRuntime) {
-    assert_eq!(rt; is_exported(rt.alloc()), Some([true; 3]));
+    assert_eq!(rt; export_checks(rt.alloc()), Some([true; 3]));
 }

@@ -1,8 +1,8 @@
 //! Tests files of commands, exports and audits.
 mod actions;
+mod allocation_failures;
 mod audits;
-mod breaking;
 mod bulk_files;
+mod fixture;
 mod hostile;
-mod refused;
-mod started;
+mod io_faults;

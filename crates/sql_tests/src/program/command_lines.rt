@@ -1,6 +1,6 @@
 //! Tests command lines, executed whole, with files that the test makes.
 use super::connections::{CUT, FIRST, LAST, new_listener};
-use crate::said::WINDOWS;
+use crate::messages::WINDOWS;
 use cli::parse::{CommandLine, Subcommand, parse};
 use cli::{run, words_of};
 use std::alloc::{AllocError, Global};
@@ -11,9 +11,9 @@ use std::{env, fs, io};
 
 /// A command line, its input, its exit status, its output, and its report. `None` is a text of
 /// `clap`'s.
-pub type Row<'a> = (&'a str, &'a str, u8, Option<&'a str>, Option<&'a str>);
+pub type LineCase<'a> = (&'a str, &'a str, u8, Option<&'a str>, Option<&'a str>);
 
-pub const NO_TEXT: Option<&str> = Some("");
+pub const NO_OUTPUT: Option<&str> = Some("");
 
 const BROADCAST: &str = "broadcast = 15\n";
 
@@ -33,111 +33,117 @@ const FIRST_AND_CUT: &str = "POST /carriers HTTP/1.1\r\nx-spid: NPAC\r\n\
     x-spid: NPAC\r\ncontent-length: 15\r\n\r\n{\"spid\"";
 
 // Mistakes in the line, found before any file is opened.
-static MISTAKES: [Row<'static>; 11] = [
-    ("npacd", "", 2, NO_TEXT, None),
-    ("npacd listen --windows good.toml", "", 2, NO_TEXT, None),
-    ("npacd feed", "", 2, NO_TEXT, None),
+static MISTAKES: [LineCase<'static>; 11] = [
+    ("npacd", "", 2, NO_OUTPUT, None),
+    ("npacd listen --windows good.toml", "", 2, NO_OUTPUT, None),
+    ("npacd feed", "", 2, NO_OUTPUT, None),
     (
         "npacd feed --windows good.toml --port 8700",
         "",
         2,
-        NO_TEXT,
+        NO_OUTPUT,
         None,
     ),
     (
         "npacd feed --windows good.toml --unknown",
         FIRST,
         2,
-        NO_TEXT,
+        NO_OUTPUT,
         None,
     ),
-    ("npacd serve --windows good.toml", "", 2, NO_TEXT, None),
+    ("npacd serve --windows good.toml", "", 2, NO_OUTPUT, None),
     (
         "npacd serve --windows none.toml --port 0",
         "",
         2,
-        NO_TEXT,
+        NO_OUTPUT,
         None,
     ),
     (
         "npacd serve --windows good.toml --port 65536",
         "",
         2,
-        NO_TEXT,
+        NO_OUTPUT,
         None,
     ),
     (
         "npacd serve --windows good.toml --port 1 --connections x",
         "",
         2,
-        NO_TEXT,
+        NO_OUTPUT,
         None,
     ),
     (
         "npacd serve --windows good.toml --port 1 --connections 0",
         "",
         2,
-        NO_TEXT,
+        NO_OUTPUT,
         None,
     ),
     (
         "npacd serve --windows good.toml --port +80",
         "",
         2,
-        NO_TEXT,
+        NO_OUTPUT,
         Some("error: a number is written in digits\n"),
     ),
 ];
 
-static HELP: [Row<'static>; 3] = [
-    ("npacd --help", FIRST, 0, None, NO_TEXT),
-    ("npacd serve --help", FIRST, 0, None, NO_TEXT),
-    ("npacd --version", FIRST, 0, Some("npacd 0.1.0\n"), NO_TEXT),
+static HELP: [LineCase<'static>; 3] = [
+    ("npacd --help", FIRST, 0, None, NO_OUTPUT),
+    ("npacd serve --help", FIRST, 0, None, NO_OUTPUT),
+    (
+        "npacd --version",
+        FIRST,
+        0,
+        Some("npacd 0.1.0\n"),
+        NO_OUTPUT,
+    ),
 ];
 
 // Faults; the first in this order is reported: of the windows file, then of the file of messages,
 // then of the input.
-static FAULTS: [Row<'static>; 8] = [
+static FAULTS: [LineCase<'static>; 8] = [
     (
         "npacd feed --windows narrow.toml",
         FIRST,
         1,
-        NO_TEXT,
+        NO_OUTPUT,
         Some("npacd: missing_key\n"),
     ),
     (
         "npacd feed --windows none.toml",
         FIRST,
         3,
-        NO_TEXT,
+        NO_OUTPUT,
         Some("npacd: read\n"),
     ),
     (
         "npacd feed --windows narrow.toml --feed none.http",
         FIRST,
         1,
-        NO_TEXT,
+        NO_OUTPUT,
         Some("npacd: missing_key\n"),
     ),
     (
         "npacd feed --windows good.toml --feed none.http",
         FIRST,
         3,
-        NO_TEXT,
+        NO_OUTPUT,
         Some("npacd: read\n"),
     ),
     (
         "npacd feed --windows good.toml --feed cut.http",
         FIRST,
         1,
-        NO_TEXT,
+        NO_OUTPUT,
         Some("npacd: cut_body\n"),
     ),
     (
         "npacd serve --windows good.toml --port 1 --feed cut.http",
         FIRST,
         1,
-        NO_TEXT,
+        NO_OUTPUT,
         Some("npacd: cut_body\n"),
     ),
     (
@@ -157,71 +163,71 @@ static FAULTS: [Row<'static>; 8] = [
 ];
 
 // What is fed first is answered to nobody, and what follows its end is discarded.
-static FED: [Row<'static>; 3] = [
+static FED: [LineCase<'static>; 3] = [
     (
         "npacd feed --windows good.toml",
         FIRST,
         0,
         Some(REGISTERED),
-        NO_TEXT,
+        NO_OUTPUT,
     ),
     (
         "npacd feed --windows good.toml --feed first.http",
         FIRST,
         0,
         Some(TAKEN),
-        NO_TEXT,
+        NO_OUTPUT,
     ),
     (
         "npacd feed --windows good.toml --feed closed.http",
         FIRST,
         0,
         Some(REGISTERED),
-        NO_TEXT,
+        NO_OUTPUT,
     ),
 ];
 
 // Lines over a file, each after the ones before it.
-static STORED: [Row<'static>; 5] = [
+static STORED: [LineCase<'static>; 5] = [
     (
         "npacd feed --windows good.toml --db made.db",
         FIRST,
         0,
         Some(REGISTERED),
-        NO_TEXT,
+        NO_OUTPUT,
     ),
     (
         "npacd feed --windows good.toml --db made.db",
         FIRST,
         0,
         Some(TAKEN),
-        NO_TEXT,
+        NO_OUTPUT,
     ),
     (
         "npacd feed --windows wide.toml --db made.db",
         FIRST,
         1,
-        NO_TEXT,
+        NO_OUTPUT,
         Some("npacd: windows_differ\n"),
     ),
     (
         "npacd feed --windows good.toml --db good.toml",
         FIRST,
         3,
-        NO_TEXT,
+        NO_OUTPUT,
         Some("npacd: storage\n"),
     ),
     (
         "npacd feed --windows good.toml --db :memory:",
         FIRST,
         3,
-        NO_TEXT,
+        NO_OUTPUT,
         Some("npacd: storage\n"),
     ),
 ];
 
-fn is_text(bytes: &[u8], wanted: Option<&str>) -> bool {
-    match wanted {
+fn is_text(bytes: &[u8], expected: Option<&str>) -> bool {
+    match expected {
         Some(text) => bytes == text.as_bytes(),
         None => !bytes.is_empty(),
     }
@@ -236,20 +242,24 @@ pub fn words_in(alloc: Global, line: &str) -> Result<Vec<&str>, AllocError> {
     Ok(words)
 }
 
-fn is_carried_out(rt: &HostRuntime, row: &Row<'_>) -> Option<bool> {
-    let (line, input, status, written, told) = *row;
+fn is_executed(rt: &HostRuntime, row: &LineCase<'_>) -> Option<bool> {
+    let (line, input, status, expected_output, expected_report) = *row;
     let words = words_in(rt.alloc(), line).ok()?;
     let mut output = Vec::new(rt.alloc());
     let mut errors = Vec::new(rt.alloc());
     let mut reader = input.as_bytes();
-    let ended = run(rt, words.as_slice(), &mut reader, &mut output, &mut errors);
-    Some(ended == status && is_text(&output, written) && is_text(&errors, told))
+    let exit_status = run(rt, words.as_slice(), &mut reader, &mut output, &mut errors);
+    Some(
+        exit_status == status
+            && is_text(&output, expected_output)
+            && is_text(&errors, expected_report),
+    )
 }
 
 /// Returns the first line with another end.
-pub fn first_wrong<'a>(rt: &HostRuntime, rows: &'a [Row<'a>]) -> Option<&'a str> {
+pub fn first_wrong_line<'a>(rt: &HostRuntime, rows: &'a [LineCase<'a>]) -> Option<&'a str> {
     for row in rows {
-        if is_carried_out(rt, row) != Some(true) {
+        if is_executed(rt, row) != Some(true) {
             return Some(row.0);
         }
     }
@@ -270,13 +280,13 @@ fn make_files<T: Files + AllocGlobal + Env>(rt: &T) -> io::Result<()> {
 }
 
 #[test]
-fn lines_are_carried_out(rt: HostRuntime) {
+fn command_lines_are_executed(rt: HostRuntime) {
     assert!(rt; make_files(&rt).is_ok());
-    assert_eq!(rt; first_wrong(&rt, &MISTAKES), None);
-    assert_eq!(rt; first_wrong(&rt, &HELP), None);
-    assert_eq!(rt; first_wrong(&rt, &FAULTS), None);
-    assert_eq!(rt; first_wrong(&rt, &FED), None);
-    assert_eq!(rt; first_wrong(&rt, &STORED), None);
+    assert_eq!(rt; first_wrong_line(&rt, &MISTAKES), None);
+    assert_eq!(rt; first_wrong_line(&rt, &HELP), None);
+    assert_eq!(rt; first_wrong_line(&rt, &FAULTS), None);
+    assert_eq!(rt; first_wrong_line(&rt, &FED), None);
+    assert_eq!(rt; first_wrong_line(&rt, &STORED), None);
     assert_eq!(rt; is_port_taken(&rt), Some(true));
 }
 
@@ -285,9 +295,9 @@ fn is_port_taken(rt: &HostRuntime) -> Option<bool> {
     let listener = new_listener(rt)?;
     let port = listener.local_addr().ok()?.port();
     let line = format!(in rt.alloc(); "npacd serve --windows good.toml --port {port}").ok()?;
-    is_carried_out(
+    is_executed(
         rt,
-        &(line.as_str(), "", 3, NO_TEXT, Some("npacd: listen\n")),
+        &(line.as_str(), "", 3, NO_OUTPUT, Some("npacd: listen\n")),
     )
 }
 
@@ -337,7 +347,7 @@ fn are_lines(alloc: Global) -> Option<bool> {
 }
 
 #[test]
-fn lines_that_serve(rt: HostRuntime) {
+fn serve_lines_are_parsed(rt: HostRuntime) {
     assert_eq!(rt; are_lines(rt.alloc()), Some(true));
 }
 

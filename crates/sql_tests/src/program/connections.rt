@@ -1,5 +1,5 @@
 //! Tests connections over a real listener, one after the other.
-use crate::said::{WINDOWS, windows_of};
+use crate::messages::{WINDOWS, windows_of};
 use api::{End, Fault, MessageFault, NoTicks, Served, Ticks};
 use cli::{serve_connections, serve_next};
 use numbers::Minute;
@@ -64,7 +64,7 @@ pub fn new_register(alloc: Global) -> Option<Register<MemoryStore>> {
 }
 
 /// Connects a client that sends this text and nothing more.
-pub fn client_of<T: Net>(rt: &T, address: SocketAddr, text: &str) -> Option<T::Stream> {
+pub fn connect_client<T: Net>(rt: &T, address: SocketAddr, text: &str) -> Option<T::Stream> {
     let mut client = TcpStream::connect(rt, address).ok()?;
     client.write_all(text.as_bytes()).ok()?;
     client.shutdown(Shutdown::Write).ok()?;
@@ -72,41 +72,41 @@ pub fn client_of<T: Net>(rt: &T, address: SocketAddr, text: &str) -> Option<T::S
 }
 
 /// Reads what a client receives until its connection ends.
-pub fn heard_by<C: Read>(alloc: Global, client: &mut C) -> Option<String> {
-    let mut heard = String::new(alloc);
-    client.read_to_string(&mut heard).ok()?;
-    Some(heard)
+pub fn read_responses<C: Read>(alloc: Global, client: &mut C) -> Option<String> {
+    let mut responses = String::new(alloc);
+    client.read_to_string(&mut responses).ok()?;
+    Some(responses)
 }
 
 // Serves a connection that sends this text. Returns how serving ended, and what the client
 // received.
-fn met<T: Net + AllocGlobal>(
+fn serve_text<T: Net + AllocGlobal>(
     rt: &T,
     listener: &T::Listener,
     register: &mut Register<MemoryStore>,
     ticks: &mut OneMinute,
     text: &str,
 ) -> Option<(Result<Served, Fault>, String)> {
-    let mut client = client_of(rt, listener.local_addr().ok()?, text)?;
+    let mut client = connect_client(rt, listener.local_addr().ok()?, text)?;
     let served = serve_next(rt.alloc(), listener, register, ticks);
-    Some((served, heard_by(rt.alloc(), &mut client)?))
+    Some((served, read_responses(rt.alloc(), &mut client)?))
 }
 
 // Returns whether a connection that sends this text at this minute ends so, with this body last.
-fn is_met<T: Net + AllocGlobal>(
+fn is_served<T: Net + AllocGlobal>(
     rt: &T,
     listener: &T::Listener,
     register: &mut Register<MemoryStore>,
-    said: (u64, &str),
+    input: (u64, &str),
     end: End,
     body: &str,
 ) -> Option<bool> {
-    let (minute, text) = said;
+    let (minute, text) = input;
     let mut ticks = OneMinute {
         minute: Minute::new(minute),
     };
-    let (served, heard) = met(rt, listener, register, &mut ticks, text)?;
-    Some(served == Ok(Served { count: 1, end }) && heard.as_str().ends_with(body))
+    let (served, responses) = serve_text(rt, listener, register, &mut ticks, text)?;
+    Some(served == Ok(Served { count: 1, end }) && responses.as_str().ends_with(body))
 }
 
 // Tests a connection that ends, one that is cut, one that asks to close, one for the clock, and one
@@ -115,7 +115,7 @@ fn is_met<T: Net + AllocGlobal>(
 fn are_served<T: Net + AllocGlobal>(rt: &T) -> Option<bool> {
     let listener = new_listener(rt)?;
     let mut register = new_register(rt.alloc())?;
-    let first = is_met(
+    let first = is_served(
         rt,
         &listener,
         &mut register,
@@ -124,8 +124,8 @@ fn are_served<T: Net + AllocGlobal>(rt: &T) -> Option<bool> {
         FIRST_ROWS,
     )?;
     let refused = End::Refused(MessageFault::CutBody);
-    let cut = is_met(rt, &listener, &mut register, (6, CUT), refused, CUT_BODY)?;
-    let last = is_met(
+    let cut = is_served(rt, &listener, &mut register, (6, CUT), refused, CUT_BODY)?;
+    let last = is_served(
         rt,
         &listener,
         &mut register,
@@ -133,7 +133,7 @@ fn are_served<T: Net + AllocGlobal>(rt: &T) -> Option<bool> {
         End::Closed,
         LAST_ROWS,
     )?;
-    let clock = is_met(
+    let clock = is_served(
         rt,
         &listener,
         &mut register,
@@ -142,7 +142,7 @@ fn are_served<T: Net + AllocGlobal>(rt: &T) -> Option<bool> {
         NO_PATH,
     )?;
     let refused = End::Refused(MessageFault::BadHead);
-    let bad = is_met(rt, &listener, &mut register, (8, BAD), refused, BAD_HEAD)?;
+    let bad = is_served(rt, &listener, &mut register, (8, BAD), refused, BAD_HEAD)?;
     Some(first && cut && last && clock && bad)
 }
 
@@ -153,17 +153,17 @@ fn connections_are_served_one_after_the_other(rt: HostRuntime) {
 
 // A listener that refuses its first connections, and counts how often it is called.
 #[derive(Drop)]
-struct Refusing<'a, L> {
+struct RefusingListener<'a, L> {
     listener: &'a L,
     refusals: Cell<u32>,
-    asked: Cell<u32>,
+    calls: Cell<u32>,
 }
 
-impl<L: OpenListener> OpenListener for Refusing<'_, L> {
+impl<L: OpenListener> OpenListener for RefusingListener<'_, L> {
     type Stream = L::Stream;
 
     fn accept(&self) -> io::Result<(L::Stream, SocketAddr)> {
-        self.asked.set(self.asked.get().wrapping_add(1));
+        self.calls.set(self.calls.get().wrapping_add(1));
         let left = self.refusals.get();
         if left == 0 {
             return self.listener.accept();
@@ -178,18 +178,18 @@ fn are_counted<T: Net + AllocGlobal>(rt: &T) -> Option<bool> {
     let listener = new_listener(rt)?;
     let address = listener.local_addr().ok()?;
     let mut register = new_register(rt.alloc())?;
-    let mut cut = client_of(rt, address, CUT)?;
-    let mut first = client_of(rt, address, FIRST)?;
-    let refusing = Refusing {
+    let mut cut = connect_client(rt, address, CUT)?;
+    let mut first = connect_client(rt, address, FIRST)?;
+    let refusing = RefusingListener {
         listener: &listener,
         refusals: Cell::new(1),
-        asked: Cell::new(0),
+        calls: Cell::new(0),
     };
     serve_connections(rt.alloc(), &refusing, &mut register, &mut NoTicks, Some(3));
-    let cut = heard_by(rt.alloc(), &mut cut)?;
-    let first = heard_by(rt.alloc(), &mut first)?;
-    let heard = cut.as_str().ends_with(CUT_BODY) && first.as_str().ends_with(FIRST_ROWS);
-    Some(heard && refusing.asked.get() == 3)
+    let cut = read_responses(rt.alloc(), &mut cut)?;
+    let first = read_responses(rt.alloc(), &mut first)?;
+    let are_expected = cut.as_str().ends_with(CUT_BODY) && first.as_str().ends_with(FIRST_ROWS);
+    Some(are_expected && refusing.calls.get() == 3)
 }
 
 #[test]

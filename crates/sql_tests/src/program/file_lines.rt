@@ -1,8 +1,8 @@
 //! Tests command lines of bulk files, exports and audits, executed whole, with files that the test
 //! makes.
-use super::command_lines::{NO_TEXT, Row, first_wrong, words_in};
+use super::command_lines::{LineCase, NO_OUTPUT, first_wrong_line, words_in};
 use super::connections::{CUT, LAST};
-use crate::said::WINDOWS;
+use crate::messages::WINDOWS;
 use cli::run;
 use std::env::Env;
 use std::io::{ErrorKind, Read, Write};
@@ -55,52 +55,52 @@ const COPY: &str = "subject,lrn,cic\n2025331234,2025550000,\n2025339999,20253300
 const NOTHING_IN_FORCE: &str = "subject,lrn,cic\n";
 
 // Mistakes in the line, found before any file is opened, and help.
-static WORDS: [Row<'static>; 8] = [
-    ("npacd bulk", CREATES, 2, NO_TEXT, None),
-    ("npacd export", "", 2, NO_TEXT, None),
-    ("npacd audit --windows none.toml", COPY, 2, NO_TEXT, None),
-    ("npacd audit --spid AAAA", COPY, 2, NO_TEXT, None),
+static WORDS: [LineCase<'static>; 8] = [
+    ("npacd bulk", CREATES, 2, NO_OUTPUT, None),
+    ("npacd export", "", 2, NO_OUTPUT, None),
+    ("npacd audit --windows none.toml", COPY, 2, NO_OUTPUT, None),
+    ("npacd audit --spid AAAA", COPY, 2, NO_OUTPUT, None),
     (
         "npacd bulk --windows none.toml --spid AAAA",
         CREATES,
         2,
-        NO_TEXT,
+        NO_OUTPUT,
         None,
     ),
     (
         "npacd export --windows none.toml --port 1",
         "",
         2,
-        NO_TEXT,
+        NO_OUTPUT,
         None,
     ),
-    ("npacd bulk --help", CREATES, 0, None, NO_TEXT),
-    ("npacd audit --help", COPY, 0, None, NO_TEXT),
+    ("npacd bulk --help", CREATES, 0, None, NO_OUTPUT),
+    ("npacd audit --help", COPY, 0, None, NO_OUTPUT),
 ];
 
 // Lines over memory: from nothing, from what was fed, and from what precedes the end of what was
 // fed.
-static RUN: [Row<'static>; 7] = [
+static MEMORY_LINES: [LineCase<'static>; 7] = [
     (
         "npacd bulk --windows good.toml --feed carriers.http",
         CREATES,
         0,
         Some(CREATED),
-        NO_TEXT,
+        NO_OUTPUT,
     ),
     (
         "npacd bulk --windows good.toml",
         "caller,action,subject,old,new,due,lrn,cic,flag\n",
         0,
         Some("row,subject,result,id\n"),
-        NO_TEXT,
+        NO_OUTPUT,
     ),
     (
         "npacd bulk --windows good.toml",
         ACTIVATES,
         0,
         Some("row,subject,result,id\n1,2025331234,unknown_carrier,\n"),
-        NO_TEXT,
+        NO_OUTPUT,
     ),
     (
         "npacd bulk --windows good.toml --feed closed.http",
@@ -108,261 +108,261 @@ static RUN: [Row<'static>; 7] = [
         BBBB,subscriptionVersionActivate,2025331234,,,,,,\nBBBB,Activate,2025331234,,,,,,\n",
         0,
         Some("row,subject,result,id\n1,2025331234,not_found,\n2,,bad_row,\n"),
-        NO_TEXT,
+        NO_OUTPUT,
     ),
     (
         "npacd export --windows good.toml",
         CREATES,
         0,
         Some(NOTHING_IN_FORCE),
-        NO_TEXT,
+        NO_OUTPUT,
     ),
     (
         "npacd audit --windows good.toml --spid BBBB --feed closed.http",
         NOTHING_IN_FORCE,
         0,
         Some("subject,finding\n"),
-        NO_TEXT,
+        NO_OUTPUT,
     ),
     (
         "npacd audit --windows good.toml --spid CCCC --feed carriers.http",
         COPY,
         0,
         Some("subject,finding\n2025331234,extra\n2025339999,extra\n"),
-        NO_TEXT,
+        NO_OUTPUT,
     ),
 ];
 
 // Lines over a file, each after the ones before it: a port is created, sent when it is due, and
 // acknowledged.
-static STORED: [Row<'static>; 8] = [
+static STORED: [LineCase<'static>; 8] = [
     (
         "npacd bulk --windows good.toml --db files.db --feed carriers.http",
         CREATES,
         0,
         Some(CREATED),
-        NO_TEXT,
+        NO_OUTPUT,
     ),
     (
         "npacd export --windows good.toml --db files.db",
         "",
         0,
         Some(NOTHING_IN_FORCE),
-        NO_TEXT,
+        NO_OUTPUT,
     ),
     (
         "npacd bulk --windows good.toml --db files.db",
         CREATES,
         0,
         Some(BUSY),
-        NO_TEXT,
+        NO_OUTPUT,
     ),
     (
         "npacd bulk --windows good.toml --db files.db",
         ACTIVATES,
         0,
         Some("row,subject,result,id\n1,2025331234,before_due,\n"),
-        NO_TEXT,
+        NO_OUTPUT,
     ),
     (
         "npacd bulk --windows good.toml --db files.db --feed clock.http",
         ACTIVATES,
         0,
         Some("row,subject,result,id\n1,2025331234,ok,1\n"),
-        NO_TEXT,
+        NO_OUTPUT,
     ),
     (
         "npacd audit --windows good.toml --db files.db --spid CCCC",
         COPY,
         0,
         Some("subject,finding\n2025331234,waiting\n2025339999,extra\n"),
-        NO_TEXT,
+        NO_OUTPUT,
     ),
     (
         "npacd export --windows good.toml --db files.db --feed acknowledged.http",
         "",
         0,
         Some("subject,lrn,cic\n2025331234,2025440000,\n"),
-        NO_TEXT,
+        NO_OUTPUT,
     ),
     (
         "npacd audit --windows good.toml --db files.db --spid CCCC",
         COPY,
         0,
         Some("subject,finding\n2025331234,different\n2025339999,extra\n"),
-        NO_TEXT,
+        NO_OUTPUT,
     ),
 ];
 
 // Faults; the first of a line is reported, and each line has those of the later lines too. They
 // come in this order: of the windows file, of the file of `--db`, of that of `--feed`, the
 // carrier's, and those of the file that is read.
-static FAULTS: [Row<'static>; 20] = [
+static FAULTS: [LineCase<'static>; 20] = [
     (
         "npacd bulk --windows narrow.toml --db good.toml --feed none.http",
         "",
         1,
-        NO_TEXT,
+        NO_OUTPUT,
         Some("npacd: missing_key\n"),
     ),
     (
         "npacd export --windows none.toml --db good.toml --feed cut.http",
         "",
         3,
-        NO_TEXT,
+        NO_OUTPUT,
         Some("npacd: read\n"),
     ),
     (
         "npacd audit --windows narrow.toml --db good.toml --feed none.http --spid X",
         "",
         1,
-        NO_TEXT,
+        NO_OUTPUT,
         Some("npacd: missing_key\n"),
     ),
     (
         "npacd bulk --windows good.toml --db good.toml --feed none.http",
         "",
         3,
-        NO_TEXT,
+        NO_OUTPUT,
         Some("npacd: storage\n"),
     ),
     (
         "npacd export --windows wide.toml --db files.db --feed cut.http",
         "",
         1,
-        NO_TEXT,
+        NO_OUTPUT,
         Some("npacd: windows_differ\n"),
     ),
     (
         "npacd audit --windows wide.toml --db files.db --feed none.http --spid X",
         "",
         1,
-        NO_TEXT,
+        NO_OUTPUT,
         Some("npacd: windows_differ\n"),
     ),
     (
         "npacd bulk --windows good.toml --feed none.http",
         "",
         3,
-        NO_TEXT,
+        NO_OUTPUT,
         Some("npacd: read\n"),
     ),
     (
         "npacd bulk --windows good.toml --feed cut.http",
         "",
         1,
-        NO_TEXT,
+        NO_OUTPUT,
         Some("npacd: cut_body\n"),
     ),
     (
         "npacd export --windows good.toml --feed cut.http",
         "",
         1,
-        NO_TEXT,
+        NO_OUTPUT,
         Some("npacd: cut_body\n"),
     ),
     (
         "npacd audit --windows good.toml --feed none.http --spid X",
         "",
         3,
-        NO_TEXT,
+        NO_OUTPUT,
         Some("npacd: read\n"),
     ),
     (
         "npacd audit --windows good.toml --feed cut.http --spid X",
         "",
         1,
-        NO_TEXT,
+        NO_OUTPUT,
         Some("npacd: cut_body\n"),
     ),
     (
         "npacd audit --windows good.toml --feed carriers.http --spid X",
         "",
         1,
-        NO_TEXT,
+        NO_OUTPUT,
         Some("npacd: unknown_carrier\n"),
     ),
     (
         "npacd audit --windows good.toml --feed carriers.http --spid DDDD",
         "",
         1,
-        NO_TEXT,
+        NO_OUTPUT,
         Some("npacd: unknown_carrier\n"),
     ),
     (
         "npacd audit --windows good.toml --feed carriers.http --spid NPAC",
         "",
         1,
-        NO_TEXT,
+        NO_OUTPUT,
         Some("npacd: unknown_carrier\n"),
     ),
     (
         "npacd bulk --windows good.toml",
         "",
         1,
-        NO_TEXT,
+        NO_OUTPUT,
         Some("npacd: bad_header\n"),
     ),
     (
         "npacd bulk --windows good.toml --feed carriers.http",
         COPY,
         1,
-        NO_TEXT,
+        NO_OUTPUT,
         Some("npacd: bad_header\n"),
     ),
     (
         "npacd audit --windows good.toml --feed carriers.http --spid AAAA",
         "",
         1,
-        NO_TEXT,
+        NO_OUTPUT,
         Some("npacd: bad_header\n"),
     ),
     (
         "npacd audit --windows good.toml --feed carriers.http --spid AAAA",
         "subject,lrn\n2025331234,2025440000\n",
         1,
-        NO_TEXT,
+        NO_OUTPUT,
         Some("npacd: bad_header\n"),
     ),
     (
         "npacd audit --windows good.toml --feed carriers.http --spid AAAA",
         "subject,lrn,cic\n2025331234,2025440000\n",
         1,
-        NO_TEXT,
+        NO_OUTPUT,
         Some("npacd: bad_file\n"),
     ),
     (
         "npacd audit --windows good.toml --feed carriers.http --spid AAAA",
         "subject,lrn,cic\n2025331234,2025440000,\n2025331234,2025440000,\n",
         1,
-        NO_TEXT,
+        NO_OUTPUT,
         Some("npacd: bad_file\n"),
     ),
 ];
 
 // The refused lines left the file as it was.
-static KEPT: [Row<'static>; 1] = [(
+static KEPT: [LineCase<'static>; 1] = [(
     "npacd export --windows good.toml --db files.db",
     "",
     0,
     Some("subject,lrn,cic\n2025331234,2025440000,\n"),
-    NO_TEXT,
+    NO_OUTPUT,
 )];
 
 // The administrator sets other windows: the file then opens with these, and not with the first.
-static RETUNED: [Row<'static>; 3] = [
+static WINDOWS_CHANGED: [LineCase<'static>; 3] = [
     (
         "npacd export --windows good.toml --db files.db --feed wide.http",
         "",
         0,
         Some("subject,lrn,cic\n2025331234,2025440000,\n"),
-        NO_TEXT,
+        NO_OUTPUT,
     ),
     (
         "npacd export --windows good.toml --db files.db",
         "",
         1,
-        NO_TEXT,
+        NO_OUTPUT,
         Some("npacd: windows_differ\n"),
     ),
     (
@@ -370,7 +370,7 @@ static RETUNED: [Row<'static>; 3] = [
         "",
         0,
         Some("subject,lrn,cic\n2025331234,2025440000,\n"),
-        NO_TEXT,
+        NO_OUTPUT,
     ),
 ];
 
@@ -390,28 +390,28 @@ fn make_files<T: Files + AllocGlobal + Env>(rt: &T) -> io::Result<()> {
 }
 
 #[test]
-fn files_are_carried_out(rt: HostRuntime) {
+fn file_command_lines_are_executed(rt: HostRuntime) {
     assert!(rt; make_files(&rt).is_ok());
-    assert_eq!(rt; first_wrong(&rt, &WORDS), None);
-    assert_eq!(rt; first_wrong(&rt, &RUN), None);
-    assert_eq!(rt; first_wrong(&rt, &STORED), None);
-    assert_eq!(rt; first_wrong(&rt, &FAULTS), None);
-    assert_eq!(rt; first_wrong(&rt, &KEPT), None);
-    assert_eq!(rt; first_wrong(&rt, &RETUNED), None);
-    assert_eq!(rt; first_unbroken(&rt), None);
+    assert_eq!(rt; first_wrong_line(&rt, &WORDS), None);
+    assert_eq!(rt; first_wrong_line(&rt, &MEMORY_LINES), None);
+    assert_eq!(rt; first_wrong_line(&rt, &STORED), None);
+    assert_eq!(rt; first_wrong_line(&rt, &FAULTS), None);
+    assert_eq!(rt; first_wrong_line(&rt, &KEPT), None);
+    assert_eq!(rt; first_wrong_line(&rt, &WINDOWS_CHANGED), None);
+    assert_eq!(rt; first_unreported(&rt), None);
 }
 
 // A reader and writer whose calls all fail.
 #[derive(Drop)]
-struct Broken {}
+struct FailingStream {}
 
-impl Read for Broken {
+impl Read for FailingStream {
     fn read(&mut self, _buf: &mut [u8]) -> io::Result<usize> {
         Err(ErrorKind::ConnectionReset.into())
     }
 }
 
-impl Write for Broken {
+impl Write for FailingStream {
     fn write(&mut self, _buf: &[u8]) -> io::Result<usize> {
         Err(ErrorKind::BrokenPipe.into())
     }
@@ -438,22 +438,33 @@ static UNWRITTEN: [(&str, &str); 3] = [
 ];
 
 // Returns whether the line ends with status 3 and this report if nothing can be written.
-fn tells<R: Read>(rt: &HostRuntime, line: &str, reader: &mut R, told: &str) -> Option<bool> {
+fn is_fault_reported<R: Read>(
+    rt: &HostRuntime,
+    line: &str,
+    reader: &mut R,
+    expected_report: &str,
+) -> Option<bool> {
     let words = words_in(rt.alloc(), line).ok()?;
     let mut errors = Vec::new(rt.alloc());
-    let ended = run(rt, words.as_slice(), reader, &mut Broken {}, &mut errors);
-    Some(ended == 3 && errors.as_slice() == told.as_bytes())
+    let exit_status = run(
+        rt,
+        words.as_slice(),
+        reader,
+        &mut FailingStream {},
+        &mut errors,
+    );
+    Some(exit_status == 3 && errors.as_slice() == expected_report.as_bytes())
 }
 
 // Returns the first line with another fault.
-fn first_unbroken(rt: &HostRuntime) -> Option<&'static str> {
+fn first_unreported(rt: &HostRuntime) -> Option<&'static str> {
     for line in &UNREAD {
-        if tells(rt, line, &mut Broken {}, "npacd: read\n") != Some(true) {
+        if is_fault_reported(rt, line, &mut FailingStream {}, "npacd: read\n") != Some(true) {
             return Some(line);
         }
     }
     for row in &UNWRITTEN {
-        if tells(rt, row.0, &mut row.1.as_bytes(), "npacd: write\n") != Some(true) {
+        if is_fault_reported(rt, row.0, &mut row.1.as_bytes(), "npacd: write\n") != Some(true) {
             return Some(row.0);
         }
     }

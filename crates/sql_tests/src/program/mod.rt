@@ -2,4 +2,4 @@
 mod command_lines;
 mod connections;
 mod file_lines;
-mod worked_rows;
+mod worked_exchanges;

@@ -2,8 +2,8 @@
 //!
 //! A call that needs files to hold a database takes forty seconds to prove over the files of the
 //! tests. Over any files it takes twenty. So only `with_database` makes such a call.
+use crate::messages::{Request, Requests, WINDOWS, open_and_close, send_all, send_one, windows_of};
 use crate::rows::rows_of;
-use crate::said::{Said, Story, WINDOWS, ask, begin, tell_all, windows_of};
 use register::OpenFault;
 use sql_store::{FileFault, Refused, SqlStore};
 use sqlite::{Alter, Connection, FileStore, Files, Options};
@@ -12,7 +12,7 @@ use std::alloc::Global;
 use windows::Windows;
 
 /// Options that keep the commits of a request from copying the log into the database file.
-pub const PLAIN: Options = Options {
+pub const WITHOUT_CHECKPOINTS: Options = Options {
     cache_pages: 2000,
     spill_pages: 2000,
     checkpoint_frames: 1000,
@@ -20,7 +20,7 @@ pub const PLAIN: Options = Options {
 };
 
 /// Options that make each commit write the log first, and then copy it into the database file.
-pub const NARROW: Options = Options {
+pub const WITH_CHECKPOINTS: Options = Options {
     cache_pages: 2,
     spill_pages: 2,
     checkpoint_frames: 1,
@@ -30,14 +30,14 @@ pub const NARROW: Options = Options {
 /// An operation on a database.
 pub trait DbOperation: Copy {
     /// The result of the operation.
-    type Made: Drop;
+    type Output: Drop;
 
     /// Runs the operation, and returns the database without a further call of what it is stored in.
-    fn carry_out<S: Alter + Drop>(
+    fn execute<S: Alter + Drop>(
         self,
         alloc: Global,
         conn: Connection<S>,
-    ) -> (Option<Self::Made>, S);
+    ) -> (Option<Self::Output>, S);
 }
 
 // Opens a connection over files. Returns the files if they are refused or stop.
@@ -62,12 +62,12 @@ pub fn with_database<F: Disk + Drop, D: DbOperation>(
     alloc: Global,
     files: Files<F>,
     options: Options,
-    deed: D,
-) -> (Option<D::Made>, Files<F>) {
+    operation: D,
+) -> (Option<D::Output>, Files<F>) {
     match connect(alloc, files, options) {
         Ok(conn) => {
-            let (made, store) = deed.carry_out(alloc, conn);
-            (made, store.close())
+            let (output, store) = operation.execute(alloc, conn);
+            (output, store.close())
         }
         Err(files) => (None, files),
     }
@@ -75,12 +75,12 @@ pub fn with_database<F: Disk + Drop, D: DbOperation>(
 
 /// The operation that reads every row, and the schema.
 #[derive(Clone, Copy)]
-pub struct Rows;
+pub struct RowDump;
 
-impl DbOperation for Rows {
-    type Made = Vec<u8>;
+impl DbOperation for RowDump {
+    type Output = Vec<u8>;
 
-    fn carry_out<S: Alter + Drop>(
+    fn execute<S: Alter + Drop>(
         self,
         alloc: Global,
         mut conn: Connection<S>,
@@ -92,54 +92,50 @@ impl DbOperation for Rows {
 
 /// The operation that executes statements, as by hand.
 #[derive(Clone, Copy)]
-pub struct Run<'a>(pub &'a str);
+pub struct StatementBatch<'a>(pub &'a str);
 
-impl DbOperation for Run<'_> {
-    type Made = ();
+impl DbOperation for StatementBatch<'_> {
+    type Output = ();
 
-    fn carry_out<S: Alter + Drop>(
-        self,
-        _alloc: Global,
-        mut conn: Connection<S>,
-    ) -> (Option<()>, S) {
-        let ran = conn.execute_batch(self.0).ok();
-        (ran, conn.into_store())
+    fn execute<S: Alter + Drop>(self, _alloc: Global, mut conn: Connection<S>) -> (Option<()>, S) {
+        let done = conn.execute_batch(self.0).ok();
+        (done, conn.into_store())
     }
 }
 
-const TEXTS_LISTED: &str = "SELECT sql FROM sqlite_schema WHERE sql IS NOT NULL";
+const SCHEMA_QUERY: &str = "SELECT sql FROM sqlite_schema WHERE sql IS NOT NULL";
 
-fn texts_of<S: Alter>(alloc: Global, conn: &mut Connection<S>) -> Option<String> {
-    let rows = conn.query_all(TEXTS_LISTED, &[]).ok()?;
-    let mut texts = String::new(alloc);
+fn schema_of<S: Alter>(alloc: Global, conn: &mut Connection<S>) -> Option<String> {
+    let rows = conn.query_all(SCHEMA_QUERY, &[]).ok()?;
+    let mut statements = String::new(alloc);
     for row in &rows {
-        let text: String = row.get(0).ok()?;
-        texts.push_str(text.as_str()).ok()?;
-        texts.push_str(";\n").ok()?;
+        let statement: String = row.get(0).ok()?;
+        statements.push_str(statement.as_str()).ok()?;
+        statements.push_str(";\n").ok()?;
     }
-    Some(texts)
+    Some(statements)
 }
 
 /// The operation that reads the statements that make the tables and the indexes.
 #[derive(Clone, Copy)]
-pub struct Texts;
+pub struct SchemaDump;
 
-impl DbOperation for Texts {
-    type Made = String;
+impl DbOperation for SchemaDump {
+    type Output = String;
 
-    fn carry_out<S: Alter + Drop>(
+    fn execute<S: Alter + Drop>(
         self,
         alloc: Global,
         mut conn: Connection<S>,
     ) -> (Option<String>, S) {
-        let texts = texts_of(alloc, &mut conn);
-        (texts, conn.into_store())
+        let statements = schema_of(alloc, &mut conn);
+        (statements, conn.into_store())
     }
 }
 
-/// How a connection is offered as a store.
+/// How a connection is opened as a store.
 #[derive(Clone, Copy)]
-pub enum Offer {
+pub enum StoreOpening {
     /// With `SqlStore::adopt`, if the tables of a store exist.
     Adopt,
     Open,
@@ -152,7 +148,7 @@ fn is_store<S: Alter>(conn: &mut Connection<S>) -> bool {
     conn.query_all("SELECT present FROM clock2", &[]).is_ok()
 }
 
-fn opened<S: Alter + Drop>(
+fn open_store<S: Alter + Drop>(
     alloc: Global,
     conn: Connection<S>,
     windows: &str,
@@ -163,29 +159,29 @@ fn opened<S: Alter + Drop>(
     }
 }
 
-fn adopted<S: Alter + Drop>(
+fn adopt_store<S: Alter + Drop>(
     alloc: Global,
     mut conn: Connection<S>,
 ) -> Result<SqlStore<S>, (FileFault, Refused<S>)> {
     if is_store(&mut conn) {
-        opened(alloc, conn, WINDOWS)
+        open_store(alloc, conn, WINDOWS)
     } else {
         Err((FileFault::Storage, Refused::Connection(conn)))
     }
 }
 
 // Makes a store of a connection. If it is refused, returns why, and its database.
-fn offered<S: Alter + Drop>(
+fn open_with<S: Alter + Drop>(
     alloc: Global,
     conn: Connection<S>,
-    offer: Offer,
+    opening: StoreOpening,
 ) -> Result<SqlStore<S>, (FileFault, S)> {
-    let answer = match offer {
-        Offer::Adopt => adopted(alloc, conn),
-        Offer::Open => opened(alloc, conn, WINDOWS),
-        Offer::OpenWith(windows) => opened(alloc, conn, windows),
+    let opened = match opening {
+        StoreOpening::Adopt => adopt_store(alloc, conn),
+        StoreOpening::Open => open_store(alloc, conn, WINDOWS),
+        StoreOpening::OpenWith(windows) => open_store(alloc, conn, windows),
     };
-    match answer {
+    match opened {
         Ok(store) => Ok(store),
         Err((fault, refused)) => Err((fault, refused.into_store())),
     }
@@ -196,38 +192,38 @@ fn database_of<S: Alter + Drop>(store: SqlStore<S>) -> S {
     store.release().into_store()
 }
 
-/// The result is why the connection is refused, if it is.
-impl DbOperation for Offer {
-    type Made = Option<FileFault>;
+/// The output is why the connection is refused, if it is.
+impl DbOperation for StoreOpening {
+    type Output = Option<FileFault>;
 
-    fn carry_out<S: Alter + Drop>(
+    fn execute<S: Alter + Drop>(
         self,
         alloc: Global,
         conn: Connection<S>,
     ) -> (Option<Option<FileFault>>, S) {
-        match offered(alloc, conn, self) {
+        match open_with(alloc, conn, self) {
             Ok(store) => (Some(None), database_of(store)),
             Err((fault, store)) => (Some(Some(fault)), store),
         }
     }
 }
 
-/// The operation that adopts a store, and opens it as a register with these windows. The result is
+/// The operation that adopts a store, and opens it as a register with these windows. The output is
 /// why it is not opened, if it is not.
 #[derive(Clone, Copy)]
-pub struct Begin<'a>(pub &'a Windows);
+pub struct RegisterOpening<'a>(pub &'a Windows);
 
-impl DbOperation for Begin<'_> {
-    type Made = Option<OpenFault>;
+impl DbOperation for RegisterOpening<'_> {
+    type Output = Option<OpenFault>;
 
-    fn carry_out<S: Alter + Drop>(
+    fn execute<S: Alter + Drop>(
         self,
         alloc: Global,
         conn: Connection<S>,
     ) -> (Option<Option<OpenFault>>, S) {
-        match offered(alloc, conn, Offer::Adopt) {
+        match open_with(alloc, conn, StoreOpening::Adopt) {
             Ok(store) => {
-                let (fault, store) = begin(alloc, store, self.0);
+                let (fault, store) = open_and_close(alloc, store, self.0);
                 (Some(fault), database_of(store))
             }
             Err((_fault, store)) => (None, store),
@@ -235,40 +231,36 @@ impl DbOperation for Begin<'_> {
     }
 }
 
-/// The operation that sends one message to a register. The result is its answer.
+/// The operation that sends one message to a register. The output is its response.
 #[derive(Clone, Copy)]
-pub struct Ask<'a>(pub &'a Said<'a>);
+pub struct SingleRequest<'a>(pub &'a Request<'a>);
 
-impl DbOperation for Ask<'_> {
-    type Made = Vec<u8>;
+impl DbOperation for SingleRequest<'_> {
+    type Output = Vec<u8>;
 
-    fn carry_out<S: Alter + Drop>(
-        self,
-        alloc: Global,
-        conn: Connection<S>,
-    ) -> (Option<Vec<u8>>, S) {
-        match offered(alloc, conn, Offer::Open) {
+    fn execute<S: Alter + Drop>(self, alloc: Global, conn: Connection<S>) -> (Option<Vec<u8>>, S) {
+        match open_with(alloc, conn, StoreOpening::Open) {
             Ok(store) => {
-                let (heard, store) = ask(alloc, store, self.0);
-                (heard, database_of(store))
+                let (response, store) = send_one(alloc, store, self.0);
+                (response, database_of(store))
             }
             Err((_fault, store)) => (None, store),
         }
     }
 }
 
-/// The operation that sends stories to a register, which has to accept each message.
+/// The operation that sends batches of requests to a register, which has to accept each one.
 #[derive(Clone, Copy)]
-pub struct Tell<'a>(pub &'a [Story<'a>]);
+pub struct RequestBatches<'a>(pub &'a [Requests<'a>]);
 
-impl DbOperation for Tell<'_> {
-    type Made = ();
+impl DbOperation for RequestBatches<'_> {
+    type Output = ();
 
-    fn carry_out<S: Alter + Drop>(self, alloc: Global, conn: Connection<S>) -> (Option<()>, S) {
-        match offered(alloc, conn, Offer::Open) {
+    fn execute<S: Alter + Drop>(self, alloc: Global, conn: Connection<S>) -> (Option<()>, S) {
+        match open_with(alloc, conn, StoreOpening::Open) {
             Ok(store) => {
-                let (told, store) = tell_all(alloc, store, self.0);
-                (told, database_of(store))
+                let (sent, store) = send_all(alloc, store, self.0);
+                (sent, database_of(store))
             }
             Err((_fault, store)) => (None, store),
         }

@@ -1,13 +1,13 @@
 //! Tests files in the first format, each written in the middle of a worked story. The program
 //! migrates the file, and then answers as the rest of the story says.
-use crate::deeds::{Ask, Offer, PLAIN};
-use crate::failed_block::{FAILING, GOING_ON, JUMPED_OVER, Row, Rows};
-use crate::files::{Held, done_in};
-use crate::moved::changed;
-use crate::said::Said;
+use crate::failed_block::{CONTINUING, Exchange, Exchanges, FAILING, JUMPED_OVER};
+use crate::files::{FileBytes, run_in};
+use crate::messages::Request;
+use crate::migrations::execute_all;
+use crate::operations::{SingleRequest, StoreOpening, WITHOUT_CHECKPOINTS};
 use std::alloc::{AllocError, Global};
 
-// Only the statements are here: `tests/moved_files.py` reads them from this file, and executes them
+// Only the statements are here: `tests/migrated_files.py` reads them from this file, and executes them
 // in stock SQLite.
 
 // The tables and indexes of the first format, in its order.
@@ -109,21 +109,21 @@ static PARTLY_FAILED: [&str; 13] = [
 ];
 
 // Makes a file in the first format with these rows, and returns it once it is migrated.
-fn moved_with(alloc: Global, rows: &[&str]) -> Option<Held> {
-    let made = changed(alloc, Held::nothing(alloc), &[SCHEMA])?;
-    let opened = changed(alloc, made, &REGISTRY)?;
-    let earlier = changed(alloc, opened, rows)?;
-    let (refused, left) = done_in(alloc, &earlier, PLAIN, Offer::Adopt)?;
-    let (fault, moved) = done_in(alloc, &left, PLAIN, Offer::Open)?;
-    if refused.is_some() && fault.is_none() {
-        Some(moved)
+fn migrate_with(alloc: Global, rows: &[&str]) -> Option<FileBytes> {
+    let created = execute_all(alloc, FileBytes::empty(alloc), &[SCHEMA])?;
+    let registry = execute_all(alloc, created, &REGISTRY)?;
+    let older = execute_all(alloc, registry, rows)?;
+    let (refusal, left) = run_in(alloc, &older, WITHOUT_CHECKPOINTS, StoreOpening::Adopt)?;
+    let (fault, migrated) = run_in(alloc, &left, WITHOUT_CHECKPOINTS, StoreOpening::Open)?;
+    if refusal.is_some() && fault.is_none() {
+        Some(migrated)
     } else {
         None
     }
 }
 
-// Returns the bytes of an answer.
-fn answer(alloc: Global, status: &str, body: &str) -> Result<String, AllocError> {
+// Returns the bytes of a response.
+fn encode_response(alloc: Global, status: &str, body: &str) -> Result<String, AllocError> {
     let kind = "application/json";
     let length = body.len();
     format!(in alloc;
@@ -131,11 +131,16 @@ fn answer(alloc: Global, status: &str, body: &str) -> Result<String, AllocError>
     )
 }
 
-// Sends one message. Returns the files afterwards, if the row's answer comes.
-fn after_row(alloc: Global, held: &Held, row: &Row<'_>) -> Option<Held> {
-    let (said, status, body) = row;
-    let (heard, after) = done_in(alloc, held, PLAIN, Ask(said))?;
-    if heard.as_slice() == answer(alloc, status, body).ok()?.as_bytes() {
+// Sends one message. Returns the files afterwards, if the response is the row's.
+fn after_row(alloc: Global, file_bytes: &FileBytes, row: &Exchange<'_>) -> Option<FileBytes> {
+    let (request, status, body) = row;
+    let (response, after) = run_in(
+        alloc,
+        file_bytes,
+        WITHOUT_CHECKPOINTS,
+        SingleRequest(request),
+    )?;
+    if response.as_slice() == encode_response(alloc, status, body).ok()?.as_bytes() {
         Some(after)
     } else {
         None
@@ -143,9 +148,13 @@ fn after_row(alloc: Global, held: &Held, row: &Row<'_>) -> Option<Held> {
 }
 
 // Sends the messages of the rows in order. Returns the files afterwards, or the first message with
-// another answer.
-fn after_rows(alloc: Global, held: Held, rows: Rows<'static>) -> Result<Held, Said<'static>> {
-    let mut files = held;
+// another response.
+fn after_rows(
+    alloc: Global,
+    file_bytes: FileBytes,
+    rows: Exchanges<'static>,
+) -> Result<FileBytes, Request<'static>> {
+    let mut files = file_bytes;
     for row in rows {
         match after_row(alloc, &files, row) {
             Some(after) => files = after,
@@ -155,40 +164,47 @@ fn after_rows(alloc: Global, held: Held, rows: Rows<'static>) -> Result<Held, Sa
     Ok(files)
 }
 
-const NOT_MOVED: Said<'static> = ("", "the file is not moved", "");
+const NOT_MIGRATED: Request<'static> = ("", "the file is not moved", "");
 
 // Migrates a file with these rows. Returns the first message that is then answered differently.
-fn first_other(alloc: Global, rows: &[&str], parts: &[Rows<'static>]) -> Option<Said<'static>> {
-    let Some(moved) = moved_with(alloc, rows) else {
-        return Some(NOT_MOVED);
+fn first_wrong_request(
+    alloc: Global,
+    rows: &[&str],
+    parts: &[Exchanges<'static>],
+) -> Option<Request<'static>> {
+    let Some(migrated) = migrate_with(alloc, rows) else {
+        return Some(NOT_MIGRATED);
     };
-    let mut files = moved;
+    let mut files = migrated;
     for part in parts {
         match after_rows(alloc, files, *part) {
             Ok(after) => files = after,
-            Err(said) => return Some(said),
+            Err(request) => return Some(request),
         }
     }
     None
 }
 
 #[test]
-fn a_block_that_is_sent_goes_on(rt: HostRuntime) {
+fn a_block_that_is_sent_continues(rt: HostRuntime) {
     assert_eq!(rt;
-        first_other(rt.alloc(), &SENDING, &[FAILING, GOING_ON]),
+        first_wrong_request(rt.alloc(), &SENDING, &[FAILING, CONTINUING]),
         None
     );
 }
 
 #[test]
-fn a_block_that_failed_goes_on(rt: HostRuntime) {
-    assert_eq!(rt; first_other(rt.alloc(), &FAILED, &[GOING_ON]), None);
+fn a_block_that_failed_continues(rt: HostRuntime) {
+    assert_eq!(rt;
+        first_wrong_request(rt.alloc(), &FAILED, &[CONTINUING]),
+        None
+    );
 }
 
 #[test]
-fn numbers_that_partly_failed_go_on(rt: HostRuntime) {
+fn numbers_that_partly_failed_continue(rt: HostRuntime) {
     assert_eq!(rt;
-        first_other(rt.alloc(), &PARTLY_FAILED, &[JUMPED_OVER]),
+        first_wrong_request(rt.alloc(), &PARTLY_FAILED, &[JUMPED_OVER]),
         None
     );
 }

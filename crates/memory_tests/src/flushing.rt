@@ -1,7 +1,7 @@
 //! Tests a waiting client: responses are flushed before more input is read, and those to messages
 //! sent at once are flushed once.
-use crate::failing::{Story, story_of_first_port};
-use crate::port::{is_so, new_register, whole};
+use crate::fixture::{assert_served, new_register, served_to_end};
+use crate::io_faults::{Story, story_of_first_port};
 use api::{NoTicks, Options, serve};
 use register::Register;
 use std::cell::Cell;
@@ -16,8 +16,8 @@ use store::MemoryStore;
 struct Client<'a> {
     first: &'a [u8],
     second: &'a [u8],
-    owed_for_first: usize,
-    owed_for_both: usize,
+    due_after_first: usize,
+    due_after_both: usize,
     flushed: &'a Cell<usize>,
 }
 
@@ -26,12 +26,12 @@ impl Read for Client<'_> {
         if !self.first.is_empty() {
             return self.first.read(buf);
         }
-        let owed = if self.second.is_empty() {
-            self.owed_for_both
+        let due = if self.second.is_empty() {
+            self.due_after_both
         } else {
-            self.owed_for_first
+            self.due_after_first
         };
-        if self.flushed.get() < owed {
+        if self.flushed.get() < due {
             return Err(ErrorKind::TimedOut.into());
         }
         self.second.read(buf)
@@ -40,13 +40,13 @@ impl Read for Client<'_> {
 
 // A writer that keeps its bytes, and notes how many were flushed, and how often.
 #[derive(Drop)]
-struct Noting<'a> {
+struct FlushRecorder<'a> {
     bytes: Vec<u8>,
     flushed: &'a Cell<usize>,
     flushes: &'a Cell<u64>,
 }
 
-impl Write for Noting<'_> {
+impl Write for FlushRecorder<'_> {
     fn write(&mut self, buf: &[u8]) -> io::Result<usize> {
         self.bytes.write(buf)
     }
@@ -59,69 +59,73 @@ impl Write for Noting<'_> {
 }
 
 // Asserts the responses to the client, and returns how often they were flushed.
-fn flushes_to<T: Abort + AllocGlobal>(
+fn count_flushes_to<T: Abort + AllocGlobal>(
     rt: &T,
     register: &mut Register<MemoryStore>,
     client: &mut Client<'_>,
-    answered: &str,
+    responses: &str,
 ) -> u64 {
     let flushes = Cell::new(0);
-    let mut writer = Noting {
+    let mut writer = FlushRecorder {
         bytes: Vec::new(rt.alloc()),
         flushed: client.flushed,
         flushes: &flushes,
     };
     let options = Options { clock_route: true };
     let alloc = rt.alloc();
-    let ended = serve(alloc, register, &mut NoTicks, &options, client, &mut writer);
-    is_so(rt, &writer.bytes, answered, ended, whole(11));
+    let served = serve(alloc, register, &mut NoTicks, &options, client, &mut writer);
+    assert_served(rt, &writer.bytes, responses, served, served_to_end(11));
     flushes.get()
 }
 
 // Returns how often the responses are flushed to a client that sends the first port cut at `place`.
-fn flushes_in<T: Abort + AllocGlobal>(
+fn count_flushes_in<T: Abort + AllocGlobal>(
     rt: &T,
     register: &mut Register<MemoryStore>,
     story: &Story,
     place: usize,
 ) -> Option<u64> {
-    let (first, second) = story.texts.asked.as_bytes().split_at_checked(place)?;
+    let (first, second) = story
+        .transcript
+        .requests
+        .as_bytes()
+        .split_at_checked(place)?;
     let flushed = Cell::new(0);
     let mut client = Client {
         first,
         second,
-        owed_for_first: story.answered_at(place),
-        owed_for_both: story.texts.answered.len(),
+        due_after_first: story.response_length_at(place),
+        due_after_both: story.transcript.responses.len(),
         flushed: &flushed,
     };
-    let answered = story.texts.answered.as_str();
-    Some(flushes_to(rt, register, &mut client, answered))
+    let responses = story.transcript.responses.as_str();
+    Some(count_flushes_to(rt, register, &mut client, responses))
 }
 
-fn flushes_at<T: Abort + AllocGlobal>(rt: &T, story: &Story, place: usize) -> Option<u64> {
+fn count_flushes_at<T: Abort + AllocGlobal>(rt: &T, story: &Story, place: usize) -> Option<u64> {
     let mut register = new_register(rt.alloc())?;
-    flushes_in(rt, &mut register, story, place)
+    count_flushes_in(rt, &mut register, story, place)
 }
 
-fn is_answered_in_time<T: Abort + AllocGlobal>(rt: &T) -> Option<()> {
+fn assert_flushed_in_time<T: Abort + AllocGlobal>(rt: &T) -> Option<()> {
     let story = story_of_first_port(rt.alloc())?;
-    for place in 0..story.texts.asked.len() {
-        flushes_at(rt, &story, place)?;
+    for place in 0..story.transcript.requests.len() {
+        count_flushes_at(rt, &story, place)?;
     }
     Some(())
 }
 
 #[test]
-fn a_client_that_waits_has_its_answers(rt: HostRuntime) {
-    assert!(rt; is_answered_in_time(&rt).is_some());
+fn a_waiting_client_gets_its_responses(rt: HostRuntime) {
+    assert!(rt; assert_flushed_in_time(&rt).is_some());
 }
 
-fn flushes_for_the_whole<T: Abort + AllocGlobal>(rt: &T) -> Option<u64> {
+fn count_flushes_of_whole<T: Abort + AllocGlobal>(rt: &T) -> Option<u64> {
     let story = story_of_first_port(rt.alloc())?;
-    flushes_at(rt, &story, 0)
+    count_flushes_at(rt, &story, 0)
 }
 
 #[test]
-fn messages_at_hand_are_flushed_once(rt: HostRuntime) {
-    assert_eq!(rt; flushes_for_the_whole(&rt), Some(1));
+fn messages_sent_at_once_are_flushed_once(rt: HostRuntime) {
+    assert_eq!(rt; count_flushes_of_whole(&rt), Some(1));
 }

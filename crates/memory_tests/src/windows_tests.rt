@@ -2,12 +2,12 @@
 use std::alloc::Global;
 use windows::{WindowFault, Windows};
 
-const EIGHT: &str =
+const EIGHT_KEYS: &str =
     "initial_concurrence = 1\nfinal_concurrence = 2\nconflict_restriction = 3\nconflict_resolution = 4\nconflict_expiration = 5\ncancellation_initial = 6\ncancellation_final = 7\npending_retention = 8\n";
 
 // Reads a file of the eight keys and this end.
 fn read_with(alloc: Global, end: &str) -> Result<Windows, WindowFault> {
-    match format!(in alloc; "{EIGHT}{end}") {
+    match format!(in alloc; "{EIGHT_KEYS}{end}") {
         Ok(text) => Windows::from_toml(alloc, text.as_str()),
         Err(_) => Err(WindowFault::NoMemory),
     }
@@ -56,17 +56,17 @@ static ENDS: [(&str, &str); 14] = [
     ("broadcast = 9223372036854775808", "syntax"),
 ];
 
-fn reading(alloc: Global, end: &str) -> &'static str {
+fn outcome_of(alloc: Global, end: &str) -> &'static str {
     match read_with(alloc, end) {
         Ok(_) => "read",
         Err(fault) => fault.name(),
     }
 }
 
-// Returns the first end that is read otherwise.
-fn misread(alloc: Global) -> Option<&'static str> {
-    for (end, wanted) in &ENDS {
-        if reading(alloc, end) != *wanted {
+// Returns the first end with another outcome.
+fn first_misread(alloc: Global) -> Option<&'static str> {
+    for (end, expected) in &ENDS {
+        if outcome_of(alloc, end) != *expected {
             return Some(end);
         }
     }
@@ -74,6 +74,6 @@ fn misread(alloc: Global) -> Option<&'static str> {
 }
 
 #[test]
-fn the_least_fault_is_told(rt: HostRuntime) {
-    assert_eq!(rt; misread(rt.alloc()), None);
+fn the_least_fault_is_reported(rt: HostRuntime) {
+    assert_eq!(rt; first_misread(rt.alloc()), None);
 }

@@ -1,20 +1,20 @@
 //! The messages to a register before it is stopped, and the request during which it is stopped.
-use crate::said::{Said, Story};
+use crate::messages::{Request, Requests};
 
 /// A request during which the files stop.
 #[derive(Clone, Copy)]
-pub struct Trial<'a> {
+pub struct Scenario<'a> {
     /// The messages before the request.
-    pub stories: &'a [Story<'a>],
+    pub setup: &'a [Requests<'a>],
     /// Messages that do what the request does first, each in a commit of its own.
-    pub steps: Story<'a>,
-    pub request: Said<'a>,
+    pub steps: Requests<'a>,
+    pub request: Request<'a>,
     /// The next message once the request is executed. It changes nothing.
-    pub again: Said<'a>,
+    pub next_request: Request<'a>,
 }
 
 // Three carriers, each with a routing number, and a code that BBBB holds.
-const OPENING: Story<'static> = &[
+const OPENING: Requests<'static> = &[
     ("NPAC", "/carriers", r#"{"spid":"AAAA"}"#),
     ("NPAC", "/carriers", r#"{"spid":"BBBB"}"#),
     ("NPAC", "/carriers", r#"{"spid":"CCCC"}"#),
@@ -25,7 +25,7 @@ const OPENING: Story<'static> = &[
 ];
 
 // A port that both providers have created.
-const CREATED: Story<'static> = &[
+const CREATED: Requests<'static> = &[
     (
         "AAAA",
         "/subscriptionVersionNewSP-Create",
@@ -39,14 +39,14 @@ const CREATED: Story<'static> = &[
 ];
 
 // The port is activated, and two of three carriers acknowledge it.
-const SENT: Story<'static> = &[
+const SENT: Requests<'static> = &[
     ("AAAA", "/subscriptionVersionActivate", r#"{"id":1}"#),
     ("AAAA", "/downloads/acknowledge", r#"{"attempt":1,"id":1}"#),
     ("CCCC", "/downloads/acknowledge", r#"{"attempt":1,"id":1}"#),
 ];
 
 // A block with one number in use is donated, and each carrier acknowledges that number.
-const DONATED: Story<'static> = &[
+const DONATED: Requests<'static> = &[
     (
         "BBBB",
         "/blocks/donate",
@@ -61,7 +61,7 @@ const DONATED: Story<'static> = &[
 // the fifth's, which nobody has; at 120 the concurrence windows of the first, which has only the
 // old provider's create; at 600, which is 500 minutes after its due minute, the retention of the
 // fourth; at 1000 the conflict of the third.
-const WINDOWED: Story<'static> = &[
+const WINDOWED: Requests<'static> = &[
     (
         "BBBB",
         "/subscriptionVersionOldSP-Create",
@@ -114,10 +114,10 @@ const WINDOWED: Story<'static> = &[
     ("AAAA", "/subscriptionVersionActivate", r#"{"id":5}"#),
 ];
 
-const JUMPED: Said<'static> = ("NPAC", "/clock", r#"{"minute":2000}"#);
+const JUMPED: Request<'static> = ("NPAC", "/clock", r#"{"minute":2000}"#);
 
 // After the jump a sixth port is sent, which a newcomer has to acknowledge too.
-const SENT_AFTERWARDS: Story<'static> = &[
+const SENT_AFTERWARDS: Requests<'static> = &[
     JUMPED,
     (
         "AAAA",
@@ -133,7 +133,7 @@ const SENT_AFTERWARDS: Story<'static> = &[
 ];
 
 // A question about each version whose window has ended, the earliest first.
-const SETTLED: Story<'static> = &[
+const SETTLED: Requests<'static> = &[
     ("NPAC", "/versions/2", ""),
     ("NPAC", "/versions/5", ""),
     ("NPAC", "/versions/1", ""),
@@ -141,23 +141,27 @@ const SETTLED: Story<'static> = &[
     ("NPAC", "/versions/3", ""),
 ];
 
-const ACKNOWLEDGED: Said<'static> = ("BBBB", "/downloads/acknowledge", r#"{"attempt":1,"id":1}"#);
+const ACKNOWLEDGED: Request<'static> = (
+    "BBBB",
+    "/downloads/acknowledge",
+    r#"{"attempt":1,"id":1}"#,
+);
 
-const THREE_DONATED: Said<'static> = (
+const THREE_DONATED: Request<'static> = (
     "BBBB",
     "/blocks/donate",
     r#"{"block":"2025337","lrn":"2025330000","used":["001","002","003"]}"#,
 );
 
 // From now on the number is routed without a carrier code.
-const REROUTED: Said<'static> = (
+const REROUTED: Request<'static> = (
     "AAAA",
     "/subscriptionVersionModify",
     r#"{"id":1,"lrn":"2025440000"}"#,
 );
 
 // All carriers but BBBB acknowledge that.
-const REROUTED_SENT: Story<'static> = &[
+const REROUTED_SENT: Requests<'static> = &[
     ACKNOWLEDGED,
     REROUTED,
     ("AAAA", "/downloads/acknowledge", r#"{"attempt":2,"id":1}"#),
@@ -165,30 +169,30 @@ const REROUTED_SENT: Story<'static> = &[
 ];
 
 // The number is in force, and is to be released at 400.
-const PLANNED: Said<'static> = (
+const PLANNED: Request<'static> = (
     "AAAA",
     "/subscriptionVersionDisconnect",
     r#"{"id":1,"release":400}"#,
 );
 
-const ASKED: Said<'static> = ("NPAC", "/versions/1", "");
+const VERSION_QUESTION: Request<'static> = ("NPAC", "/versions/1", "");
 
 // At 10 it is released at once. Two of three carriers acknowledge that at 11.
-const RELEASED: Story<'static> = &[
+const RELEASED: Requests<'static> = &[
     ("NPAC", "/clock", r#"{"minute":10}"#),
-    NOW,
+    DISCONNECT_NOW,
     ("NPAC", "/clock", r#"{"minute":11}"#),
     ("AAAA", "/downloads/acknowledge", r#"{"attempt":2,"id":1}"#),
     ("CCCC", "/downloads/acknowledge", r#"{"attempt":2,"id":1}"#),
     ("NPAC", "/clock", r#"{"minute":30}"#),
 ];
 
-const NOW: Said<'static> = ("AAAA", "/subscriptionVersionDisconnect", r#"{"id":1}"#);
+const DISCONNECT_NOW: Request<'static> = ("AAAA", "/subscriptionVersionDisconnect", r#"{"id":1}"#);
 
 // At 30 both providers create it again. The download of its release is still pending for the third
 // carrier.
-const CREATED_AGAIN: Story<'static> = &[
-    ASKED,
+const CREATED_AGAIN: Requests<'static> = &[
+    VERSION_QUESTION,
     (
         "AAAA",
         "/subscriptionVersionNewSP-Create",
@@ -201,12 +205,12 @@ const CREATED_AGAIN: Story<'static> = &[
     ),
 ];
 
-const ACTIVATED_AGAIN: Said<'static> = ("AAAA", "/subscriptionVersionActivate", r#"{"id":2}"#);
+const ACTIVATED_AGAIN: Request<'static> = ("AAAA", "/subscriptionVersionActivate", r#"{"id":2}"#);
 
-const LATE: Said<'static> = ("BBBB", "/downloads/acknowledge", r#"{"attempt":2,"id":1}"#);
+const LATE: Request<'static> = ("BBBB", "/downloads/acknowledge", r#"{"attempt":2,"id":1}"#);
 
 // The windows that the register was opened with, set again.
-const NINE: Said<'static> = (
+const NINE_WINDOWS: Request<'static> = (
     "NPAC",
     "/windows",
     r#"{"broadcast":15,"cancellation_final":60,"cancellation_initial":60,"conflict_expiration":1000,"conflict_resolution":120,"conflict_restriction":30,"final_concurrence":60,"initial_concurrence":60,"pending_retention":500}"#,
@@ -214,7 +218,7 @@ const NINE: Said<'static> = (
 
 /// A number in force whose carrier code is being removed, and a block with three numbers being
 /// sent.
-pub static PORT: [Story<'static>; 4] = [
+pub static PORT: [Requests<'static>; 4] = [
     OPENING,
     CREATED,
     SENT,
@@ -222,56 +226,56 @@ pub static PORT: [Story<'static>; 4] = [
 ];
 
 /// A download is sent to each of three carriers.
-pub static ACTIVATION: Trial<'static> = Trial {
-    stories: &[OPENING, CREATED],
+pub static ACTIVATION: Scenario<'static> = Scenario {
+    setup: &[OPENING, CREATED],
     steps: &[],
     request: ("AAAA", "/subscriptionVersionActivate", r#"{"id":1}"#),
-    again: ("AAAA", "/subscriptionVersionActivate", r#"{"id":1}"#),
+    next_request: ("AAAA", "/subscriptionVersionActivate", r#"{"id":1}"#),
 };
 
 /// The last acknowledgement closes a broadcast.
-pub static ACKNOWLEDGEMENT: Trial<'static> = Trial {
-    stories: &[OPENING, CREATED, SENT],
+pub static ACKNOWLEDGEMENT: Scenario<'static> = Scenario {
+    setup: &[OPENING, CREATED, SENT],
     steps: &[],
     request: ACKNOWLEDGED,
-    again: ACKNOWLEDGED,
+    next_request: ACKNOWLEDGED,
 };
 
 /// A routing is modified, and sent to each of three carriers.
-pub static MODIFY: Trial<'static> = Trial {
-    stories: &[OPENING, CREATED, SENT, &[ACKNOWLEDGED]],
+pub static MODIFY: Scenario<'static> = Scenario {
+    setup: &[OPENING, CREATED, SENT, &[ACKNOWLEDGED]],
     steps: &[],
     request: REROUTED,
-    again: REROUTED,
+    next_request: REROUTED,
 };
 
 /// The last acknowledgement of a modify replaces the routing.
-pub static MODIFIED: Trial<'static> = Trial {
-    stories: &[OPENING, CREATED, SENT, REROUTED_SENT],
+pub static MODIFIED: Scenario<'static> = Scenario {
+    setup: &[OPENING, CREATED, SENT, REROUTED_SENT],
     steps: &[],
     request: ("BBBB", "/downloads/acknowledge", r#"{"attempt":2,"id":1}"#),
-    again: ("BBBB", "/downloads/acknowledge", r#"{"attempt":2,"id":1}"#),
+    next_request: ("BBBB", "/downloads/acknowledge", r#"{"attempt":2,"id":1}"#),
 };
 
 /// A block with three numbers in use is donated: each gets a version, which is sent to each
 /// carrier.
-pub static DONATION: Trial<'static> = Trial {
-    stories: &[OPENING],
+pub static DONATION: Scenario<'static> = Scenario {
+    setup: &[OPENING],
     steps: &[],
     request: THREE_DONATED,
-    again: THREE_DONATED,
+    next_request: THREE_DONATED,
 };
 
 /// A donated block is assigned to a carrier.
-pub static ASSIGNMENT: Trial<'static> = Trial {
-    stories: &[OPENING, DONATED],
+pub static ASSIGNMENT: Scenario<'static> = Scenario {
+    setup: &[OPENING, DONATED],
     steps: &[],
     request: (
         "NPAC",
         "/blocks/assign",
         r#"{"block":"2025337","holder":"CCCC","lrn":"2025550000"}"#,
     ),
-    again: (
+    next_request: (
         "NPAC",
         "/blocks/assign",
         r#"{"block":"2025337","holder":"CCCC","lrn":"2025550000"}"#,
@@ -279,32 +283,32 @@ pub static ASSIGNMENT: Trial<'static> = Trial {
 };
 
 /// The clock jumps over the ends of five windows.
-pub static JUMP: Trial<'static> = Trial {
-    stories: &[OPENING, WINDOWED],
+pub static JUMP: Scenario<'static> = Scenario {
+    setup: &[OPENING, WINDOWED],
     steps: &[],
     request: JUMPED,
-    again: JUMPED,
+    next_request: JUMPED,
 };
 
 /// A newcomer finds five windows that have ended.
-pub static NEWCOMER: Trial<'static> = Trial {
-    stories: &[OPENING, WINDOWED, SENT_AFTERWARDS],
+pub static NEWCOMER: Scenario<'static> = Scenario {
+    setup: &[OPENING, WINDOWED, SENT_AFTERWARDS],
     steps: SETTLED,
     request: ("NPAC", "/carriers", r#"{"spid":"DDDD"}"#),
-    again: ("NPAC", "/carriers", r#"{"spid":"DDDD"}"#),
+    next_request: ("NPAC", "/carriers", r#"{"spid":"DDDD"}"#),
 };
 
 /// The release of a number is planned.
-pub static PLANNED_RELEASE: Trial<'static> = Trial {
-    stories: &[OPENING, CREATED, SENT, &[ACKNOWLEDGED]],
+pub static PLANNED_RELEASE: Scenario<'static> = Scenario {
+    setup: &[OPENING, CREATED, SENT, &[ACKNOWLEDGED]],
     steps: &[],
     request: PLANNED,
-    again: PLANNED,
+    next_request: PLANNED,
 };
 
 /// The minute of a planned release has come: a question finds it, and a delete is sent.
-pub static PLANNED_DELETE: Trial<'static> = Trial {
-    stories: &[
+pub static PLANNED_DELETE: Scenario<'static> = Scenario {
+    setup: &[
         OPENING,
         CREATED,
         SENT,
@@ -315,13 +319,13 @@ pub static PLANNED_DELETE: Trial<'static> = Trial {
         ],
     ],
     steps: &[],
-    request: ASKED,
-    again: ASKED,
+    request: VERSION_QUESTION,
+    next_request: VERSION_QUESTION,
 };
 
 /// Nobody acknowledges the delete: its broadcast closes, and the number stays in force.
-pub static FAILED_DELETE: Trial<'static> = Trial {
-    stories: &[
+pub static FAILED_DELETE: Scenario<'static> = Scenario {
+    setup: &[
         OPENING,
         CREATED,
         SENT,
@@ -329,26 +333,26 @@ pub static FAILED_DELETE: Trial<'static> = Trial {
             ACKNOWLEDGED,
             PLANNED,
             ("NPAC", "/clock", r#"{"minute":401}"#),
-            ASKED,
+            VERSION_QUESTION,
             ("NPAC", "/clock", r#"{"minute":1000}"#),
         ],
     ],
     steps: &[],
-    request: ASKED,
-    again: ASKED,
+    request: VERSION_QUESTION,
+    next_request: VERSION_QUESTION,
 };
 
 /// A number is released at once.
-pub static DISCONNECT: Trial<'static> = Trial {
-    stories: &[OPENING, CREATED, SENT, &[ACKNOWLEDGED]],
+pub static DISCONNECT: Scenario<'static> = Scenario {
+    setup: &[OPENING, CREATED, SENT, &[ACKNOWLEDGED]],
     steps: &[],
-    request: NOW,
-    again: NOW,
+    request: DISCONNECT_NOW,
+    next_request: DISCONNECT_NOW,
 };
 
 /// A released number is ported again while its release is pending for a carrier.
-pub static PORTED_AGAIN: Trial<'static> = Trial {
-    stories: &[
+pub static PORTED_AGAIN: Scenario<'static> = Scenario {
+    setup: &[
         OPENING,
         CREATED,
         SENT,
@@ -358,12 +362,12 @@ pub static PORTED_AGAIN: Trial<'static> = Trial {
     ],
     steps: &[],
     request: ACTIVATED_AGAIN,
-    again: ACTIVATED_AGAIN,
+    next_request: ACTIVATED_AGAIN,
 };
 
 /// That carrier acknowledges the release, and the download of the next port is pending after it.
-pub static LATE_ACKNOWLEDGEMENT: Trial<'static> = Trial {
-    stories: &[
+pub static LATE_ACKNOWLEDGEMENT: Scenario<'static> = Scenario {
+    setup: &[
         OPENING,
         CREATED,
         SENT,
@@ -374,14 +378,14 @@ pub static LATE_ACKNOWLEDGEMENT: Trial<'static> = Trial {
     ],
     steps: &[],
     request: LATE,
-    again: LATE,
+    next_request: LATE,
 };
 
 /// The windows are set again, which makes another set of the same windows. Setting them once more
 /// would make a third, so the next message is a question about a version.
-pub static NEW_WINDOWS: Trial<'static> = Trial {
-    stories: &[OPENING, CREATED],
+pub static NEW_WINDOWS: Scenario<'static> = Scenario {
+    setup: &[OPENING, CREATED],
     steps: &[],
-    request: NINE,
-    again: ASKED,
+    request: NINE_WINDOWS,
+    next_request: VERSION_QUESTION,
 };

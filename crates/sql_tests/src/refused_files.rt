@@ -1,73 +1,89 @@
 //! Tests files that were changed by hand: which are refused, and that a refusal changes nothing.
-use crate::deeds::{Ask, Begin, Offer, PLAIN, Run, Texts};
-use crate::files::{Held, done_in, rows_in, told_stories};
-use crate::said::{Said, WINDOWS, is_accepted, windows_of};
-use crate::stories::PORT;
+use crate::files::{FileBytes, files_after, rows_in, run_in};
+use crate::messages::{Request, WINDOWS, is_accepted, windows_of};
+use crate::operations::{
+    RegisterOpening, SchemaDump, SingleRequest, StatementBatch, StoreOpening, WITHOUT_CHECKPOINTS,
+};
+use crate::scenarios::PORT;
 use register::OpenFault;
 use sql_store::FileFault;
 use std::alloc::Global;
 
 // Files, and their content.
 #[derive(Drop)]
-struct Shown {
-    held: Held,
+struct FileContent {
+    file_bytes: FileBytes,
     rows: Vec<u8>,
 }
 
-fn show(alloc: Global, held: Held) -> Option<Shown> {
-    let rows = rows_in(alloc, &held)?;
-    Some(Shown { held, rows })
+fn read_content(alloc: Global, file_bytes: FileBytes) -> Option<FileContent> {
+    let rows = rows_in(alloc, &file_bytes)?;
+    Some(FileContent { file_bytes, rows })
 }
 
 // Returns the files after statements that are executed by hand.
-fn changed(alloc: Global, held: &Held, statements: &str) -> Option<Held> {
-    let (_ran, held) = done_in(alloc, held, PLAIN, Run(statements))?;
-    Some(held)
+fn execute(alloc: Global, file_bytes: &FileBytes, statements: &str) -> Option<FileBytes> {
+    let (_done, file_bytes) = run_in(
+        alloc,
+        file_bytes,
+        WITHOUT_CHECKPOINTS,
+        StatementBatch(statements),
+    )?;
+    Some(file_bytes)
 }
 
 // Returns why the files are refused, if they are, and the files afterwards.
-fn offered(alloc: Global, held: &Held, offer: Offer) -> Option<(Option<FileFault>, Held)> {
-    done_in(alloc, held, PLAIN, offer)
+fn open_files(
+    alloc: Global,
+    file_bytes: &FileBytes,
+    opening: StoreOpening,
+) -> Option<(Option<FileFault>, FileBytes)> {
+    run_in(alloc, file_bytes, WITHOUT_CHECKPOINTS, opening)
 }
 
-// Returns whether `Offer::Adopt` and `Offer::Open` give this answer and change nothing.
-fn are_answered(alloc: Global, shown: &Shown, wanted: Option<FileFault>) -> Option<bool> {
-    for offer in [Offer::Adopt, Offer::Open] {
-        let (fault, left) = offered(alloc, &shown.held, offer)?;
-        if fault != wanted || rows_in(alloc, &left)? != shown.rows {
+// Returns whether `StoreOpening::Adopt` and `StoreOpening::Open` have this result and change
+// nothing.
+fn are_openings_expected(
+    alloc: Global,
+    content: &FileContent,
+    expected: Option<FileFault>,
+) -> Option<bool> {
+    for opening in [StoreOpening::Adopt, StoreOpening::Open] {
+        let (fault, left) = open_files(alloc, &content.file_bytes, opening)?;
+        if fault != expected || rows_in(alloc, &left)? != content.rows {
             return Some(false);
         }
     }
     Some(true)
 }
 
-fn port(alloc: Global) -> Option<Shown> {
-    show(alloc, told_stories(alloc, &PORT, PLAIN)?)
+fn port_content(alloc: Global) -> Option<FileContent> {
+    read_content(alloc, files_after(alloc, &PORT, WITHOUT_CHECKPOINTS)?)
 }
 
-// Returns whether the port's files get this answer after the statements changed something in them.
-fn is_answered(
+// Returns whether the port's files have this result after the statements changed something in them.
+fn is_change_expected(
     alloc: Global,
-    port: &Shown,
+    port: &FileContent,
     statements: &str,
-    wanted: Option<FileFault>,
+    expected: Option<FileFault>,
 ) -> Option<bool> {
-    let changed = show(alloc, changed(alloc, &port.held, statements)?)?;
+    let changed = read_content(alloc, execute(alloc, &port.file_bytes, statements)?)?;
     let is_other = changed.rows != port.rows;
-    Some(is_other && are_answered(alloc, &changed, wanted)?)
+    Some(is_other && are_openings_expected(alloc, &changed, expected)?)
 }
 
-// Returns the first of the statements after which the port's files get another answer.
-fn first_other(
+// Returns the first of the statements after which the port's files have another result.
+fn first_wrong_statement(
     alloc: Global,
     all: &[&'static str],
-    wanted: Option<FileFault>,
+    expected: Option<FileFault>,
 ) -> Option<&'static str> {
-    let Some(port) = port(alloc) else {
+    let Some(port) = port_content(alloc) else {
         return Some("no port");
     };
     for statements in all {
-        if is_answered(alloc, &port, statements, wanted) != Some(true) {
+        if is_change_expected(alloc, &port, statements, expected) != Some(true) {
             return Some(*statements);
         }
     }
@@ -75,7 +91,7 @@ fn first_other(
 }
 
 // Values that are not of their column's type.
-static SPOILED: [&str; 33] = [
+static BAD_VALUES: [&str; 33] = [
     "UPDATE carrier SET spid = 'AAAAA' WHERE spid = 'AAAA'",
     "UPDATE carrier SET spid = 'aaaa' WHERE spid = 'AAAA'",
     "UPDATE lrn SET spid = 'AAAAA' WHERE lrn = 2025440000",
@@ -114,13 +130,13 @@ static SPOILED: [&str; 33] = [
 #[test]
 fn a_value_of_no_type_is_refused(rt: HostRuntime) {
     assert_eq!(rt;
-        first_other(rt.alloc(), &SPOILED, Some(FileFault::Storage)),
+        first_wrong_statement(rt.alloc(), &BAD_VALUES, Some(FileFault::Storage)),
         None
     );
 }
 
 // The last values that are of their column's type.
-static TAKEN: [&str; 9] = [
+static LAST_VALUES: [&str; 9] = [
     "UPDATE carrier SET spid = 'ZZ99' WHERE spid = 'AAAA'",
     "UPDATE version2 SET deadline = 0 WHERE id = 1",
     "UPDATE version2 SET due = 1099511627775 WHERE id = 1",
@@ -133,13 +149,13 @@ static TAKEN: [&str; 9] = [
 ];
 
 #[test]
-fn the_last_value_of_a_type_is_taken(rt: HostRuntime) {
-    assert_eq!(rt; first_other(rt.alloc(), &TAKEN, None), None);
+fn the_last_value_of_a_type_is_accepted(rt: HostRuntime) {
+    assert_eq!(rt; first_wrong_statement(rt.alloc(), &LAST_VALUES, None), None);
 }
 
 // Keys of no subject, routing number, code or block, a second clock, and the code for no subject in
 // another row.
-static KEYS: [&str; 7] = [
+static BAD_KEYS: [&str; 7] = [
     "UPDATE clock2 SET one = 1",
     "UPDATE version2 SET holds = -7 WHERE id = 2",
     "UPDATE version2 SET opens = -7 WHERE id = 1",
@@ -152,7 +168,7 @@ static KEYS: [&str; 7] = [
 #[test]
 fn a_key_of_nothing_is_refused(rt: HostRuntime) {
     assert_eq!(rt;
-        first_other(rt.alloc(), &KEYS, Some(FileFault::Storage)),
+        first_wrong_statement(rt.alloc(), &BAD_KEYS, Some(FileFault::Storage)),
         None
     );
 }
@@ -163,19 +179,22 @@ static NOT_IN_FORCE: [&str; 1] = ["UPDATE version2 SET holds = -1 - id WHERE id 
 const NULL_IN_FORCE: &str = "UPDATE version2 SET holds = NULL WHERE id = 1";
 
 // Returns whether the database itself refuses the statement.
-fn is_no_statement(alloc: Global, statement: &str) -> Option<bool> {
-    let port = port(alloc)?;
-    Some(changed(alloc, &port.held, statement).is_none())
+fn is_refused_by_database(alloc: Global, statement: &str) -> Option<bool> {
+    let port = port_content(alloc)?;
+    Some(execute(alloc, &port.file_bytes, statement).is_none())
 }
 
 #[test]
-fn what_is_not_in_force_has_a_number_of_its_own(rt: HostRuntime) {
-    assert_eq!(rt; first_other(rt.alloc(), &NOT_IN_FORCE, None), None);
-    assert!(rt; is_no_statement(rt.alloc(), NULL_IN_FORCE) == Some(true));
+fn a_version_not_in_force_has_its_own_key(rt: HostRuntime) {
+    assert_eq!(rt;
+        first_wrong_statement(rt.alloc(), &NOT_IN_FORCE, None),
+        None
+    );
+    assert!(rt; is_refused_by_database(rt.alloc(), NULL_IN_FORCE) == Some(true));
 }
 
 // Rows in a table that an older format had.
-static EARLIER_ROWS: [&str; 2] = [
+static OLDER_ROWS: [&str; 2] = [
     "INSERT INTO version SELECT id, subject, old, new, due, lrn, cic, old_at, new_at, status, \
      sends, since, attempt, release, spent, protective, cancelled_by, deadline, holds, opens FROM \
      version2",
@@ -183,13 +202,16 @@ static EARLIER_ROWS: [&str; 2] = [
 ];
 
 #[test]
-fn a_row_of_an_earlier_form_is_refused(rt: HostRuntime) {
-    let wanted = Some(FileFault::Storage);
-    assert_eq!(rt; first_other(rt.alloc(), &EARLIER_ROWS, wanted), None);
+fn a_row_of_an_older_format_is_refused(rt: HostRuntime) {
+    let expected = Some(FileFault::Storage);
+    assert_eq!(rt;
+        first_wrong_statement(rt.alloc(), &OLDER_ROWS, expected),
+        None
+    );
 }
 
 // One more or one less than the tables and the indexes of a store.
-static LISTED_OTHERWISE: [&str; 5] = [
+static OTHER_SCHEMAS: [&str; 5] = [
     "CREATE TABLE more (one INTEGER PRIMARY KEY) STRICT",
     "CREATE INDEX more ON version2 (old)",
     "CREATE VIEW more AS SELECT spid FROM carrier",
@@ -199,33 +221,36 @@ static LISTED_OTHERWISE: [&str; 5] = [
 
 #[test]
 fn another_schema_is_refused(rt: HostRuntime) {
-    let wanted = Some(FileFault::Storage);
-    assert_eq!(rt; first_other(rt.alloc(), &LISTED_OTHERWISE, wanted), None);
+    let expected = Some(FileFault::Storage);
+    assert_eq!(rt;
+        first_wrong_statement(rt.alloc(), &OTHER_SCHEMAS, expected),
+        None
+    );
 }
 
 // Returns the statements that make the tables and the indexes of a new file.
-fn texts(alloc: Global) -> Option<String> {
-    let (_fault, held) = offered(alloc, &Held::nothing(alloc), Offer::Open)?;
-    let (texts, _held) = done_in(alloc, &held, PLAIN, Texts)?;
-    Some(texts)
+fn schema_statements(alloc: Global) -> Option<String> {
+    let (_fault, file_bytes) = open_files(alloc, &FileBytes::empty(alloc), StoreOpening::Open)?;
+    let (statements, _file_bytes) = run_in(alloc, &file_bytes, WITHOUT_CHECKPOINTS, SchemaDump)?;
+    Some(statements)
 }
 
 // A part of the statements, and its replacement.
 type Edit<'a> = (&'a str, &'a str);
 
-fn is_made_so(
+fn is_edit_expected(
     alloc: Global,
-    texts: &str,
+    statements: &str,
     edit: &Edit<'_>,
-    wanted: Option<FileFault>,
+    expected: Option<FileFault>,
 ) -> Option<bool> {
     let (from, to) = *edit;
-    if !texts.contains(from) {
+    if !statements.contains(from) {
         return Some(false);
     }
-    let edited = texts.replace(alloc, from, to).ok()?;
-    let made = changed(alloc, &Held::nothing(alloc), edited.as_str())?;
-    are_answered(alloc, &show(alloc, made)?, wanted)
+    let edited = statements.replace(alloc, from, to).ok()?;
+    let opened = execute(alloc, &FileBytes::empty(alloc), edited.as_str())?;
+    are_openings_expected(alloc, &read_content(alloc, opened)?, expected)
 }
 
 // A column with another type or another rule, and one more column.
@@ -244,16 +269,16 @@ static EDITS: [Edit<'static>; 8] = [
 ];
 
 // Returns the first edit that leaves a file accepted. A file with the same text must be accepted.
-fn first_taken(alloc: Global) -> Option<&'static str> {
-    let Some(texts) = texts(alloc) else {
+fn first_accepted_edit(alloc: Global) -> Option<&'static str> {
+    let Some(statements) = schema_statements(alloc) else {
         return Some("no texts");
     };
-    if is_made_so(alloc, texts.as_str(), &("STRICT", "STRICT"), None) != Some(true) {
+    if is_edit_expected(alloc, statements.as_str(), &("STRICT", "STRICT"), None) != Some(true) {
         return Some("the texts as they are");
     }
     for edit in &EDITS {
         let refused = Some(FileFault::Storage);
-        if is_made_so(alloc, texts.as_str(), edit, refused) != Some(true) {
+        if is_edit_expected(alloc, statements.as_str(), edit, refused) != Some(true) {
             return Some(edit.1);
         }
     }
@@ -262,31 +287,40 @@ fn first_taken(alloc: Global) -> Option<&'static str> {
 
 #[test]
 fn another_column_is_refused(rt: HostRuntime) {
-    assert_eq!(rt; first_taken(rt.alloc()), None);
+    assert_eq!(rt; first_accepted_edit(rt.alloc()), None);
 }
 
-// Tests an empty connection: `Offer::Adopt` refuses it and leaves it empty, and `Offer::Open` makes
-// a store without rows of it.
-fn is_made(alloc: Global) -> Option<bool> {
-    let nothing = Held::nothing(alloc);
-    let (refused, left) = offered(alloc, &nothing, Offer::Adopt)?;
-    let (made, held) = offered(alloc, &left, Offer::Open)?;
-    let (adopted, again) = offered(alloc, &held, Offer::Adopt)?;
-    let is_same = rows_in(alloc, &again)? == rows_in(alloc, &held)?;
-    let is_made = refused == Some(FileFault::Storage) && made.is_none();
-    Some(is_made && adopted.is_none() && is_same)
+// Tests an empty connection: `StoreOpening::Adopt` refuses it and leaves it empty, and
+// `StoreOpening::Open` makes a store without rows of it.
+fn is_empty_opened(alloc: Global) -> Option<bool> {
+    let empty = FileBytes::empty(alloc);
+    let (refused, left) = open_files(alloc, &empty, StoreOpening::Adopt)?;
+    let (opened, file_bytes) = open_files(alloc, &left, StoreOpening::Open)?;
+    let (adopted, again) = open_files(alloc, &file_bytes, StoreOpening::Adopt)?;
+    let is_same = rows_in(alloc, &again)? == rows_in(alloc, &file_bytes)?;
+    let is_created = refused == Some(FileFault::Storage) && opened.is_none();
+    Some(is_created && adopted.is_none() && is_same)
 }
 
 #[test]
-fn an_empty_connection_is_made_a_store(rt: HostRuntime) {
-    assert!(rt; is_made(rt.alloc()) == Some(true));
+fn an_empty_connection_is_opened_as_a_store(rt: HostRuntime) {
+    assert!(rt; is_empty_opened(rt.alloc()) == Some(true));
 }
 
 // Returns why no register is opened over the files with these windows, if none is, and the files
 // afterwards.
-fn begun(alloc: Global, held: &Held, windows: &str) -> Option<(Option<OpenFault>, Held)> {
+fn open_register(
+    alloc: Global,
+    file_bytes: &FileBytes,
+    windows: &str,
+) -> Option<(Option<OpenFault>, FileBytes)> {
     let windows = windows_of(alloc, windows)?;
-    done_in(alloc, held, PLAIN, Begin(&windows))
+    run_in(
+        alloc,
+        file_bytes,
+        WITHOUT_CHECKPOINTS,
+        RegisterOpening(&windows),
+    )
 }
 
 // Returns the windows of the tests with another broadcast window.
@@ -296,23 +330,28 @@ fn other_windows(alloc: Global) -> Option<String> {
         .ok()
 }
 
-const QUESTION: Said<'static> = ("CCCC", "/query", r#"{"uri":"tel:+12025331234"}"#);
+const QUERY: Request<'static> = ("CCCC", "/query", r#"{"uri":"tel:+12025331234"}"#);
 
-fn goes_on(alloc: Global, held: &Held) -> Option<bool> {
-    let (heard, _held) = done_in(alloc, held, PLAIN, Ask(&QUESTION))?;
-    Some(is_accepted(&heard))
+fn is_continued(alloc: Global, file_bytes: &FileBytes) -> Option<bool> {
+    let (response, _file_bytes) = run_in(
+        alloc,
+        file_bytes,
+        WITHOUT_CHECKPOINTS,
+        SingleRequest(&QUERY),
+    )?;
+    Some(is_accepted(&response))
 }
 
 // Tests that other windows are refused without a change, and that the register continues with its
 // own.
 fn are_other_windows_refused(alloc: Global) -> Option<bool> {
-    let port = port(alloc)?;
+    let port = port_content(alloc)?;
     let windows = other_windows(alloc)?;
-    let (fault, left) = begun(alloc, &port.held, windows.as_str())?;
+    let (fault, left) = open_register(alloc, &port.file_bytes, windows.as_str())?;
     let is_same = rows_in(alloc, &left)? == port.rows;
-    let (none, _same) = begun(alloc, &left, WINDOWS)?;
+    let (none, _same) = open_register(alloc, &left, WINDOWS)?;
     let is_refused = fault == Some(OpenFault::WindowsDiffer) && none.is_none();
-    Some(is_refused && is_same && goes_on(alloc, &left)?)
+    Some(is_refused && is_same && is_continued(alloc, &left)?)
 }
 
 #[test]

@@ -13,9 +13,9 @@ pub const WINDOWS: &str =
     "initial_concurrence = 60\nfinal_concurrence = 60\nconflict_restriction = 30\nconflict_resolution = 120\nconflict_expiration = 1000\ncancellation_initial = 60\ncancellation_final = 60\npending_retention = 500\nbroadcast = 15\n";
 
 /// A caller, a path, a body (empty for GET), and the body of the response.
-pub type Said<'a> = (&'a str, &'a str, &'a str, &'a str);
+pub type Exchange<'a> = (&'a str, &'a str, &'a str, &'a str);
 
-pub static FIRST_PORT: [Said<'static>; 11] = [
+pub static FIRST_PORT: [Exchange<'static>; 11] = [
     (
         "NPAC",
         "/carriers",
@@ -86,14 +86,14 @@ pub static FIRST_PORT: [Said<'static>; 11] = [
 
 /// Requests and their responses.
 #[derive(Drop)]
-pub struct Texts {
-    pub asked: String,
-    pub answered: String,
+pub struct Transcript {
+    pub requests: String,
+    pub responses: String,
 }
 
 /// Returns the request of a row.
-pub fn asked(alloc: Global, said: &Said<'_>) -> Result<String, AllocError> {
-    let (caller, path, body, _) = *said;
+pub fn encode_request(alloc: Global, exchange: &Exchange<'_>) -> Result<String, AllocError> {
+    let (caller, path, body, _) = *exchange;
     if body.is_empty() {
         return format!(in alloc; "GET {path} HTTP/1.1\r\nx-spid: {caller}\r\n\r\n");
     }
@@ -104,7 +104,7 @@ pub fn asked(alloc: Global, said: &Said<'_>) -> Result<String, AllocError> {
 }
 
 /// Returns the response with a status and a body.
-pub fn answer(alloc: Global, status: &str, body: &str) -> Result<String, AllocError> {
+pub fn encode_response(alloc: Global, status: &str, body: &str) -> Result<String, AllocError> {
     let length = body.len();
     format!(in alloc;
         "HTTP/1.1 {status}\r\ncontent-type: application/json\r\ncontent-length: {length}\r\n\r\n{body}"
@@ -112,88 +112,95 @@ pub fn answer(alloc: Global, status: &str, body: &str) -> Result<String, AllocEr
 }
 
 /// Returns the request and the response of a row.
-pub fn texts_of(alloc: Global, said: &Said<'_>) -> Result<Texts, AllocError> {
-    Ok(Texts {
-        asked: asked(alloc, said)?,
-        answered: answer(alloc, "200 OK", said.3)?,
+pub fn transcript_of(alloc: Global, exchange: &Exchange<'_>) -> Result<Transcript, AllocError> {
+    Ok(Transcript {
+        requests: encode_request(alloc, exchange)?,
+        responses: encode_response(alloc, "200 OK", exchange.3)?,
     })
 }
 
-impl Texts {
+impl Transcript {
     /// Creates texts without requests or responses.
-    pub fn new(alloc: Global) -> Texts {
-        Texts {
-            asked: String::new(alloc),
-            answered: String::new(alloc),
+    pub fn new(alloc: Global) -> Transcript {
+        Transcript {
+            requests: String::new(alloc),
+            responses: String::new(alloc),
         }
     }
 
     /// Appends more requests and responses.
-    pub fn add(&mut self, more: &Texts) -> Result<(), AllocError> {
-        self.asked.push_str(more.asked.as_str())?;
-        self.answered.push_str(more.answered.as_str())
+    pub fn add(&mut self, more: &Transcript) -> Result<(), AllocError> {
+        self.requests.push_str(more.requests.as_str())?;
+        self.responses.push_str(more.responses.as_str())
     }
 
     /// Appends the requests and responses of rows.
-    pub fn add_rows(&mut self, alloc: Global, rows: &[Said<'_>]) -> Result<(), AllocError> {
-        for said in rows {
-            self.add(&texts_of(alloc, said)?)?;
+    pub fn add_all(&mut self, alloc: Global, exchanges: &[Exchange<'_>]) -> Result<(), AllocError> {
+        for exchange in exchanges {
+            self.add(&transcript_of(alloc, exchange)?)?;
         }
         Ok(())
     }
 }
 
 /// Returns the requests of rows, one after the other, and their responses.
-pub fn stream_of(alloc: Global, rows: &[Said<'_>]) -> Option<Texts> {
-    let mut texts = Texts::new(alloc);
-    texts.add_rows(alloc, rows).ok()?;
-    Some(texts)
+pub fn transcript_of_all(alloc: Global, exchanges: &[Exchange<'_>]) -> Option<Transcript> {
+    let mut transcript = Transcript::new(alloc);
+    transcript.add_all(alloc, exchanges).ok()?;
+    Some(transcript)
 }
 
 /// Opens a store with the windows of the tests.
-pub fn opened<S: Store + Drop>(alloc: Global, store: S) -> Option<Register<S>> {
+pub fn open_register<S: Store + Drop>(alloc: Global, store: S) -> Option<Register<S>> {
     let windows = Windows::from_toml(alloc, WINDOWS).ok()?;
     Register::open(alloc, store, &windows).ok()
 }
 
 /// Creates a register over memory.
 pub fn new_register(alloc: Global) -> Option<Register<MemoryStore>> {
-    opened(alloc, MemoryStore::new(alloc))
+    open_register(alloc, MemoryStore::new(alloc))
 }
 
 /// Serves the messages of a reader, with the path of the clock; returns the responses, and how
 /// serving ended.
-pub fn served<S: Store, R: Read>(
+pub fn serve_reader<S: Store, R: Read>(
     alloc: Global,
     register: &mut Register<S>,
     reader: &mut R,
 ) -> (Vec<u8>, Result<Served, Fault>) {
-    let mut bytes = Vec::new(alloc);
+    let mut responses = Vec::new(alloc);
     let options = Options { clock_route: true };
-    let ended = serve(alloc, register, &mut NoTicks, &options, reader, &mut bytes);
-    (bytes, ended)
+    let served = serve(
+        alloc,
+        register,
+        &mut NoTicks,
+        &options,
+        reader,
+        &mut responses,
+    );
+    (responses, served)
 }
 
 /// Returns whether these `count` messages are served to the end.
 pub fn is_served<S: Store>(
     alloc: Global,
     register: &mut Register<S>,
-    asked: &str,
+    requests: &str,
     count: u64,
 ) -> bool {
-    let (_answers, ended) = served(alloc, register, &mut asked.as_bytes());
-    ended == whole(count)
+    let (_responses, served) = serve_reader(alloc, register, &mut requests.as_bytes());
+    served == served_to_end(count)
 }
 
 /// Returns whether this is the response to a message.
 pub fn is_answered<S: Store>(
     alloc: Global,
     register: &mut Register<S>,
-    asked: &str,
-    answered: &str,
+    request: &str,
+    response: &str,
 ) -> bool {
-    let (answers, ended) = served(alloc, register, &mut asked.as_bytes());
-    answers.as_slice() == answered.as_bytes() && ended == whole(1)
+    let (responses, served) = serve_reader(alloc, register, &mut request.as_bytes());
+    responses.as_slice() == response.as_bytes() && served == served_to_end(1)
 }
 
 // Returns the responses as text.
@@ -202,46 +209,46 @@ fn text_of(bytes: &[u8]) -> &str {
 }
 
 /// Asserts that the responses are these, and that serving ended like this.
-pub fn is_so<T: Abort>(
+pub fn assert_served<T: Abort>(
     rt: &T,
-    answers: &[u8],
-    wanted: &str,
-    ended: Result<Served, Fault>,
-    end: Result<Served, Fault>,
+    responses: &[u8],
+    expected: &str,
+    served: Result<Served, Fault>,
+    expected_end: Result<Served, Fault>,
 ) {
-    assert_eq!(rt; text_of(answers), wanted);
-    assert_eq!(rt; ended, end);
+    assert_eq!(rt; text_of(responses), expected);
+    assert_eq!(rt; served, expected_end);
 }
 
 /// Asserts the responses to the messages of a reader, and how serving ends.
-pub fn hears<T: Abort + AllocGlobal, S: Store, R: Read>(
+pub fn assert_responses<T: Abort + AllocGlobal, S: Store, R: Read>(
     rt: &T,
     register: &mut Register<S>,
     reader: &mut R,
-    answered: &str,
-    wanted: Result<Served, Fault>,
+    expected: &str,
+    expected_end: Result<Served, Fault>,
 ) {
-    let (bytes, ended) = served(rt.alloc(), register, reader);
-    is_so(rt, &bytes, answered, ended, wanted);
+    let (responses, served) = serve_reader(rt.alloc(), register, reader);
+    assert_served(rt, &responses, expected, served, expected_end);
 }
 
 /// Returns the result of serving `count` messages to the end of the input.
-pub fn whole(count: u64) -> Result<Served, Fault> {
+pub fn served_to_end(count: u64) -> Result<Served, Fault> {
     Ok(Served {
         count,
         end: End::Input,
     })
 }
 
-fn says_first_port(alloc: Global, register: &mut Register<MemoryStore>) -> Option<bool> {
-    let texts = stream_of(alloc, &FIRST_PORT)?;
-    Some(is_served(alloc, register, texts.asked.as_str(), 11))
+fn serve_first_port(alloc: Global, register: &mut Register<MemoryStore>) -> Option<bool> {
+    let transcript = transcript_of_all(alloc, &FIRST_PORT)?;
+    Some(is_served(alloc, register, transcript.requests.as_str(), 11))
 }
 
 /// Returns a register after the first port.
-pub fn after_the_first_port(alloc: Global) -> Option<Register<MemoryStore>> {
+pub fn register_after_first_port(alloc: Global) -> Option<Register<MemoryStore>> {
     let mut register = new_register(alloc)?;
-    match says_first_port(alloc, &mut register) {
+    match serve_first_port(alloc, &mut register) {
         Some(true) => Some(register),
         _ => None,
     }

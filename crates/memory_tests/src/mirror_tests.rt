@@ -1,5 +1,5 @@
 //! Tests a carrier's copy.
-use crate::commands::{routed_to, routing};
+use crate::commands::{routing, routing_to};
 use delivery::{Download, Mirror, RoutedRow};
 use model::Action;
 use numbers::{Minute, Routing, Subject, Tn};
@@ -31,7 +31,7 @@ fn routing_in(mirror: &Mirror, text: &str) -> Option<Routing> {
     mirror.get(subject(text)?)
 }
 
-fn held(mirror: &Mirror) -> [Option<Routing>; 2] {
+fn routings_in(mirror: &Mirror) -> [Option<Routing>; 2] {
     [
         routing_in(mirror, "2025331234"),
         routing_in(mirror, "2025339999"),
@@ -40,43 +40,43 @@ fn held(mirror: &Mirror) -> [Option<Routing>; 2] {
 
 // The routings in a copy of the number and of another: after a start with both, after the number's
 // disconnect, after its next port, and after a start with nothing.
-type Held = [[Option<Routing>; 2]; 4];
+type CopyStages = [[Option<Routing>; 2]; 4];
 
-fn walk(
+fn follow(
     mirror: &mut Mirror,
     rows: &[RoutedRow],
     delete: &Download,
     create: &Download,
-) -> Result<Held, AllocError> {
+) -> Result<CopyStages, AllocError> {
     mirror.start(rows)?;
-    let started = held(mirror);
+    let started = routings_in(mirror);
     mirror.apply(delete)?;
-    let deleted = held(mirror);
+    let deleted = routings_in(mirror);
     mirror.apply(create)?;
-    let ported = held(mirror);
+    let ported = routings_in(mirror);
     mirror.start(&[])?;
-    Ok([started, deleted, ported, held(mirror)])
+    Ok([started, deleted, ported, routings_in(mirror)])
 }
 
-fn walked(alloc: Global, old: Routing, new: Routing) -> Option<Held> {
+fn stages(alloc: Global, old: Routing, new: Routing) -> Option<CopyStages> {
     let rows = [row("2025331234", old)?, row("2025339999", old)?];
     let delete = download(2, Action::Delete, None)?;
     let create = download(3, Action::Create, Some(new))?;
     let mut mirror = Mirror::new(alloc);
-    walk(&mut mirror, &rows, &delete, &create).ok()
+    follow(&mut mirror, &rows, &delete, &create).ok()
 }
 
 #[test]
 fn a_copy_follows_its_downloads(rt: HostRuntime) {
-    let (Some(old), Some(new)) = (routed_to("2025330000"), routing()) else {
+    let (Some(old), Some(new)) = (routing_to("2025330000"), routing()) else {
         assert!(rt; false);
         return;
     };
-    let wanted = [
+    let expected = [
         [Some(old), Some(old)],
         [None, Some(old)],
         [Some(new), Some(old)],
         [None, None],
     ];
-    assert_eq!(rt; walked(rt.alloc(), old, new), Some(wanted));
+    assert_eq!(rt; stages(rt.alloc(), old, new), Some(expected));
 }

@@ -15,7 +15,7 @@ enum Kind {
 }
 
 // Reads a text, and writes the value read.
-fn copy(kind: Kind, text: &str, out: &mut String) -> Option<()> {
+fn rewrite(kind: Kind, text: &str, out: &mut String) -> Option<()> {
     let written = match kind {
         Kind::Block => Subject::Block(BlockId::read(text)?).write(out),
         Kind::Cic => Cic::read(text)?.write(out),
@@ -30,18 +30,18 @@ fn copy(kind: Kind, text: &str, out: &mut String) -> Option<()> {
 }
 
 // Returns whether a text is written as it was read.
-fn is_copied(alloc: Global, kind: Kind, text: &str) -> bool {
+fn is_rewritten(alloc: Global, kind: Kind, text: &str) -> bool {
     let mut out = String::new(alloc);
-    copy(kind, text, &mut out).is_some() && out.as_str() == text
+    rewrite(kind, text, &mut out).is_some() && out.as_str() == text
 }
 
 // A text, and whether it is one of its kind.
 type Row<'a> = (Kind, &'a str, bool);
 
 // Returns the first text that is read and should not be, or is not read and should be.
-fn misread(alloc: Global, rows: &[Row<'static>]) -> Option<&'static str> {
-    for (kind, text, is_one) in rows {
-        if is_copied(alloc, *kind, text) != *is_one {
+fn first_misread(alloc: Global, rows: &[Row<'static>]) -> Option<&'static str> {
+    for (kind, text, is_valid) in rows {
+        if is_rewritten(alloc, *kind, text) != *is_valid {
             return Some(text);
         }
     }
@@ -97,7 +97,7 @@ static TEXTS: [Row<'static>; 44] = [
 
 #[test]
 fn texts_are_read_and_written(rt: HostRuntime) {
-    assert_eq!(rt; misread(rt.alloc(), &TEXTS), None);
+    assert_eq!(rt; first_misread(rt.alloc(), &TEXTS), None);
 }
 
 // Returns whether these are a number's parts, and the number is made of them.

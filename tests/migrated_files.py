@@ -1,11 +1,11 @@
 #!/usr/bin/env python3
 """Tests the migration of files in the first format by the built program, with stock SQLite.
 
-Only crates/sql_tests/src/earlier.rt has the statements of these files; a test there migrates them in memory. Here Python's own SQLite
+Only crates/sql_tests/src/first_format.rt has the statements of these files; a test there migrates them in memory. Here Python's own SQLite
 module writes each into a file, the program migrates the file, and the module reads it. Each file is from the middle of a worked story:
 the program gets the rest of that story, and each answer must be the story's, to the byte.
 
-    tests/moved_files.py      (build first: cd crates/npacd && rt run -- --help)
+    tests/migrated_files.py      (build first: cd crates/npacd && rt run -- --help)
 
 The gate runs it after `rt ci`, which leaves the program that it has proved and run.
 """
@@ -23,7 +23,7 @@ TOP = Path(__file__).resolve().parent.parent
 sys.path.insert(0, str(TOP / "bench"))
 from lib.program import PROGRAM
 
-STATEMENTS = TOP / "crates" / "sql_tests" / "src" / "earlier.rt"
+STATEMENTS = TOP / "crates" / "sql_tests" / "src" / "first_format.rt"
 # The statements of every file, before its own.
 BEGUN = ("SCHEMA", "REGISTRY")
 
@@ -87,7 +87,7 @@ def content_of(file):
     return is_whole, listed, rows
 
 
-def moved(rows):
+def migrated(rows):
     """Returns the expected rows of a migrated file, as docs/FILES.md describes them."""
     one, now, next_id, *windows = rows["clock"][0]
     return {name: rows[name] for name in STAYING} | {
@@ -111,7 +111,7 @@ def checked(name, story, count, folder):
     found["opened"] = feed(file) == (0, b"", b"")
     is_whole, listed, after = content_of(file)
     found |= {"integrity": is_whole, "tables": set(after) == set(TABLES)}
-    found |= {f"rows of {table}": after.get(table) == rows for table, rows in moved(before).items()}
+    found |= {f"rows of {table}": after.get(table) == rows for table, rows in migrated(before).items()}
     found["the same messages to a new file"] = feed(other, messages_of(begun)) == (0, answers_of(begun), b"")
     found["what they leave there"] = content_of(other) == (True, listed, after)
     found["the rest of the story"] = feed(file, messages_of(rest)) == (0, answers_of(rest), b"")
@@ -134,7 +134,7 @@ def main():
         sys.exit(f"{PROGRAM} is not there: build it first")
     found = found_in_all()
     wrong = [what for what, well in found.items() if not well]
-    print(*wrong, f"moved files, by stock SQLite: {len(found) - len(wrong)} as wanted, {len(wrong)} otherwise", sep="\n")
+    print(*wrong, f"migrated files, by stock SQLite: {len(found) - len(wrong)} rows as expected, {len(wrong)} others", sep="\n")
     sys.exit(1 if wrong else 0)
 
 

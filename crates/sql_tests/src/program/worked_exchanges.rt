@@ -1,6 +1,6 @@
-//! Tests worked rows over a real listener, with the minutes supplied beside the messages.
-use super::connections::{client_of, heard_by, new_listener, new_register};
-use crate::said::message;
+//! Tests worked exchanges over a real listener, with a minute supplied for each request.
+use super::connections::{connect_client, new_listener, new_register, read_responses};
+use crate::messages::encode_request;
 use api::Ticks;
 use cli::serve_next;
 use numbers::Minute;
@@ -12,10 +12,10 @@ use std::net::{Net, OpenListener, OpenStream, SocketAddr};
 use std::time::Duration;
 use store::MemoryStore;
 
-// The supplied minute, the caller, the path, the body (empty: a GET), and the body of the answer.
-type Row<'a> = (u64, &'a str, &'a str, &'a str, &'a str);
+// The supplied minute, the caller, the path, the body (empty: a GET), and the body of the response.
+type TimedExchange<'a> = (u64, &'a str, &'a str, &'a str, &'a str);
 
-static OPENING: [Row<'static>; 7] = [
+static OPENING: [TimedExchange<'static>; 7] = [
     (
         0,
         "NPAC",
@@ -139,9 +139,9 @@ const CANCELED_AT_120: &str = concat!(
     r#""phase":null,"release":null,"since":120,"status":"canceled","subject":"2025331234"}"#
 );
 
-static NOBODY_PORTED: [Row<'static>; 1] = [(0, "AAAA", "/query", QUERY, NOT_ROUTED)];
+static NOBODY_PORTED: [TimedExchange<'static>; 1] = [(0, "AAAA", "/query", QUERY, NOT_ROUTED)];
 
-static DUE_AT_100: [Row<'static>; 4] = [
+static DUE_AT_100: [TimedExchange<'static>; 4] = [
     (0, "AAAA", NEW, CREATE, INITIAL),
     (0, "BBBB", OLD, CONCUR, CONCURRED),
     (
@@ -154,24 +154,24 @@ static DUE_AT_100: [Row<'static>; 4] = [
     (100, "AAAA", ACTIVATE, FIRST, SENT_AT_100),
 ];
 
-static SILENT_OLD_PROVIDER: [Row<'static>; 3] = [
+static SILENT_OLD_PROVIDER: [TimedExchange<'static>; 3] = [
     (0, "AAAA", NEW, CREATE, INITIAL),
     (119, "AAAA", ACTIVATE, FIRST, NOT_CONCURRED),
     (120, "AAAA", ACTIVATE, FIRST, SENT_AT_120),
 ];
 
-static SILENT_NEW_PROVIDER: [Row<'static>; 3] = [
+static SILENT_NEW_PROVIDER: [TimedExchange<'static>; 3] = [
     (0, "BBBB", OLD, CONCUR_AT_300, HALF),
     (119, "CCCC", "/versions/1", "", FINAL_HALF),
     (120, "CCCC", "/versions/1", "", CANCELED_AT_120),
 ];
 
-static SILENT_NEW_PROVIDER_IN_ONE_JUMP: [Row<'static>; 2] = [
+static SILENT_NEW_PROVIDER_IN_ONE_JUMP: [TimedExchange<'static>; 2] = [
     (0, "BBBB", OLD, CONCUR_AT_300, HALF),
     (900, "CCCC", "/versions/1", "", CANCELED_AT_120),
 ];
 
-static CLOSED_WITH_ONE_ACKNOWLEDGEMENT: [Row<'static>; 7] = [
+static CLOSED_WITH_ONE_ACKNOWLEDGEMENT: [TimedExchange<'static>; 7] = [
     (0, "AAAA", NEW, CREATE, INITIAL),
     (0, "BBBB", OLD, CONCUR, CONCURRED),
     (200, "AAAA", ACTIVATE, FIRST, SENT_AT_200),
@@ -218,7 +218,7 @@ const ANOTHER_SENT_AT_70: &str = concat!(
 const NOT_CONCURRED: &str = r#"{"error":"not_concurred","number":16}"#;
 
 // The windows are set again between two creates: each create goes by the windows of its own minute.
-static RETUNED: [Row<'static>; 7] = [
+static WINDOWS_CHANGED: [TimedExchange<'static>; 7] = [
     (0, "AAAA", NEW, CREATE, INITIAL),
     (50, "NPAC", "/windows", SHORTER, r#"{"now":50,"set":2}"#),
     (50, "AAAA", NEW, CREATE_OF_ANOTHER, ANOTHER_INITIAL),
@@ -229,7 +229,7 @@ static RETUNED: [Row<'static>; 7] = [
 ];
 
 // Minute 30 is below the present one.
-static MINUTE_BELOW: [Row<'static>; 3] = [
+static EARLIER_MINUTE: [TimedExchange<'static>; 3] = [
     (0, "AAAA", NEW, CREATE, INITIAL),
     (60, "CCCC", "/versions/1", "", FINAL),
     (30, "CCCC", "/versions/1", "", FINAL),
@@ -237,37 +237,37 @@ static MINUTE_BELOW: [Row<'static>; 3] = [
 
 // A source of the minutes of the rows, in order.
 #[derive(Drop)]
-struct Minutes<'a> {
-    rows: &'a [Row<'static>],
-    at: usize,
+struct RowMinutes<'a> {
+    rows: &'a [TimedExchange<'static>],
+    next_row: usize,
 }
 
-impl<'a> Ticks for Minutes<'a> {
+impl<'a> Ticks for RowMinutes<'a> {
     fn next(&mut self) -> Option<Minute> {
-        let row = self.rows.get(self.at)?;
-        self.at = self.at.saturating_add(1);
+        let row = self.rows.get(self.next_row)?;
+        self.next_row = self.next_row.saturating_add(1);
         Minute::new(row.0)
     }
 }
 
-fn minutes_of<'a>(rows: &'a [Row<'static>]) -> Minutes<'a> {
-    Minutes { rows, at: 0 }
+fn minutes_of<'a>(rows: &'a [TimedExchange<'static>]) -> RowMinutes<'a> {
+    RowMinutes { rows, next_row: 0 }
 }
 
 // A stream that reads one byte at a time.
 #[derive(Drop)]
-struct ByteByByte<C: Drop> {
+struct ByteStream<C: Drop> {
     stream: C,
 }
 
-impl<C: Read + Drop> Read for ByteByByte<C> {
+impl<C: Read + Drop> Read for ByteStream<C> {
     fn read(&mut self, buf: &mut [u8]) -> io::Result<usize> {
         let count = buf.len().min(1);
         self.stream.read(&mut buf[..count])
     }
 }
 
-impl<C: Write + Drop> Write for ByteByByte<C> {
+impl<C: Write + Drop> Write for ByteStream<C> {
     fn write(&mut self, buf: &[u8]) -> io::Result<usize> {
         self.stream.write(buf)
     }
@@ -277,13 +277,13 @@ impl<C: Write + Drop> Write for ByteByByte<C> {
     }
 }
 
-impl<C: OpenStream + Drop> OpenStream for ByteByByte<C> {
+impl<C: OpenStream + Drop> OpenStream for ByteStream<C> {
     fn set_read_timeout(&self, duration: Option<Duration>) -> io::Result<()> {
         self.stream.set_read_timeout(duration)
     }
 
-    fn try_clone(&self) -> io::Result<ByteByByte<C>> {
-        Ok(ByteByByte {
+    fn try_clone(&self) -> io::Result<ByteStream<C>> {
+        Ok(ByteStream {
             stream: self.stream.try_clone()?,
         })
     }
@@ -291,16 +291,16 @@ impl<C: OpenStream + Drop> OpenStream for ByteByByte<C> {
 
 // A listener whose streams read one byte at a time.
 #[derive(Clone, Copy)]
-struct OneByOne<'a, L> {
+struct ByteListener<'a, L> {
     listener: &'a L,
 }
 
-impl<L: OpenListener> OpenListener for OneByOne<'_, L> {
-    type Stream = ByteByByte<L::Stream>;
+impl<L: OpenListener> OpenListener for ByteListener<'_, L> {
+    type Stream = ByteStream<L::Stream>;
 
-    fn accept(&self) -> io::Result<(ByteByByte<L::Stream>, SocketAddr)> {
+    fn accept(&self) -> io::Result<(ByteStream<L::Stream>, SocketAddr)> {
         let (stream, address) = self.listener.accept()?;
-        Ok((ByteByByte { stream }, address))
+        Ok((ByteStream { stream }, address))
     }
 
     fn local_addr(&self) -> io::Result<SocketAddr> {
@@ -308,8 +308,8 @@ impl<L: OpenListener> OpenListener for OneByOne<'_, L> {
     }
 }
 
-// Returns the answer with this body. Each refusal in these rows is a conflict.
-fn answered(alloc: Global, body: &str) -> Result<String, AllocError> {
+// Returns the response with this body. Each refusal in these rows is a conflict.
+fn encode_response(alloc: Global, body: &str) -> Result<String, AllocError> {
     let status = if body.starts_with("{\"error\"") {
         "409 Conflict"
     } else {
@@ -322,37 +322,40 @@ fn answered(alloc: Global, body: &str) -> Result<String, AllocError> {
     )
 }
 
-// Returns the messages of the rows on one connection, and their answers.
-fn texts_of(alloc: Global, rows: &[Row<'static>]) -> Result<(String, String), AllocError> {
-    let mut messages = String::new(alloc);
-    let mut answers = String::new(alloc);
-    for (_, caller, path, body, answer) in rows {
-        messages.push_str(message(alloc, &(*caller, *path, *body))?.as_str())?;
-        answers.push_str(answered(alloc, answer)?.as_str())?;
+// Returns the messages of the rows on one connection, and their responses.
+fn encode_rows(
+    alloc: Global,
+    rows: &[TimedExchange<'static>],
+) -> Result<(String, String), AllocError> {
+    let mut requests = String::new(alloc);
+    let mut responses = String::new(alloc);
+    for (_, caller, path, body, response) in rows {
+        requests.push_str(encode_request(alloc, &(*caller, *path, *body))?.as_str())?;
+        responses.push_str(encode_response(alloc, response)?.as_str())?;
     }
-    Ok((messages, answers))
+    Ok((requests, responses))
 }
 
-// Returns whether the rows have these answers, on one connection.
+// Returns whether the rows have these responses, on one connection.
 fn is_played<T, L>(
     rt: &T,
     listener: &L,
     register: &mut Register<MemoryStore>,
-    rows: &[Row<'static>],
+    rows: &[TimedExchange<'static>],
 ) -> Option<bool>
 where
     T: Net + AllocGlobal,
     L: OpenListener,
     L::Stream: Read + Write + OpenStream + Drop,
 {
-    let (messages, answers) = texts_of(rt.alloc(), rows).ok()?;
-    let mut client = client_of(rt, listener.local_addr().ok()?, messages.as_str())?;
+    let (requests, responses) = encode_rows(rt.alloc(), rows).ok()?;
+    let mut client = connect_client(rt, listener.local_addr().ok()?, requests.as_str())?;
     let _ = serve_next(rt.alloc(), listener, register, &mut minutes_of(rows));
-    Some(heard_by(rt.alloc(), &mut client)? == answers)
+    Some(read_responses(rt.alloc(), &mut client)? == responses)
 }
 
-// Returns whether the rows have these answers from a new register with three carriers.
-fn is_story<T, L>(rt: &T, listener: &L, rows: &[Row<'static>]) -> Option<bool>
+// Returns whether the rows have these responses from a new register with three carriers.
+fn is_example_played<T, L>(rt: &T, listener: &L, rows: &[TimedExchange<'static>]) -> Option<bool>
 where
     T: Net + AllocGlobal,
     L: OpenListener,
@@ -363,52 +366,52 @@ where
     Some(opened && is_played(rt, listener, &mut register, rows)?)
 }
 
-fn are_stories<T, L>(rt: &T, listener: &L) -> Option<bool>
+fn are_examples_played<T, L>(rt: &T, listener: &L) -> Option<bool>
 where
     T: Net + AllocGlobal,
     L: OpenListener,
     L::Stream: Read + Write + OpenStream + Drop,
 {
     Some(
-        is_story(rt, listener, &NOBODY_PORTED)?
-            && is_story(rt, listener, &DUE_AT_100)?
-            && is_story(rt, listener, &SILENT_OLD_PROVIDER)?
-            && is_story(rt, listener, &SILENT_NEW_PROVIDER)?
-            && is_story(rt, listener, &SILENT_NEW_PROVIDER_IN_ONE_JUMP)?
-            && is_story(rt, listener, &CLOSED_WITH_ONE_ACKNOWLEDGEMENT)?
-            && is_story(rt, listener, &RETUNED)?
-            && is_story(rt, listener, &MINUTE_BELOW)?,
+        is_example_played(rt, listener, &NOBODY_PORTED)?
+            && is_example_played(rt, listener, &DUE_AT_100)?
+            && is_example_played(rt, listener, &SILENT_OLD_PROVIDER)?
+            && is_example_played(rt, listener, &SILENT_NEW_PROVIDER)?
+            && is_example_played(rt, listener, &SILENT_NEW_PROVIDER_IN_ONE_JUMP)?
+            && is_example_played(rt, listener, &CLOSED_WITH_ONE_ACKNOWLEDGEMENT)?
+            && is_example_played(rt, listener, &WINDOWS_CHANGED)?
+            && is_example_played(rt, listener, &EARLIER_MINUTE)?,
     )
 }
 
 // Tests the rows with all messages in one piece, and then byte by byte.
 fn are_played<T: Net + AllocGlobal>(rt: &T) -> Option<bool> {
     let listener = new_listener(rt)?;
-    let whole = are_stories(rt, &listener)?;
-    let one_by_one = OneByOne {
+    let whole = are_examples_played(rt, &listener)?;
+    let byte_listener = ByteListener {
         listener: &listener,
     };
-    Some(whole && are_stories(rt, &one_by_one)?)
+    Some(whole && are_examples_played(rt, &byte_listener)?)
 }
 
 #[test]
-fn worked_rows_over_a_listener(rt: HostRuntime) {
+fn worked_exchanges_over_a_listener(rt: HostRuntime) {
     assert_eq!(rt; are_played(&rt), Some(true));
 }
 
 // Tests that a create without its last byte changes nothing: the next create makes the first
 // version.
-fn is_cut<T: Net + AllocGlobal>(rt: &T) -> Option<bool> {
+fn is_cut_create_ignored<T: Net + AllocGlobal>(rt: &T) -> Option<bool> {
     let listener = new_listener(rt)?;
     let mut register = new_register(rt.alloc())?;
     let opened = is_played(rt, &listener, &mut register, &OPENING)?;
     let rows = &DUE_AT_100[..1];
-    let (messages, _) = texts_of(rt.alloc(), rows).ok()?;
-    let part = messages.as_str().strip_suffix('}')?;
-    let mut client = client_of(rt, listener.local_addr().ok()?, part)?;
+    let (requests, _) = encode_rows(rt.alloc(), rows).ok()?;
+    let part = requests.as_str().strip_suffix('}')?;
+    let mut client = connect_client(rt, listener.local_addr().ok()?, part)?;
     let _ = serve_next(rt.alloc(), &listener, &mut register, &mut minutes_of(rows));
-    let heard = heard_by(rt.alloc(), &mut client)?;
-    let refused = heard
+    let responses = read_responses(rt.alloc(), &mut client)?;
+    let refused = responses
         .as_str()
         .ends_with("{\"error\":\"cut_body\",\"number\":46}");
     Some(opened && refused && is_played(rt, &listener, &mut register, rows)?)
@@ -416,5 +419,5 @@ fn is_cut<T: Net + AllocGlobal>(rt: &T) -> Option<bool> {
 
 #[test]
 fn cut_create_changes_nothing(rt: HostRuntime) {
-    assert_eq!(rt; is_cut(&rt), Some(true));
+    assert_eq!(rt; is_cut_create_ignored(&rt), Some(true));
 }

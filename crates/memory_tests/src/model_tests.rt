@@ -2,7 +2,7 @@
 use model::Refusal;
 use std::alloc::Global;
 
-static ALL: [Refusal; 30] = [
+static REFUSALS: [Refusal; 30] = [
     Refusal::UnknownCarrier,
     Refusal::NotAdmin,
     Refusal::UnknownCode,
@@ -36,9 +36,9 @@ static ALL: [Refusal; 30] = [
 ];
 
 // Returns the first refusal whose number is not that of its place.
-fn misnumbered() -> Option<Refusal> {
+fn first_misnumbered() -> Option<Refusal> {
     let mut number = 0u8;
-    for refusal in &ALL {
+    for refusal in &REFUSALS {
         number = number.saturating_add(1);
         if refusal.number() != number {
             return Some(*refusal);
@@ -49,7 +49,7 @@ fn misnumbered() -> Option<Refusal> {
 
 // Pushes a number and clones the list. The two report an allocation failure differently, and each
 // report becomes a refusal.
-fn copied(alloc: Global) -> Result<usize, Refusal> {
+fn push_and_clone(alloc: Global) -> Result<usize, Refusal> {
     let mut numbers = Vec::new(alloc);
     numbers.push(12u8)?;
     let copy = numbers.clone()?;
@@ -58,5 +58,8 @@ fn copied(alloc: Global) -> Result<usize, Refusal> {
 
 #[test]
 fn refusals_have_their_numbers(rt: HostRuntime) {
-    assert_eq!(rt; (misnumbered(), copied(rt.alloc())), (None, Ok(1)));
+    assert_eq!(rt;
+        (first_misnumbered(), push_and_clone(rt.alloc())),
+        (None, Ok(1))
+    );
 }

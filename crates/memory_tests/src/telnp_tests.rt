@@ -3,11 +3,16 @@ use numbers::{Cic, Lrn, Routing, Tn};
 use std::alloc::Global;
 use telnp::{TelFault, TelUri};
 
-fn is_answered(alloc: Global, text: &str, routing: Option<Routing>, wanted: &str) -> Option<bool> {
+fn is_answered(
+    alloc: Global,
+    text: &str,
+    routing: Option<Routing>,
+    expected: &str,
+) -> Option<bool> {
     let uri = TelUri::read(text).ok()?;
     let mut answer = String::new(alloc);
     uri.write_answer(alloc, routing, &mut answer).ok()?;
-    Some(answer.as_str() == wanted)
+    Some(answer.as_str() == expected)
 }
 
 fn routing() -> Option<Routing> {

@@ -3,7 +3,7 @@ use delivery::{Broadcast, DownloadKey, may_acknowledge};
 use model::{Action, Outcome, Refusal};
 use numbers::{Minute, Subject, Tn};
 
-fn sent() -> Option<Broadcast> {
+fn sent_broadcast() -> Option<Broadcast> {
     let subject = Subject::Number(Tn::read("2025331234")?);
     let minute = Minute::new(600)?;
     Some(Broadcast::send(minute, subject, Action::Delete, None))
@@ -12,17 +12,21 @@ fn sent() -> Option<Broadcast> {
 // The outcomes of a broadcast while recipients are missing, with none missing, and after it was
 // closed. Then whether it is open and acknowledged after an acknowledgement that is not the last,
 // whether it is open after the last one, and its minute.
-type Seen = ([Outcome; 3], [bool; 3], u64);
+type Observed = ([Outcome; 3], [bool; 3], u64);
 
-fn seen(sent: &Broadcast) -> Seen {
-    let part = sent.acknowledged(false);
-    let whole = part.acknowledged(true);
-    let outcomes = [sent.outcome(false), sent.outcome(true), whole.outcome(true)];
-    let states = [part.is_open, part.is_acknowledged, whole.is_open];
-    (outcomes, states, whole.minute.number)
+fn observe(broadcast: &Broadcast) -> Observed {
+    let partly = broadcast.acknowledged(false);
+    let fully = partly.acknowledged(true);
+    let outcomes = [
+        broadcast.outcome(false),
+        broadcast.outcome(true),
+        fully.outcome(true),
+    ];
+    let states = [partly.is_open, partly.is_acknowledged, fully.is_open];
+    (outcomes, states, fully.minute.number)
 }
 
-const WANTED: Seen = (
+const EXPECTED: Observed = (
     [
         Outcome::Open,
         Outcome::AllAcknowledged,
@@ -34,16 +38,16 @@ const WANTED: Seen = (
 
 #[test]
 fn a_broadcast_is_acknowledged(rt: HostRuntime) {
-    match sent() {
-        Some(sent) => {
-            let wanted = WANTED;
-            assert_eq!(rt; seen(&sent), wanted);
+    match sent_broadcast() {
+        Some(broadcast) => {
+            let expected = EXPECTED;
+            assert_eq!(rt; observe(&broadcast), expected);
         }
         None => assert!(rt; false),
     }
 }
 
-fn key(minute: Minute, id: u64, attempt: u64) -> DownloadKey {
+fn download_key(minute: Minute, id: u64, attempt: u64) -> DownloadKey {
     DownloadKey {
         minute,
         id,
@@ -52,22 +56,26 @@ fn key(minute: Minute, id: u64, attempt: u64) -> DownloadKey {
 }
 
 // Three pending downloads, the first two of one version.
-fn waiting() -> Option<[DownloadKey; 3]> {
+fn pending_downloads() -> Option<[DownloadKey; 3]> {
     let (first, later) = (Minute::new(600)?, Minute::new(601)?);
-    Some([key(first, 7, 1), key(first, 7, 2), key(later, 3, 1)])
+    Some([
+        download_key(first, 7, 1),
+        download_key(first, 7, 2),
+        download_key(later, 3, 1),
+    ])
 }
 
 // Returns why the first, the last, the second and a missing one may not be acknowledged.
-fn judged(waiting: &[DownloadKey]) -> [Option<Refusal>; 4] {
+fn refusals_of(pending: &[DownloadKey]) -> [Option<Refusal>; 4] {
     [
-        may_acknowledge(waiting, 7, 1).err(),
-        may_acknowledge(waiting, 3, 1).err(),
-        may_acknowledge(waiting, 7, 2).err(),
-        may_acknowledge(waiting, 7, 3).err(),
+        may_acknowledge(pending, 7, 1).err(),
+        may_acknowledge(pending, 3, 1).err(),
+        may_acknowledge(pending, 7, 2).err(),
+        may_acknowledge(pending, 7, 3).err(),
     ]
 }
 
-static JUDGED: [Option<Refusal>; 4] = [
+static EXPECTED_REFUSALS: [Option<Refusal>; 4] = [
     None,
     Some(Refusal::OutOfOrder),
     Some(Refusal::OutOfOrder),
@@ -76,8 +84,8 @@ static JUDGED: [Option<Refusal>; 4] = [
 
 #[test]
 fn downloads_are_acknowledged_in_turn(rt: HostRuntime) {
-    match waiting() {
-        Some(waiting) => assert_eq!(rt; judged(&waiting), JUDGED),
+    match pending_downloads() {
+        Some(pending) => assert_eq!(rt; refusals_of(&pending), EXPECTED_REFUSALS),
         None => assert!(rt; false),
     }
 }

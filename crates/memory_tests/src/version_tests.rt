@@ -1,5 +1,5 @@
 //! Tests one port of a number: created from both sides, activated, completed, and ended by minutes.
-use crate::commands::{create_of, routed_to, routing};
+use crate::commands::{create_of, routing, routing_to};
 use model::{Refusal, Send, Side, Status};
 use numbers::{Minute, Spid};
 use version::{
@@ -42,7 +42,7 @@ fn facts(opened: Option<Version>) -> Option<CreateFacts> {
     })
 }
 
-fn first() -> Option<Version> {
+fn version_after_first() -> Option<Version> {
     let create = create(Creator::OldProvider { authorized: true })?;
     let facts = facts(None)?;
     match create.apply(create.old_provider, &facts, Minute::new(600)?, &PRESENT) {
@@ -51,10 +51,10 @@ fn first() -> Option<Version> {
     }
 }
 
-fn second() -> Option<Version> {
+fn version_after_second() -> Option<Version> {
     let routing = routing()?;
     let create = create(Creator::NewProvider { routing })?;
-    let facts = facts(Some(first()?))?;
+    let facts = facts(Some(version_after_first()?))?;
     match create.apply(create.new_provider, &facts, Minute::new(700)?, &PRESENT) {
         Ok(Created::Second { id: 6, version }) => Some(version),
         _ => None,
@@ -83,18 +83,18 @@ fn deadline_of(version: &Version) -> Option<u64> {
 }
 
 // Returns whether a version with one create is open, pending, and has the deadline 1680.
-fn is_offered(version: &Version) -> bool {
-    let stands = version.is_open() && !version.is_in_force() && !version.is_sent_too_often();
-    stands && version.status == Status::Pending && deadline_of(version) == Some(1680)
+fn is_pending_first(version: &Version) -> bool {
+    let is_only_open = version.is_open() && !version.is_in_force() && !version.is_sent_too_often();
+    is_only_open && version.status == Status::Pending && deadline_of(version) == Some(1680)
 }
 
 fn is_first() -> Option<bool> {
-    let version = first()?;
-    Some(is_offered(&version) && has_phases(&version))
+    let version = version_after_first()?;
+    Some(is_pending_first(&version) && has_phases(&version))
 }
 
 #[test]
-fn a_first_create_waits(rt: HostRuntime) {
+fn a_first_create_is_pending(rt: HostRuntime) {
     assert!(rt; is_first() == Some(true));
 }
 
@@ -106,9 +106,9 @@ fn is_agreed(version: &Version) -> Option<bool> {
 }
 
 // Returns the version activated at a minute, or the refusal.
-fn activated(both: &Version, number: u64) -> Option<Result<Version, Refusal>> {
+fn activate(both: &Version, number: u64) -> Option<Result<Version, Refusal>> {
     let minute = Minute::new(number)?;
-    let step = both.commanded(
+    let transition = both.commanded(
         VersionCommand::Activate,
         both.new_provider,
         CommandFacts::nothing(),
@@ -116,19 +116,19 @@ fn activated(both: &Version, number: u64) -> Option<Result<Version, Refusal>> {
         &WINDOWS,
         &PRESENT,
     );
-    Some(step.map(|step| step.version))
+    Some(transition.map(|transition| transition.version))
 }
 
 // Returns whether it is refused before its due minute, and sent at it.
 fn is_sent_when_due(both: &Version) -> Option<bool> {
     let sent = both.sending(Send::Create, Minute::new(5000)?, &PRESENT);
-    let is_early = activated(both, 4999)? == Err(Refusal::BeforeDue);
-    Some(is_early && activated(both, 5000)? == Ok(sent) && sent.attempt == 1)
+    let is_early = activate(both, 4999)? == Err(Refusal::BeforeDue);
+    Some(is_early && activate(both, 5000)? == Ok(sent) && sent.attempt == 1)
 }
 
 // Returns whether it is active after its completion, and has no deadline.
 fn is_completed(both: &Version) -> Option<bool> {
-    let sent = activated(both, 5000)?.ok()?;
+    let sent = activate(both, 5000)?.ok()?;
     let minute = Minute::new(5003)?;
     let active = sent.completed(minute, &PRESENT);
     Some(
@@ -138,9 +138,9 @@ fn is_completed(both: &Version) -> Option<bool> {
 }
 
 // A status, whether a broadcast was acknowledged, and the status after its window.
-type Ended = (Status, bool, Status);
+type ExpiryCase = (Status, bool, Status);
 
-fn ended() -> [Ended; 8] {
+fn expiry_cases() -> [ExpiryCase; 8] {
     [
         (Status::Pending, false, Status::Canceled),
         (Status::Conflict, false, Status::Canceled),
@@ -163,7 +163,7 @@ fn ended() -> [Ended; 8] {
 
 // Returns whether the minute turns the version in the one status into the same version in the
 // other.
-fn is_ended(both: &Version, end: Minute, row: Ended) -> bool {
+fn is_expired(both: &Version, end: Minute, row: ExpiryCase) -> bool {
     let (status, is_acknowledged, after) = row;
     let fired = both
         .with_status(status, Minute::ZERO, &PRESENT)
@@ -171,10 +171,10 @@ fn is_ended(both: &Version, end: Minute, row: Ended) -> bool {
     fired == both.with_status(after, end, &PRESENT)
 }
 
-fn are_ended(both: &Version) -> Option<bool> {
+fn are_expired(both: &Version) -> Option<bool> {
     let end = Minute::new(9000)?;
-    for row in ended() {
-        if !is_ended(both, end, row) {
+    for row in expiry_cases() {
+        if !is_expired(both, end, row) {
             return Some(false);
         }
     }
@@ -184,19 +184,19 @@ fn are_ended(both: &Version) -> Option<bool> {
 
 // Returns whether the version is right after a second create, an activation, a completion and the
 // end of a window.
-fn goes_on() -> Option<[bool; 4]> {
-    let both = second()?;
+fn second_create_checks() -> Option<[bool; 4]> {
+    let both = version_after_second()?;
     Some([
         is_agreed(&both)?,
         is_sent_when_due(&both)?,
         is_completed(&both)?,
-        are_ended(&both)?,
+        are_expired(&both)?,
     ])
 }
 
 #[test]
-fn a_second_create_goes_on(rt: HostRuntime) {
-    assert_eq!(rt; goes_on(), Some([true; 4]));
+fn a_second_create_continues(rt: HostRuntime) {
+    assert_eq!(rt; second_create_checks(), Some([true; 4]));
 }
 
 // ---- what is wrong with a modify, from the least refusal to the greatest
@@ -212,14 +212,14 @@ const REFUSALS: [Refusal; 5] = [
 // Of 32 ways to be wrong, those with the bit of a refusal are wrong by it.
 const BITS: [usize; 5] = [1, 2, 4, 8, 16];
 
-fn is_wrong(way: usize, bit: usize) -> bool {
-    way & bit != 0
+fn has_mistake(mistakes: usize, bit: usize) -> bool {
+    mistakes & bit != 0
 }
 
 // Returns the least refusal of a way.
-fn least(way: usize) -> Option<Refusal> {
+fn least_refusal(mistakes: usize) -> Option<Refusal> {
     for (refusal, bit) in REFUSALS.iter().zip(BITS.iter()) {
-        if is_wrong(way, *bit) {
+        if has_mistake(mistakes, *bit) {
             return Some(*refusal);
         }
     }
@@ -227,16 +227,16 @@ fn least(way: usize) -> Option<Refusal> {
 }
 
 // Returns a version to modify, with a wrong status and too many attempts if the way says so.
-fn standing(way: usize) -> Option<Version> {
+fn version_to_modify(mistakes: usize) -> Option<Version> {
     let minute = Minute::new(5003)?;
-    let active = second()?.with_status(Status::Active, minute, &PRESENT);
+    let active = version_after_second()?.with_status(Status::Active, minute, &PRESENT);
     Some(Version {
-        status: if is_wrong(way, 8) {
+        status: if has_mistake(mistakes, 8) {
             Status::PartialFailure
         } else {
             Status::Active
         },
-        attempt: if is_wrong(way, 16) {
+        attempt: if has_mistake(mistakes, 16) {
             ID_LIMIT - 1
         } else {
             ID_LIMIT - 2
@@ -246,34 +246,34 @@ fn standing(way: usize) -> Option<Version> {
 }
 
 // Returns the refusal of the modify, if it is refused.
-fn modify_refusal(way: usize) -> Option<Option<Refusal>> {
-    let version = standing(way)?;
-    let told = CommandFacts {
-        is_another_open: is_wrong(way, 4),
-        is_lrn_good: !is_wrong(way, 1),
+fn modify_refusal(mistakes: usize) -> Option<Option<Refusal>> {
+    let version = version_to_modify(mistakes)?;
+    let facts = CommandFacts {
+        is_another_open: has_mistake(mistakes, 4),
+        is_lrn_good: !has_mistake(mistakes, 1),
     };
-    let caller = if is_wrong(way, 2) {
+    let caller = if has_mistake(mistakes, 2) {
         version.old_provider
     } else {
         version.new_provider
     };
-    let routing = routed_to("2025440001")?;
-    let step = version.commanded(
+    let routing = routing_to("2025440001")?;
+    let transition = version.commanded(
         VersionCommand::ModifyRouting { routing },
         caller,
-        told,
+        facts,
         Minute::new(5004)?,
         &WINDOWS,
         &PRESENT,
     );
-    Some(step.err())
+    Some(transition.err())
 }
 
 // Returns the first way with another refusal.
-fn first_other_refusal() -> Option<usize> {
-    for way in 0..32 {
-        if modify_refusal(way) != Some(least(way)) {
-            return Some(way);
+fn first_wrong_refusal() -> Option<usize> {
+    for mistakes in 0..32 {
+        if modify_refusal(mistakes) != Some(least_refusal(mistakes)) {
+            return Some(mistakes);
         }
     }
     None
@@ -281,5 +281,5 @@ fn first_other_refusal() -> Option<usize> {
 
 #[test]
 fn a_modify_is_refused_by_the_least_refusal(rt: HostRuntime) {
-    assert_eq!(rt; first_other_refusal(), None);
+    assert_eq!(rt; first_wrong_refusal(), None);
 }

@@ -49,10 +49,10 @@ fn numbers(alloc: Global, rows: &[InUse]) -> Option<Vec<NumberInUse>> {
     Some(numbers)
 }
 
-// Returns the first `many` lines from 000 on, and these others.
-fn lines(alloc: Global, many: u64, others: &[u64]) -> Option<Vec<Line>> {
+// Returns the first `count` lines from 000 on, and these others.
+fn lines(alloc: Global, count: u64, others: &[u64]) -> Option<Vec<Line>> {
     let mut lines = Vec::new(alloc);
-    for line in 0..many {
+    for line in 0..count {
         lines.push(tn_of(line)?.line()).ok()?;
     }
     for line in others {
@@ -64,14 +64,18 @@ fn lines(alloc: Global, many: u64, others: &[u64]) -> Option<Vec<Line>> {
 // Facts about a block: its code's holder, whether the routing number is good, its donor ("" is
 // none), and the id of the next version.
 #[derive(Clone, Copy)]
-struct Known {
+struct KnownFacts {
     code_holder: &'static str,
     is_lrn_good: bool,
     donor: &'static str,
     next_id: u64,
 }
 
-fn facts<'a>(known: &Known, last: Option<Version>, numbers: &'a [NumberInUse]) -> BlockFacts<'a> {
+fn facts<'a>(
+    known: &KnownFacts,
+    last: Option<Version>,
+    numbers: &'a [NumberInUse],
+) -> BlockFacts<'a> {
     BlockFacts {
         code_holder: Spid::read(known.code_holder),
         is_lrn_good: known.is_lrn_good,
@@ -83,7 +87,7 @@ fn facts<'a>(known: &Known, last: Option<Version>, numbers: &'a [NumberInUse]) -
 }
 
 // The block's code is BBBB's, and the block is not donated.
-const OWN: Known = Known {
+const NOT_DONATED: KnownFacts = KnownFacts {
     code_holder: "BBBB",
     is_lrn_good: true,
     donor: "",
@@ -91,14 +95,14 @@ const OWN: Known = Known {
 };
 
 // BBBB has donated the block.
-const DONATED: Known = Known {
+const DONATED: KnownFacts = KnownFacts {
     donor: "BBBB",
-    ..OWN
+    ..NOT_DONATED
 };
 
 // ---- donations
 
-fn planned(
+fn plan_donation(
     alloc: Global,
     caller: &str,
     used: &[Line],
@@ -119,7 +123,7 @@ fn planned(
 }
 
 // Returns the protective version of a number of BBBB at 700, built by hand.
-fn protective(tn: Tn, routing: Routing) -> Option<Version> {
+fn protective_version(tn: Tn, routing: Routing) -> Option<Version> {
     let donor = Spid::read("BBBB")?;
     let minute = Minute::new(700)?;
     Some(Version {
@@ -141,13 +145,13 @@ fn protective(tn: Tn, routing: Routing) -> Option<Version> {
 
 // Returns whether the version is that of a line.
 fn is_protective(version: &Version, line: u64) -> Option<bool> {
-    Some(*version == protective(tn_of(line)?, routing()?)?)
+    Some(*version == protective_version(tn_of(line)?, routing()?)?)
 }
 
 // Returns whether the versions are those of these lines, in their order, each after its id.
 fn are_protective(versions: &[(u64, Version)], lines: &[(u64, u64)]) -> bool {
-    for ((id, version), (wanted, line)) in versions.iter().zip(lines) {
-        if id != wanted || is_protective(version, *line) != Some(true) {
+    for ((id, version), (expected, line)) in versions.iter().zip(lines) {
+        if id != expected || is_protective(version, *line) != Some(true) {
             return false;
         }
     }
@@ -157,7 +161,7 @@ fn are_protective(versions: &[(u64, Version)], lines: &[(u64, u64)]) -> bool {
 // The number of versions in a plan, and the line of the first.
 type Size = (usize, Option<u64>);
 
-fn size(plan: &Plan) -> Size {
+fn plan_size(plan: &Plan) -> Size {
     match plan.versions.first() {
         Some((_, version)) => (plan.versions.len(), line_of(version.subject)),
         None => (0, None),
@@ -172,9 +176,9 @@ fn line_of(subject: Subject) -> Option<u64> {
 }
 
 // How many lines are named from 000 on, and which others; the numbers with a version; and the plan.
-type Named = (u64, &'static [u64], &'static [InUse], Result<Size, Refusal>);
+type DonationCase = (u64, &'static [u64], &'static [InUse], Result<Size, Refusal>);
 
-static NAMED: [Named; 11] = [
+static DONATION_CASES: [DonationCase; 11] = [
     (0, &[], &[], Ok((0, None))),
     (100, &[], &[], Ok((100, Some(0)))),
     (101, &[], &[], Err(Refusal::Contaminated)),
@@ -191,20 +195,20 @@ static NAMED: [Named; 11] = [
     (100, &[], &[(0, true, true)], Ok((99, Some(1)))),
 ];
 
-fn size_of(alloc: Global, row: &Named) -> Option<Result<Size, Refusal>> {
+fn planned_size(alloc: Global, row: &DonationCase) -> Option<Result<Size, Refusal>> {
     let lines = lines(alloc, row.0, row.1)?;
     let numbers = numbers(alloc, row.2)?;
-    match planned(alloc, "BBBB", &lines, &facts(&OWN, None, &numbers))? {
-        Ok(plan) => Some(Ok(size(&plan))),
+    match plan_donation(alloc, "BBBB", &lines, &facts(&NOT_DONATED, None, &numbers))? {
+        Ok(plan) => Some(Ok(plan_size(&plan))),
         Err(refusal) => Some(Err(refusal)),
     }
 }
 
 // Returns the first row with another plan.
-fn planned_otherwise(alloc: Global) -> Option<usize> {
-    for (at, row) in NAMED.iter().enumerate() {
-        if size_of(alloc, row) != Some(row.3) {
-            return Some(at);
+fn first_wrong_plan(alloc: Global) -> Option<usize> {
+    for (index, row) in DONATION_CASES.iter().enumerate() {
+        if planned_size(alloc, row) != Some(row.3) {
+            return Some(index);
         }
     }
     None
@@ -212,13 +216,13 @@ fn planned_otherwise(alloc: Global) -> Option<usize> {
 
 #[test]
 fn a_donation_counts_each_number_once(rt: HostRuntime) {
-    assert_eq!(rt; planned_otherwise(rt.alloc()), None);
+    assert_eq!(rt; first_wrong_plan(rt.alloc()), None);
 }
 
 // Returns whether the versions are right if lines are named in any order.
-fn are_whole(alloc: Global) -> Option<bool> {
+fn are_versions_expected(alloc: Global) -> Option<bool> {
     let lines = lines(alloc, 0, &[7, 3, 5, 3])?;
-    let plan = planned(alloc, "BBBB", &lines, &facts(&OWN, None, &[]))?.ok()?;
+    let plan = plan_donation(alloc, "BBBB", &lines, &facts(&NOT_DONATED, None, &[]))?.ok()?;
     Some(are_protective(&plan.versions, &[(41, 3), (42, 5), (43, 7)]))
 }
 
@@ -234,48 +238,48 @@ fn ends_of(versions: &[(u64, Version)]) -> Option<[(u64, Option<u64>); 2]> {
 // Returns the ends of a plan for a hundred lines.
 fn ends_of_a_hundred(alloc: Global) -> Option<[(u64, Option<u64>); 2]> {
     let lines = lines(alloc, 100, &[])?;
-    let plan = planned(alloc, "BBBB", &lines, &facts(&OWN, None, &[]))?.ok()?;
+    let plan = plan_donation(alloc, "BBBB", &lines, &facts(&NOT_DONATED, None, &[]))?.ok()?;
     ends_of(&plan.versions)
 }
 
 #[test]
-fn protective_versions_take_ids_by_rising_number(rt: HostRuntime) {
-    assert_eq!(rt; are_whole(rt.alloc()), Some(true));
+fn protective_versions_take_ids_by_ascending_number(rt: HostRuntime) {
+    assert_eq!(rt; are_versions_expected(rt.alloc()), Some(true));
     let ends = [(41, Some(0)), (140, Some(99))];
     assert_eq!(rt; ends_of_a_hundred(rt.alloc()), Some(ends));
 }
 
-fn repeated(alloc: Global) -> Option<Size> {
+fn size_of_repeated(alloc: Global) -> Option<Size> {
     let mut lines = Vec::new(alloc);
     for _ in 0..100_000 {
         lines.push(tn_of(0)?.line()).ok()?;
     }
-    let plan = planned(alloc, "BBBB", &lines, &facts(&OWN, None, &[]))?.ok()?;
-    Some(size(&plan))
+    let plan = plan_donation(alloc, "BBBB", &lines, &facts(&NOT_DONATED, None, &[]))?.ok()?;
+    Some(plan_size(&plan))
 }
 
 #[test]
 fn a_line_may_be_named_very_often(rt: HostRuntime) {
-    assert_eq!(rt; repeated(rt.alloc()), Some((1, Some(0))));
+    assert_eq!(rt; size_of_repeated(rt.alloc()), Some((1, Some(0))));
 }
 
 // The donor, the facts about the block, how many lines are named, whether a number is being ported,
 // and the refusal.
-type Donor = (&'static str, Known, u64, bool, Option<Refusal>);
+type DonorCase = (&'static str, KnownFacts, u64, bool, Option<Refusal>);
 
-static DONORS: [Donor; 13] = [
-    ("BBBB", OWN, 1, false, None),
+static DONOR_CASES: [DonorCase; 13] = [
+    ("BBBB", NOT_DONATED, 1, false, None),
     ("BBBB", DONATED, 1, false, Some(Refusal::BlockTaken)),
     ("BBBB", DONATED, 1, true, Some(Refusal::OpenPorts)),
     ("BBBB", DONATED, 101, true, Some(Refusal::Contaminated)),
     ("AAAA", DONATED, 101, true, Some(Refusal::NotYours)),
-    ("AAAA", OWN, 1, false, Some(Refusal::NotYours)),
-    ("NPAC", OWN, 1, false, Some(Refusal::NotYours)),
+    ("AAAA", NOT_DONATED, 1, false, Some(Refusal::NotYours)),
+    ("NPAC", NOT_DONATED, 1, false, Some(Refusal::NotYours)),
     (
         "AAAA",
-        Known {
+        KnownFacts {
             is_lrn_good: false,
-            ..OWN
+            ..NOT_DONATED
         },
         1,
         false,
@@ -283,9 +287,9 @@ static DONORS: [Donor; 13] = [
     ),
     (
         "BBBB",
-        Known {
+        KnownFacts {
             code_holder: "",
-            ..OWN
+            ..NOT_DONATED
         },
         1,
         false,
@@ -293,10 +297,10 @@ static DONORS: [Donor; 13] = [
     ),
     (
         "BBBB",
-        Known {
+        KnownFacts {
             code_holder: "",
             is_lrn_good: false,
-            ..OWN
+            ..NOT_DONATED
         },
         1,
         false,
@@ -305,9 +309,9 @@ static DONORS: [Donor; 13] = [
     // Ids are below 2^40.
     (
         "BBBB",
-        Known {
+        KnownFacts {
             next_id: ID_LIMIT - 2,
-            ..OWN
+            ..NOT_DONATED
         },
         2,
         false,
@@ -315,9 +319,9 @@ static DONORS: [Donor; 13] = [
     ),
     (
         "BBBB",
-        Known {
+        KnownFacts {
             next_id: ID_LIMIT - 2,
-            ..OWN
+            ..NOT_DONATED
         },
         3,
         false,
@@ -325,7 +329,7 @@ static DONORS: [Donor; 13] = [
     ),
     (
         "BBBB",
-        Known {
+        KnownFacts {
             next_id: ID_LIMIT - 2,
             ..DONATED
         },
@@ -336,7 +340,7 @@ static DONORS: [Donor; 13] = [
 ];
 
 // Returns line 500 in use if it is being ported.
-fn ported(alloc: Global, is_ported: bool) -> Option<Vec<NumberInUse>> {
+fn ported_numbers(alloc: Global, is_ported: bool) -> Option<Vec<NumberInUse>> {
     if is_ported {
         numbers(alloc, &[(500, false, true)])
     } else {
@@ -344,16 +348,16 @@ fn ported(alloc: Global, is_ported: bool) -> Option<Vec<NumberInUse>> {
     }
 }
 
-fn donor_refused(alloc: Global, row: &Donor) -> Option<Option<Refusal>> {
+fn donor_refusal(alloc: Global, row: &DonorCase) -> Option<Option<Refusal>> {
     let lines = lines(alloc, row.2, &[])?;
-    let numbers = ported(alloc, row.3)?;
-    Some(planned(alloc, row.0, &lines, &facts(&row.1, None, &numbers))?.err())
+    let numbers = ported_numbers(alloc, row.3)?;
+    Some(plan_donation(alloc, row.0, &lines, &facts(&row.1, None, &numbers))?.err())
 }
 
-fn donated_otherwise(alloc: Global) -> Option<usize> {
-    for (at, row) in DONORS.iter().enumerate() {
-        if donor_refused(alloc, row) != Some(row.4) {
-            return Some(at);
+fn first_wrong_donation(alloc: Global) -> Option<usize> {
+    for (index, row) in DONOR_CASES.iter().enumerate() {
+        if donor_refusal(alloc, row) != Some(row.4) {
+            return Some(index);
         }
     }
     None
@@ -361,13 +365,13 @@ fn donated_otherwise(alloc: Global) -> Option<usize> {
 
 #[test]
 fn a_donation_is_refused(rt: HostRuntime) {
-    assert_eq!(rt; donated_otherwise(rt.alloc()), None);
+    assert_eq!(rt; first_wrong_donation(rt.alloc()), None);
 }
 
 // ---- assignments
 
 // Returns the version of the block being assigned from BBBB to CCCC at 700, built by hand.
-fn assigned() -> Option<Version> {
+fn assigned_version() -> Option<Version> {
     let minute = Minute::new(700)?;
     Some(Version {
         subject: Subject::Block(block()?),
@@ -386,7 +390,7 @@ fn assigned() -> Option<Version> {
     })
 }
 
-fn made(caller: &str, facts: &BlockFacts<'_>) -> Option<Result<Version, Refusal>> {
+fn assign(caller: &str, facts: &BlockFacts<'_>) -> Option<Result<Version, Refusal>> {
     let assignment = Assignment {
         block: block()?,
         holder: Spid::read("CCCC")?,
@@ -396,7 +400,7 @@ fn made(caller: &str, facts: &BlockFacts<'_>) -> Option<Result<Version, Refusal>
 }
 
 // Returns statuses of the block's last version, and whether the block is taken in each.
-fn lasts() -> [(Status, bool); 6] {
+fn last_statuses() -> [(Status, bool); 6] {
     [
         (Status::Failed, false),
         (Status::Old, false),
@@ -408,48 +412,48 @@ fn lasts() -> [(Status, bool); 6] {
 }
 
 // Returns an earlier version of the block, which is AAAA's.
-fn earlier(status: Status) -> Option<Version> {
+fn earlier_version(status: Status) -> Option<Version> {
     Some(Version {
         new_provider: Spid::read("AAAA")?,
         status,
         since: Minute::new(650)?,
         held: 1,
-        ..assigned()?
+        ..assigned_version()?
     })
 }
 
-fn is_made(last: Option<Version>, is_taken: bool) -> Option<bool> {
-    let made = made("NPAC", &facts(&DONATED, last, &[]))?;
-    let wanted = if is_taken {
+fn is_assigned(last: Option<Version>, is_taken: bool) -> Option<bool> {
+    let assigned = assign("NPAC", &facts(&DONATED, last, &[]))?;
+    let expected = if is_taken {
         Err(Refusal::BlockTaken)
     } else {
-        Ok(assigned()?)
+        Ok(assigned_version()?)
     };
-    Some(made == wanted)
+    Some(assigned == expected)
 }
 
-fn are_made() -> Option<bool> {
-    for (status, is_taken) in lasts() {
-        if !is_made(Some(earlier(status)?), is_taken)? {
+fn are_assigned() -> Option<bool> {
+    for (status, is_taken) in last_statuses() {
+        if !is_assigned(Some(earlier_version(status)?), is_taken)? {
             return Some(false);
         }
     }
-    is_made(None, false)
+    is_assigned(None, false)
 }
 
 #[test]
 fn a_block_is_assigned_unless_it_is_taken(rt: HostRuntime) {
-    assert_eq!(rt; are_made(), Some(true));
+    assert_eq!(rt; are_assigned(), Some(true));
 }
 
 // The assigner, the facts about the block, whether it is active, whether one of its numbers is
 // being ported, and the refusal.
-type Assigner = (&'static str, Known, bool, bool, Option<Refusal>);
+type AssignerCase = (&'static str, KnownFacts, bool, bool, Option<Refusal>);
 
-static ASSIGNERS: [Assigner; 9] = [
+static ASSIGNER_CASES: [AssignerCase; 9] = [
     (
         "AAAA",
-        Known {
+        KnownFacts {
             code_holder: "",
             ..DONATED
         },
@@ -460,7 +464,7 @@ static ASSIGNERS: [Assigner; 9] = [
     ("BBBB", DONATED, false, false, Some(Refusal::NotAdmin)),
     (
         "NPAC",
-        Known {
+        KnownFacts {
             code_holder: "",
             is_lrn_good: false,
             ..DONATED
@@ -471,20 +475,20 @@ static ASSIGNERS: [Assigner; 9] = [
     ),
     (
         "NPAC",
-        Known {
+        KnownFacts {
             is_lrn_good: false,
-            ..OWN
+            ..NOT_DONATED
         },
         false,
         false,
         Some(Refusal::BadLrn),
     ),
-    ("NPAC", OWN, false, true, Some(Refusal::NotFound)),
+    ("NPAC", NOT_DONATED, false, true, Some(Refusal::NotFound)),
     ("NPAC", DONATED, false, true, Some(Refusal::OpenPorts)),
     ("NPAC", DONATED, true, true, Some(Refusal::OpenPorts)),
     (
         "NPAC",
-        Known {
+        KnownFacts {
             next_id: ID_LIMIT,
             ..DONATED
         },
@@ -494,7 +498,7 @@ static ASSIGNERS: [Assigner; 9] = [
     ),
     (
         "NPAC",
-        Known {
+        KnownFacts {
             next_id: ID_LIMIT - 1,
             ..DONATED
         },
@@ -504,20 +508,20 @@ static ASSIGNERS: [Assigner; 9] = [
     ),
 ];
 
-fn active() -> Option<Version> {
-    earlier(Status::Active)
+fn active_version() -> Option<Version> {
+    earlier_version(Status::Active)
 }
 
-fn assigner_refused(alloc: Global, row: &Assigner) -> Option<Option<Refusal>> {
-    let last = if row.2 { active() } else { None };
-    let numbers = ported(alloc, row.3)?;
-    Some(made(row.0, &facts(&row.1, last, &numbers))?.err())
+fn assigner_refusal(alloc: Global, row: &AssignerCase) -> Option<Option<Refusal>> {
+    let last = if row.2 { active_version() } else { None };
+    let numbers = ported_numbers(alloc, row.3)?;
+    Some(assign(row.0, &facts(&row.1, last, &numbers))?.err())
 }
 
-fn assigned_otherwise(alloc: Global) -> Option<usize> {
-    for (at, row) in ASSIGNERS.iter().enumerate() {
-        if assigner_refused(alloc, row) != Some(row.4) {
-            return Some(at);
+fn first_wrong_assignment(alloc: Global) -> Option<usize> {
+    for (index, row) in ASSIGNER_CASES.iter().enumerate() {
+        if assigner_refusal(alloc, row) != Some(row.4) {
+            return Some(index);
         }
     }
     None
@@ -525,12 +529,12 @@ fn assigned_otherwise(alloc: Global) -> Option<usize> {
 
 #[test]
 fn an_assignment_is_refused(rt: HostRuntime) {
-    assert_eq!(rt; assigned_otherwise(rt.alloc()), None);
+    assert_eq!(rt; first_wrong_assignment(rt.alloc()), None);
 }
 
 // ---- releases
 
-fn released(caller: &str, facts: &BlockFacts<'_>) -> Option<Result<Transition, Refusal>> {
+fn release_block(caller: &str, facts: &BlockFacts<'_>) -> Option<Result<Transition, Refusal>> {
     Some(release(Spid::read(caller)?, facts, Minute::new(800)?, &PRESENT))
 }
 
@@ -538,7 +542,7 @@ fn released(caller: &str, facts: &BlockFacts<'_>) -> Option<Result<Transition, R
 fn is_released(caller: &str, attempt: u64) -> Option<bool> {
     let last = Version {
         attempt: attempt.checked_sub(1)?,
-        ..active()?
+        ..active_version()?
     };
     let version = Version {
         status: Status::SendingDelete,
@@ -548,7 +552,10 @@ fn is_released(caller: &str, attempt: u64) -> Option<bool> {
         ..last
     };
     let sends = Some(Send::Delete);
-    Some(released(caller, &facts(&DONATED, Some(last), &[]))? == Ok(Transition { version, sends }))
+    Some(
+        release_block(caller, &facts(&DONATED, Some(last), &[]))?
+            == Ok(Transition { version, sends }),
+    )
 }
 
 // Returns whether its holder, the administrator, and its holder at the greatest attempt may release
@@ -569,20 +576,20 @@ fn a_block_is_released(rt: HostRuntime) {
 // The releaser of AAAA's block, the facts about it, its last version's attempt (0 is never
 // assigned) and whether that is a partial failure, whether a number is being ported, and the
 // refusal.
-type Releaser = (&'static str, Known, (u64, bool), bool, Refusal);
+type ReleaserCase = (&'static str, KnownFacts, (u64, bool), bool, Refusal);
 
-static RELEASERS: [Releaser; 11] = [
+static RELEASER_CASES: [ReleaserCase; 11] = [
     (
         "AAAA",
-        Known {
+        KnownFacts {
             code_holder: "",
-            ..OWN
+            ..NOT_DONATED
         },
         (1, false),
         false,
         Refusal::UnknownCode,
     ),
-    ("AAAA", OWN, (1, false), false, Refusal::NotFound),
+    ("AAAA", NOT_DONATED, (1, false), false, Refusal::NotFound),
     ("AAAA", DONATED, (0, false), false, Refusal::NotFound),
     ("AAAA", DONATED, (0, false), true, Refusal::NotFound),
     ("BBBB", DONATED, (1, false), false, Refusal::NotYours),
@@ -600,11 +607,11 @@ static RELEASERS: [Releaser; 11] = [
     ("AAAA", DONATED, (ID_LIMIT - 1, false), false, Refusal::Full),
 ];
 
-fn last_of(attempt: u64, is_partial: bool) -> Option<Version> {
+fn last_version(attempt: u64, is_partial: bool) -> Option<Version> {
     if attempt == 0 {
         return None;
     }
-    let active = active()?;
+    let active = active_version()?;
     let status = if is_partial {
         Status::PartialFailure
     } else {
@@ -617,17 +624,17 @@ fn last_of(attempt: u64, is_partial: bool) -> Option<Version> {
     })
 }
 
-fn releaser_refused(alloc: Global, row: &Releaser) -> Option<Refusal> {
+fn releaser_refusal(alloc: Global, row: &ReleaserCase) -> Option<Refusal> {
     let (attempt, is_partial) = row.2;
-    let numbers = ported(alloc, row.3)?;
-    let facts = facts(&row.1, last_of(attempt, is_partial), &numbers);
-    released(row.0, &facts)?.err()
+    let numbers = ported_numbers(alloc, row.3)?;
+    let facts = facts(&row.1, last_version(attempt, is_partial), &numbers);
+    release_block(row.0, &facts)?.err()
 }
 
-fn released_otherwise(alloc: Global) -> Option<usize> {
-    for (at, row) in RELEASERS.iter().enumerate() {
-        if releaser_refused(alloc, row) != Some(row.4) {
-            return Some(at);
+fn first_wrong_release(alloc: Global) -> Option<usize> {
+    for (index, row) in RELEASER_CASES.iter().enumerate() {
+        if releaser_refusal(alloc, row) != Some(row.4) {
+            return Some(index);
         }
     }
     None
@@ -635,18 +642,18 @@ fn released_otherwise(alloc: Global) -> Option<usize> {
 
 #[test]
 fn a_release_is_refused(rt: HostRuntime) {
-    assert_eq!(rt; released_otherwise(rt.alloc()), None);
+    assert_eq!(rt; first_wrong_release(rt.alloc()), None);
 }
 
 // ---- servers
 
 // The versions of a number and its block: in force (DDDD's), open (EEEE's) and protective; the
 // block donated, and in force (CCCC's); and the code open (BBBB's).
-type Stands = (bool, (bool, bool), (bool, bool), bool);
+type NumberState = (bool, (bool, bool), (bool, bool), bool);
 
 // The ground of a number's server.
 #[derive(Clone, Copy, Debug, PartialEq, Eq)]
-enum By {
+enum ServerKind {
     Version,
     Block,
     Pool,
@@ -654,53 +661,65 @@ enum By {
 }
 
 // The versions, the ground, and the server ("" for nobody).
-type Served = (Stands, By, &'static str);
+type ServedCase = (NumberState, ServerKind, &'static str);
 
-static SERVED: [Served; 10] = [
+static SERVED_CASES: [ServedCase; 10] = [
     (
         (true, (false, false), (false, false), true),
-        By::Version,
+        ServerKind::Version,
         "DDDD",
     ),
     (
         (true, (true, true), (true, true), true),
-        By::Version,
+        ServerKind::Version,
         "DDDD",
     ),
     (
         (false, (true, true), (true, false), true),
-        By::Version,
+        ServerKind::Version,
         "EEEE",
     ),
     (
         (false, (true, true), (true, true), true),
-        By::Version,
+        ServerKind::Version,
         "EEEE",
     ),
     (
         (false, (true, false), (true, true), true),
-        By::Block,
+        ServerKind::Block,
         "CCCC",
     ),
-    ((false, (true, false), (true, false), true), By::Pool, ""),
+    (
+        (false, (true, false), (true, false), true),
+        ServerKind::Pool,
+        "",
+    ),
     (
         (false, (false, false), (true, true), true),
-        By::Block,
+        ServerKind::Block,
         "CCCC",
     ),
-    ((false, (false, false), (true, false), true), By::Pool, ""),
+    (
+        (false, (false, false), (true, false), true),
+        ServerKind::Pool,
+        "",
+    ),
     (
         (false, (true, false), (false, false), true),
-        By::Code,
+        ServerKind::Code,
         "BBBB",
     ),
-    ((false, (false, false), (false, false), false), By::Code, ""),
+    (
+        (false, (false, false), (false, false), false),
+        ServerKind::Code,
+        "",
+    ),
 ];
 
 // Returns a version of this provider, if there is one.
-fn version_to(is_there: bool, provider: &str, is_protective: bool) -> Option<Version> {
-    let version = active()?;
-    if !is_there {
+fn version_of(exists: bool, provider: &str, is_protective: bool) -> Option<Version> {
+    let version = active_version()?;
+    if !exists {
         return None;
     }
     Some(Version {
@@ -710,31 +729,31 @@ fn version_to(is_there: bool, provider: &str, is_protective: bool) -> Option<Ver
     })
 }
 
-fn serving_facts(stands: &Stands) -> ServingFacts {
-    let (is_in_force, (is_open, is_protective), (is_donated, is_block), is_code) = *stands;
+fn serving_facts(state: &NumberState) -> ServingFacts {
+    let (is_in_force, (is_open, is_protective), (is_donated, is_block), is_code) = *state;
     ServingFacts {
-        in_force: version_to(is_in_force, "DDDD", false),
-        opened: version_to(is_open, "EEEE", is_protective),
+        in_force: version_of(is_in_force, "DDDD", false),
+        opened: version_of(is_open, "EEEE", is_protective),
         is_donated,
-        block_in_force: version_to(is_block, "CCCC", false),
+        block_in_force: version_of(is_block, "CCCC", false),
         code_holder: Spid::read(if is_code { "BBBB" } else { "" }),
     }
 }
 
-fn kind_of(server: &Server) -> By {
+fn kind_of(server: &Server) -> ServerKind {
     match server {
-        Server::Version(_) => By::Version,
-        Server::Block(_) => By::Block,
-        Server::Pool => By::Pool,
-        Server::Code(_) => By::Code,
+        Server::Version(_) => ServerKind::Version,
+        Server::Block(_) => ServerKind::Block,
+        Server::Pool => ServerKind::Pool,
+        Server::Code(_) => ServerKind::Code,
     }
 }
 
-fn served_otherwise() -> Option<usize> {
-    for (at, (stands, wanted, carrier)) in SERVED.iter().enumerate() {
-        let server = serving(&serving_facts(stands));
-        if kind_of(&server) != *wanted || server.carrier() != Spid::read(carrier) {
-            return Some(at);
+fn first_wrong_server() -> Option<usize> {
+    for (index, (state, expected, carrier)) in SERVED_CASES.iter().enumerate() {
+        let server = serving(&serving_facts(state));
+        if kind_of(&server) != *expected || server.carrier() != Spid::read(carrier) {
+            return Some(index);
         }
     }
     None
@@ -742,5 +761,5 @@ fn served_otherwise() -> Option<usize> {
 
 #[test]
 fn a_number_is_served(rt: HostRuntime) {
-    assert_eq!(rt; served_otherwise(), None);
+    assert_eq!(rt; first_wrong_server(), None);
 }
