@@ -1,9 +1,9 @@
-"""Refusals a second of an acknowledgement that comes too early, behind N downloads of other numbers, and 100 N.
+"""Measures refusals a second of an acknowledgement that is out of order, with N other downloads pending, and 100 N.
 
-    bench/run behind [N]      (1000 where it is left out; needs the built program)
+    bench/run behind [N]      (default 1000; needs the built program)
 
-A carrier of ten, for which a delete and then a create of one number wait and N downloads of other numbers, acknowledges
-the create again and again, which is refused. Seconds of the processor are counted. The best of three runs each.
+For one carrier of ten, a delete and then a create of one number are pending, and N downloads of other numbers. It
+acknowledges the create again and again, which is refused. Processor time; the best of three runs each.
 """
 from lib.measure import best, counts, folder
 from lib.messages import acknowledgement, clock, count_of, on_version

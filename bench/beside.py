@@ -1,10 +1,10 @@
-"""Processor time and peak memory beside another program's, over streams of every kind.
+"""Measures processor time and peak memory beside another program, over streams of every kind.
 
-    bench/run beside FOLDER [DIVISOR]      (1 where it is left out; needs the built program, and in FOLDER `compare`
-                                            and `ordinary`, the other program, which takes the same words)
+    bench/run beside FOLDER [DIVISOR]      (default 1; needs the built program, and in FOLDER `compare` and `ordinary`,
+                                            the other program, which has the same command line)
 
-The two run in turns, five times each, over streams that are cut to a part of their size by DIVISOR. Prints for each the
-other's processor time as a share of ours, and our peak memory as a multiple of the other's.
+The two run in turns, five times each, over streams divided by DIVISOR. For each stream it prints the other's processor
+time as a share of ours, and our peak memory as a multiple of the other's.
 """
 import re
 import subprocess

@@ -1,11 +1,11 @@
-"""Messages a second and peak memory, of N blocks from the donation to the holder, and of 10 N.
+"""Measures messages a second and peak memory, of N blocks from donation to holder, and of 10 N.
 
-    bench/run blocks [N]      (100 where it is left out; needs the built program)
+    bench/run blocks [N]      (default 100; needs the built program)
 
-Each is donated with a hundred lines in use and assigned, every broadcast of it acknowledged by ten carriers, and at
-the end twenty numbers of each are queried. It takes the next 101 ids: one for each line in use, by rising number, and
-one for itself. Everything comes in minute 0, so that no window ends. Each answer is compared byte for byte with what
-the rules say. The best of three runs each.
+Each block is donated with a hundred lines in use and assigned. Ten carriers acknowledge every broadcast of it. At the
+end twenty numbers of each block are queried. A block takes 101 ids: one for each line in use, ascending, and one for
+itself. Everything happens in minute 0, so that no window ends. Each response is compared byte for byte with what the
+rules say. The best of three runs each.
 """
 from lib.measure import compare, counts
 from lib.messages import acknowledgement, answer, said, text_of

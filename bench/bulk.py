@@ -1,10 +1,10 @@
-"""Rows a second and peak memory, of files of N commands and of 2 N, of files all refused, and of M exported subjects.
+"""Measures rows a second and peak memory, of files of N commands and of 2 N, of refused files, and of exports.
 
-    bench/run bulk [N [M [PROGRAM]]]      (400000 and 1000000 where they are left out; needs the built program)
+    bench/run bulk [N [M [PROGRAM]]]      (default 400000 and 1000000; needs the built program)
 
-Half of the rows of a file are creates by new providers and half by old ones. Beside PROGRAM, another program that takes
-the same words, it prints the other's processor time as a share of ours, our peak memory as a multiple of its own, and
-whether the two write the same. The best of three runs each, by turns.
+Half of the rows are creates by new providers, half by old ones; the export has M subjects. With PROGRAM, another one
+with the same command line, it prints the other's processor time as a share of ours, our peak memory as a multiple of
+its own, and whether the two write the same. The best of three runs each, in turns.
 """
 import hashlib
 import os

@@ -1,9 +1,9 @@
-"""Messages a second and peak memory, of N/2 and N open broadcasts, under a stack of 1 MiB.
+"""Measures messages a second and peak memory, of N/2 and N open broadcasts, with a stack of 1 MiB.
 
-    bench/run deep [N]      (100000 where it is left out, 1000000 at most; needs the built program)
+    bench/run deep [N]      (default 100000, at most 1000000; needs the built program)
 
-N activations that nobody acknowledges, the registration of one more carrier, which so becomes a recipient of N open
-broadcasts in one commit, and its acknowledgement of each. Each answer is looked at. One run each.
+N activations that nobody acknowledges. One more carrier registers, becomes a recipient of N open broadcasts in one
+commit, and acknowledges each. Each response is checked. One run each.
 """
 import resource
 from itertools import repeat

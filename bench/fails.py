@@ -1,10 +1,10 @@
-"""That stories are answered as they should be where any call of their store fails, and where a message is cut.
+"""Tests stories in which a call of the store fails, or a message is cut.
 
-    bench/run fails [NAME ..]      (all stories where none is named; needs the built player of stories:
-                                    cd crates/stories && rt run -- opening)
+    bench/run fails [NAME ..]      (default all stories; needs the built player of stories: cd crates/stories &&
+                                    rt run -- opening)
 
-Each call of a store fails in turn, once and from then on, over memory and over a database, and each message is cut
-after each of its bytes. The gate does the same with some of the calls of a database and some of the stories cut.
+Each call of a store fails in turn, once and from then on, over memory and over a database. Each message is cut after
+each of its bytes. The gate does the same with a part of the calls and of the stories.
 """
 import re
 import subprocess

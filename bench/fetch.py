@@ -1,10 +1,9 @@
-"""Acknowledgements a second and peak memory, of a queue of N downloads, and of one of 10 N.
+"""Measures acknowledgements a second and peak memory, of a queue of N downloads, and of one of 10 N.
 
-    bench/run fetch [N [file]]      (10000 where it is left out; needs the built program)
+    bench/run fetch [N [file]]      (default 10000; needs the built program)
 
-One carrier of ten, for which the downloads wait, fetches a hundred at a time and acknowledges them, to the end. Seconds
-of the processor are counted, the fetches in them. In memory the best of three runs each; with the word `file` the
-register stands in one, and each runs once.
+One carrier of ten fetches a hundred downloads at a time and acknowledges them, to the end. Processor time, fetches
+included. In memory the best of three runs each; with the word `file` the register is in a file, and each runs once.
 """
 import re
 

@@ -1,12 +1,11 @@
-"""Messages and queries a second of a register in a file, beside stock SQLite, and how long a large file takes to open.
+"""Measures messages and queries a second of a register in a file, beside stock SQLite, and how long files take to open.
 
-    bench/run file [N [M [V [PROGRAM]]]]      (1000, 10000 and 4000 where they are left out; needs the built program
-                                               and strace)
+    bench/run file [N [M [V [PROGRAM]]]]      (default 1000, 10000 and 4000; needs the built program and strace)
 
-N ports and then M queries of their numbers are fed to the program over a file, and the same SQL, a transaction for
-each message, is given to stock SQLite (Python's module). With PROGRAM, another one that takes the same words is timed
-beside. Then a file of V versions in force, which stock SQLite wrote, is opened; and the same file made one of the
-first form, which is moved. Seconds on the clock are counted.
+The program gets N ports and then M queries of their numbers, over a file. Stock SQLite (Python's module) gets the same
+SQL, a transaction for each message. With PROGRAM, another one with the same command line is timed too. Then a file of V
+versions in force, written by stock SQLite, is opened, and the same file in the first format, which is migrated. Wall
+time.
 """
 import hashlib
 import sqlite3

@@ -1,10 +1,9 @@
-"""What each crate takes of the processors while the gate proves all from nothing.
+"""Measures the processor time of each crate while the gate proves everything from nothing.
 
-    bench/run gate [WORDS ..]      (the command that is run: rt ci --anew where it is left out; wants a clean clone)
+    bench/run gate [WORDS ..]      (default the command rt ci --anew; needs a clean clone)
 
-That is its proof, that of its tests, its must-fail edits, and what else it starts, looked up in /proc twice a second;
-and how long the whole took, on how many processors, and how much of them other work had. What is proved anew is what
-is counted: some 140 processor minutes on a busy machine.
+It counts the crate's proof, that of its tests, its must-fail edits and whatever else it starts, by looking at /proc
+twice a second. It prints the time of the whole, on how many processors, and how much of them other work used.
 """
 import os
 import re

@@ -1,9 +1,9 @@
-"""The instructions of the program and of another for a message, over a part of the streams of `beside`.
+"""Measures the instructions of the program and of another for a message, over a part of the streams of `beside`.
 
-    bench/run instructions FOLDER [DIVISOR]      (100 where it is left out; needs the built program, valgrind, and in
-                                                  FOLDER `ordinary`, the other program, which takes the same words)
+    bench/run instructions FOLDER [DIVISOR]      (default 100; needs the built program, valgrind, and in FOLDER
+                                                  `ordinary`, the other program, which has the same command line)
 
-They are the same at each run, whatever else the machine does.
+Counts are equal in each run, whatever else the machine does.
 """
 import re
 import subprocess

@@ -1,9 +1,9 @@
-"""Firings a second, where the windows of N versions, and of 2 N, end in one jump of the clock.
+"""Measures firings a second, if the windows of N versions, and of 2 N, end in one jump of the clock.
 
-    bench/run jump [N]      (100000 where it is left out; needs the built program)
+    bench/run jump [N]      (default 100000; needs the built program)
 
-The versions are creates of one side; a carrier that registers after the jump settles them all. The seconds of the
-processor of that registration are counted. The best of three runs each.
+The versions have one create each. A carrier that registers after the jump settles them all. Processor time of that
+registration; the best of three runs each.
 """
 from lib.measure import best, counts, folder
 from lib.messages import clock, count_of, question, registered

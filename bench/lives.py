@@ -1,9 +1,8 @@
-"""Messages a second and peak memory, of N numbers that are disputed, cancelled, ported and given back, and of 2 N.
+"""Measures messages a second and peak memory, of N numbers with every command on a version, and of 2 N.
 
-    bench/run lives [N]      (50000 where it is left out; needs the built program)
+    bench/run lives [N]      (default 50000; needs the built program)
 
-Every command on a version: 15 messages a life, two versions, whose answers are looked at one by one. The best of three
-runs each.
+They are disputed, cancelled, ported and given back: 15 messages a number, two versions. Each response is checked. The best of three runs each.
 """
 from itertools import repeat
 

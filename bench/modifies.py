@@ -1,11 +1,11 @@
-"""Messages a second and peak memory, of N ported numbers routed anew while the windows are set anew, and of 4 N.
+"""Measures messages a second and peak memory, of N ported numbers that are modified under changing windows, and of 4 N.
 
-    bench/run modifies [N]      (5000 where it is left out; needs the built program)
+    bench/run modifies [N]      (default 5000; needs the built program)
 
-They come in rounds, at most so many as there can be sets of windows. Each round sets the windows, ports its numbers
-and modifies their routings; then the clock goes to the end of the broadcasts' window, and they are looked at and
-queried. A third of the modifies is acknowledged by every carrier, a third by some in time and by the others later, a
-third by nobody. Each answer is compared byte for byte with what the rules say. The best of three runs each.
+They come in rounds, at most as many as there can be sets of windows. Each round replaces the windows, ports its numbers
+and modifies their routings. Then the clock moves to the end of the broadcasts' window, and the versions are read and
+queried. Of the modifies every carrier acknowledges a third, some carriers a third in time and the others later, and
+nobody a third. Each response is compared byte for byte with what the rules say. The best of three runs each.
 """
 from lib.measure import compare, counts
 from lib.messages import acknowledgement, answer, message, question, said, text_of

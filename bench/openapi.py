@@ -1,8 +1,8 @@
-"""That the examples of docs/openapi.yaml are answered as they stand there, in the order of their turns.
+"""Tests the examples of docs/openapi.yaml: each is answered as it is written, in the order of its turns.
 
     bench/run openapi      (needs the built program, and PyYAML)
 
-A served register is asked each on a connection of its own.
+A served register gets each on a connection of its own.
 """
 import http.client
 import json

@@ -1,9 +1,9 @@
-"""Messages a second and peak memory, of N ports among ten carriers, and of twice as many.
+"""Measures messages a second and peak memory, of N ports among ten carriers, and of 2 N.
 
-    bench/run ports [N]      (20000 where it is left out; needs the built program)
+    bench/run ports [N]      (default 20000; needs the built program)
 
-Both creates, the activation and ten acknowledgements each. The best of five runs, which write their answers nowhere;
-those of another run are looked at.
+Both creates, the activation and ten acknowledgements each. The best of five runs, which discard their output; the
+responses of another run are checked.
 """
 from itertools import repeat
 

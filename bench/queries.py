@@ -1,8 +1,8 @@
-"""Queries a second, M of them, among a thousand, ten thousand and a hundred thousand ported numbers.
+"""Measures queries a second, M of them, among a thousand, ten thousand and a hundred thousand ported numbers.
 
-    bench/run queries [M]      (300000 where it is left out; needs the built program)
+    bench/run queries [M]      (default 300000; needs the built program)
 
-Seconds of the processor are counted, from when the ports are answered on. The best of three runs each.
+Processor time after the ports are answered. The best of three runs each.
 """
 from lib.measure import best, counts, folder
 from lib.messages import count_of

@@ -1,9 +1,9 @@
-"""That each allocation of files of commands, exports and audits, refused in turn, is answered so and leaves what was.
+"""Tests files of commands, exports and audits with each of their allocations refused in turn.
 
-    bench/run refused-files      (needs gcc, and the built tests of trials: cd crates/memory_tests && rt test)
+    bench/run refused-files      (needs gcc, and the built tests: cd crates/memory_tests && rt test)
 
-The tests are those of `files::refused`: a run of a file of commands, an export and an audit that meet the refusal have
-to be told so, to have written no more than whole lines, and to be whole at the next time.
+The tests are those of `files::allocation_failures`: a run of a file of commands, an export and an audit whose allocation
+is refused report it, have written only whole lines, and succeed the next time.
 """
 import re
 import subprocess
@@ -21,7 +21,7 @@ def main(words):
     listed = subprocess.run([TESTS, "--list"], capture_output=True, text=True, check=True).stdout
     with folder() as held:
         refusing = Refusing(held)
-        for name in re.findall(r"files::refused::[a-z_]*", listed):
+        for name in re.findall(r"files::allocation_failures::[a-z_]*", listed):
             whole, count = refusing.counted([TESTS, name], stdout=subprocess.DEVNULL)
             whole.check_returncode()
             for place in range(1, count + 1):

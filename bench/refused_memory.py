@@ -1,11 +1,10 @@
-"""That each allocation of two streams and of a dozen stories, refused in turn, is answered so and leaves what was.
+"""Tests two streams and a dozen stories with each of their allocations refused in turn.
 
-    bench/run refused-memory [FILE]      (the messages of FILE alone, where it is named; needs the built program and
-                                          gcc)
+    bench/run refused-memory [FILE]      (default all, otherwise the messages of FILE; needs the built program and gcc)
 
-The streams are the first port, and a registration beside open broadcasts; the stories meet every call. A message that
-met the refusal has to be answered `no_memory`, and sent again as if nothing had been; or the program ends with
-`no_memory`, and all answers before are right.
+The streams are the first port, and a registration beside open broadcasts; the stories use every call. The message
+whose allocation was refused is answered with `no_memory`, and when it is sent again, as if nothing had happened. Or the
+program ends with `no_memory`, and all responses before are right.
 """
 import io
 import sys

@@ -1,9 +1,9 @@
-"""Messages a second of a client of `npacd serve` that waits for each answer: on one connection, and on one for each.
+"""Measures messages a second of a client of `npacd serve` that waits for each response.
 
-    bench/run serve [N]      (20000 where it is left out; needs the built program)
+    bench/run serve [N]      (default 20000; needs the built program)
 
-N queries on one connection, and a connection for each of N / 10, with one that says garbage beside them. Every answer
-is looked at. Seconds on the clock are counted.
+N queries on one connection, and a connection for each of N / 10, with one that sends garbage beside them. Each response
+is checked. Wall time.
 """
 import socket
 
