@@ -5,10 +5,10 @@
 
 A proof sees the other functions of its crate by their contracts alone, so wrong bodies of different functions do not meet. They are put
 into one copy of the crate, which is checked once. One of them is refused where its own function has a goal of its own that is not
-proved; that it calls another function that is not proved says nothing. What was not refused so stays for the next check, alone among
-those that were not, until a check refuses none of them: what is left then is proved, and the crate's contracts are too weak.
+proved; that it calls another function that is not proved says nothing. What was not refused stays for the next check, only with
+others that were not, until a check refuses none of them: what is left then is proved, and the crate's contracts are too weak.
 
-The file tests/refused records the edits that did as they have to, each with a checksum of all that it stands on: the edit, and the
+The file tests/refused records the edits that did as they have to, each with a checksum of all that it depends on: the edit, and the
 sources, definitions and proofs of its crate and of those below. The checksum is over tokens, so that neither a comment nor the layout
 of code sends an edit back to be tried. With --changed only edits without such a record are tried, so that the gate pays only for what
 changed. The file tests/untried names those that were refused when they were last tried, and wait to be tried over the sources as they
@@ -100,7 +100,11 @@ def function_at(crate, path, before):
         stop(f"{crate}/{path}: no function stands there")
     indent, name = found[-1].groups()
     if indent:
-        trait, argument, subject = re.findall(r"^impl(?:<.*?>)? (?:([\w:]+)(?:<(\w+).*?>)? for )?(\w+)", before, re.M)[-1]
+        trait, argument, subject = re.findall(r"^impl(?:<.*?>)? (?:([\w:]+)(?:<(\w+).*?>)? for )?(\w+|\(.*?\))", before, re.M)[-1]
+        if subject.startswith("("):
+            # the checker names a tuple by its length and its types
+            types = re.findall(r"\w+", subject)
+            subject = f"Tuple{len(types)}" + "".join(name[0].upper() + name[1:] for name in types)
         # an impl of one kind of the type alone names that kind behind it, as in Store+File::open
         return rf"{crate}::(?:\w+::)*{subject}{trait.split('::')[-1]}(?:{argument})?(?:\+[\w+]+)?::{name}"
     module = path.removeprefix("src/").removesuffix(".rt").removesuffix("/mod")
