@@ -1,11 +1,13 @@
 //! A carrier's copy of what is in force.
-ghost use Rattle.std.specs.Prelude.{◌≡◌, map, None, option_map, IfOk, OnOk, OnErr};
+ghost use Rattle.std.specs.Prelude.{◌≡◌, ◌≢◌, map, None, option_map, IfOk, OnOk, OnErr};
 ghost use Rattle.numbers.specs.Abstraction.{routing_of, subject_of};
 ghost use Rattle.numbers.specs.declared.ported.Subject.{Subject as SubjectImpl};
-ghost use Rattle.model.specs.Copies.{copy_after_download, copy_of_rows};
+ghost use Rattle.model.specs.declared.words.Action.TheVariants.{Delete};
+ghost use Rattle.model.specs.Copies.{copy_after_download, copy_of_rows, routing_left};
 ghost use Rattle.delivery.specs.Mirrors.{routing_in_copy, download_of, in_force_of};
 
 use crate::download::Download;
+use model::Action;
 use numbers::{Routing, Subject};
 use std::alloc::{AllocError, Global};
 use std::collections::BTreeMap;
@@ -39,6 +41,17 @@ fn routings_of(alloc: Global, rows: &[RoutedRow]) -> Result<BTreeMap<Subject, Ro
     Ok(routings)
 }
 
+// Returns the routing that the download leaves in a copy.
+fn routing_left(download: &Download) -> Option<Routing>
+    ensures { option_map routing_of result
+        ≡ routing_left download.now.action (option_map routing_of download.now.routing) }
+{
+    match download.action {
+        Action::Create | Action::Modify => download.routing,
+        Action::Delete => None,
+    }
+}
+
 impl Mirror {
     /// Creates an empty copy.
     pub fn new(alloc: Global) -> Mirror
@@ -67,11 +80,11 @@ impl Mirror {
     }
 
     /// Applies a download: a create or a modify sets the routing of its subject, a delete removes
-    /// it.
+    /// it, whatever routing it carries.
     ///
     /// # Errors
     ///
-    /// `AllocError` if an allocation fails; the copy is then unchanged. A delete allocates nothing.
+    /// `AllocError` if an allocation fails; the copy is then unchanged. A delete does not fail.
     pub fn apply(&mut self, download: &Download) -> Result<(), AllocError>
         ensures applied { OnOk result ((s : SubjectImpl)
             → routing_in_copy self.new.routings s
@@ -79,8 +92,9 @@ impl Mirror {
             (routing_in_copy self.old.routings s)) }
         ensures same { OnErr result ((s : SubjectImpl)
             → routing_in_copy self.new.routings s ≡ routing_in_copy self.old.routings s) }
+        ensures delete { OnErr result (download.now.action ≢ Delete) }
     {
-        match download.routing {
+        match routing_left(download) {
             Some(routing) => {
                 let _ = self.routings.insert(download.subject, routing)?;
             }

@@ -58,9 +58,15 @@ fn follow(
     Ok([started, deleted, ported, routings_in(mirror)])
 }
 
-fn stages(alloc: Global, old: Routing, new: Routing) -> Option<CopyStages> {
+// The stages, with a delete that carries this routing.
+fn stages(
+    alloc: Global,
+    old: Routing,
+    new: Routing,
+    carried: Option<Routing>,
+) -> Option<CopyStages> {
     let rows = [row("2025331234", old)?, row("2025339999", old)?];
-    let delete = download(2, Action::Delete, None)?;
+    let delete = download(2, Action::Delete, carried)?;
     let create = download(3, Action::Create, Some(new))?;
     let mut mirror = Mirror::new(alloc);
     follow(&mut mirror, &rows, &delete, &create).ok()
@@ -78,5 +84,6 @@ fn a_copy_follows_its_downloads(rt: HostRuntime) {
         [Some(new), Some(old)],
         [None, None],
     ];
-    assert_eq!(rt; stages(rt.alloc(), old, new), Some(expected));
+    assert_eq!(rt; stages(rt.alloc(), old, new, None), Some(expected));
+    assert_eq!(rt; stages(rt.alloc(), old, new, Some(new)), Some(expected));
 }

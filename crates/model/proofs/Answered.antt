@@ -2,7 +2,6 @@
 use Rattle.std.proofs.Common.{◌≡◌, ℕ, Bool, true, false, cond, not, ◌||◌, List, [], ◌∷◌, Option, Some, None, refl, ap, sym, ◌∙◌, subst, arith}
 use Rattle.std.specs.Prelude.{◌==◌, find, is_none, option_map, option_and_then, if◌then◌else◌}
 use Rattle.std.specs.List.{list_any}
-use Rattle.std.proofs.lemmas.Bool.Decides.{nat_tests}
 use Rattle.numbers.specs.Subjects.{Subject, Number, Block}
 use Rattle.model.specs.Commands.{OldProviderCreate, NewProviderCreate, OnVersion, Assign, Release}
 use Rattle.model.specs.Versions.{Version, Record, version_with, first_of_versions, last_version}

@@ -1,5 +1,5 @@
 -- In every record the newest broadcast of a version that sends is open.
-use Rattle.std.proofs.Common.{◌≡◌, ℕ, Bool, true, false, List, [], ◌∷◌, map, refl, ap, ◌∙◌}
+use Rattle.std.proofs.Common.{◌≡◌, ℕ, Bool, true, false, List, ◌∷◌, map, refl, ap, ◌∙◌}
 use Rattle.std.specs.Prelude.{⊤, ◌==◌, if◌then◌else◌}
 use Rattle.model.specs.Statuses.{Send}
 use Rattle.model.specs.Statuses.{Create, Delete, Modify}

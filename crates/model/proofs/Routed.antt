@@ -38,7 +38,7 @@ routed_as v status is = (λ made. is, λ needs. is)
 
 -- A version that is activated has a routing: it failed, or is pending with the new provider's
 -- create.
-activated_routed : (v : Version) → (v.status ≡ Failed)
+pub activated_routed : (v : Version) → (v.status ≡ Failed)
     ⊎ ((v.status ≡ Pending) × (is_some v.new_at ≡ true)) → IsRouted v → is_some v.routing ≡ true
 activated_routed v (inl failed) is = is.1 (ap needs_routing failed)
 activated_routed v (inr pending) is = is.0 pending.1

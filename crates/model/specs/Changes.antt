@@ -17,6 +17,12 @@ action_of Create = CreateAction
 action_of Delete = DeleteAction
 action_of (Modify routing) = ModifyAction
 
+-- Whether a broadcast with this action carries a routing.
+abbrev pub carries_routing : Action → Bool
+carries_routing CreateAction = true
+carries_routing ModifyAction = true
+carries_routing DeleteAction = false
+
 -- The routing that a send carries.
 abbrev pub routing_sent : Send → Version → Option Routing
 routing_sent Create v = v.routing

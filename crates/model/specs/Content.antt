@@ -10,7 +10,7 @@ use Rattle.model.specs.Statuses.{Status}
 use Rattle.model.specs.Windows.{Windows, AreWindows, WindowSet}
 use Rattle.model.specs.Versions.{Broadcast, Version, Record, is_among, in_force, is_open, is_open_broadcast, last_version, version_with, waiters}
 use Rattle.model.specs.Judge.{has_expired, judge, caught_up}
-use Rattle.model.specs.History.{Entry, set_of_number, replay, carriers, lrn_owner, code_holder, donor_of, next_id}
+use Rattle.model.specs.History.{Entry, set_of_number, replay, carriers, lrn_owner, code_holder, donor_of}
 use Rattle.model.specs.State.{State, set_now, record_now, next_of}
 use Rattle.model.specs.Conditions.{limit}
 use Rattle.model.specs.Machine.{IsHistory, HasHistory}

@@ -2,15 +2,22 @@
 use Rattle.std.specs.Prelude.{ℕ, List, [], ◌∷◌, ◌++◌, fold, find, Option, Some, None, ◌==◌, if◌then◌else◌}
 use Rattle.numbers.specs.Subjects.{Subject, subject_eq}
 use Rattle.numbers.specs.Routings.{Routing}
+use Rattle.model.specs.declared.words.Action.{Action}
+use Rattle.model.specs.Changes.{carries_routing}
 use Rattle.model.specs.Windows.{Windows}
 use Rattle.model.specs.History.{Entry, Request, CommandRequest, AcknowledgementRequest}
 use Rattle.model.specs.State.{Download, InForce, registers, all_in_force, queue}
 use Rattle.model.specs.Refusals.{is_download}
 
--- The routing of s in a copy after one download. A create and a modify carry their routing, a
--- delete none.
+-- The routing that a download leaves in a copy: a create and a modify leave their own, a delete
+-- none.
+abbrev pub routing_left : Action → Option Routing → Option Routing
+routing_left action routing = if carries_routing action then routing else None
+
+-- The routing of s in a copy after one download.
 abbrev pub copy_after_download : Download → (s : Subject) → Option Routing → Option Routing
-copy_after_download d s before = if subject_eq d.subject s then d.routing else before
+copy_after_download d s before = if subject_eq d.subject s then routing_left d.action d.routing
+    else before
 
 -- The routing of s in a copy that has only these rows. Of two rows of one subject the later counts.
 abbrev pub copy_of_rows : List InForce → Subject → Option Routing

@@ -5,6 +5,8 @@ use Rattle.numbers.specs.Digits.{block_of}
 use Rattle.numbers.specs.Subjects.{Subject, Number, Block, subject_eq, subject_lt}
 use Rattle.numbers.specs.Routings.{Routing}
 use Rattle.model.specs.Commands.{RegisterCarrier, RegisterRoutingNumber, OpenCode, OldProviderCreate, NewProviderCreate, VersionCommand, OnVersion, Donate, Assign, Release, SetWindows}
+use Rattle.model.specs.declared.words.Action.{Action}
+use Rattle.model.specs.Changes.{carries_routing}
 use Rattle.model.specs.Statuses.{Status, Pending, Conflict, CancelPending, Sending, Active, PartialFailure, Failed, DisconnectPending, Old, Canceled}
 use Rattle.model.specs.Windows.{Windows, AreWindows, WindowSet}
 use Rattle.model.specs.Versions.{Broadcast, Version, Record, is_among, is_withdrawn, in_force, is_open, version_in_force, open_version, last_version}
@@ -71,6 +73,21 @@ AtMostTwoFirings =
 abbrev pub InForceIsRouted : Type 0
 InForceIsRouted = (st : State) → IsReachable st → (s : Subject) (v : Version)
     → version_in_force (record_now st s) ≡ Some v → is_some v.routing ≡ true
+
+-- Holds if a create or a modify has a routing, or a delete has none.
+abbrev pub FitsAction : Action → Option Routing → Type 0
+FitsAction action routing = is_some routing ≡ carries_routing action
+
+-- In every reachable state each broadcast of each version has a routing that fits its action.
+abbrev pub BroadcastsFitActions : Type 0
+BroadcastsFitActions = (st : State) → IsReachable st → (s : Subject)
+    → All (λ (v : Version). All (λ (b : Broadcast). FitsAction b.action b.routing) v.broadcasts)
+    (record_now st s).versions
+
+-- In every reachable state each download of each carrier's queue has one.
+abbrev pub DownloadsFitActions : Type 0
+DownloadsFitActions = (st : State) → IsReachable st → (c : ℕ)
+    → All (λ (d : Download). FitsAction d.action d.routing) (queue st c)
 
 -- Whether a request is on a version, or makes one. A donation makes any number of versions and is
 -- answered with their ids, so it does not count.

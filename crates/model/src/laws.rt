@@ -1,5 +1,5 @@
 //! Laws of the history machine, each the contract of a function that does nothing.
-ghost use Rattle.model.specs.Laws.{MinutesCompose, DeadlineSuffices, EmptyRepresentsFirst, NoTwoActive, AtMostTwoFirings, InForceIsRouted, VersionIsShown, RefusedByOwnTests, FirstRefusalIsLeast, CopyIsPublished, CopyIsInForce, CopyIsHanded, QueueIsPending, InForceIsListed, SubjectsAreDistinct, DonationKeepsService, AssignmentKeepsService, ReleaseKeepsService, NoPortUnderBlock};
+ghost use Rattle.model.specs.Laws.{MinutesCompose, DeadlineSuffices, EmptyRepresentsFirst, NoTwoActive, AtMostTwoFirings, InForceIsRouted, BroadcastsFitActions, DownloadsFitActions, VersionIsShown, RefusedByOwnTests, FirstRefusalIsLeast, CopyIsPublished, CopyIsInForce, CopyIsHanded, QueueIsPending, InForceIsListed, SubjectsAreDistinct, DonationKeepsService, AssignmentKeepsService, ReleaseKeepsService, NoPortUnderBlock};
 
 /// States the laws of minutes that a register with deadlines relies on.
 pub fn laws_of_minutes()
@@ -20,9 +20,12 @@ pub fn law_of_firings()
     ensures { AtMostTwoFirings }
 {}
 
-/// States that in every reachable state each version in force has a routing.
+/// States what has a routing in every reachable state. Each version in force has one. A broadcast,
+/// and its download, has one if it is a create or a modify, and none if it is a delete.
 pub fn law_of_routing()
-    ensures { InForceIsRouted }
+    ensures in_force { InForceIsRouted }
+    ensures broadcasts { BroadcastsFitActions }
+    ensures downloads { DownloadsFitActions }
 {}
 
 /// States that an accepted request on a version, or one that makes one, is answered with that

@@ -35,8 +35,7 @@ impl TelUri<'_> {
     ///
     /// # Errors
     ///
-    /// `AllocError` if an allocation fails; a prefix of the answer may have been appended. Only a
-    /// text with parameters needs a `Vec` besides the `String`.
+    /// `AllocError` if an allocation fails; a prefix of the answer may have been appended.
     pub fn write_answer(
         &self,
         alloc: Global,

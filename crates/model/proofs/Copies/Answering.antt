@@ -17,7 +17,7 @@ use Rattle.model.proofs.Accepted.{none_holds}
 use Rattle.model.proofs.Entered.{found_is, subject_eq-refl}
 use Rattle.model.proofs.Shown.{id_found}
 use Rattle.model.proofs.Begun.{HasBegun, begun_kept}
-use Rattle.model.proofs.Tended.{AreBelow, AreApart, IsTended, tended_kept}
+use Rattle.model.proofs.Tended.{AreApart, IsTended, tended_kept}
 use Rattle.model.proofs.Rising.{among-with_number}
 use Rattle.model.proofs.KeptVersions.{versions_kept}
 use Rattle.model.proofs.Copies.{Carrier, Placed, stands_for, place, own_of, own, placed, download_of, AreInOrder, AllMarked, each_own, each_placed}

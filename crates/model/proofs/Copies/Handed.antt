@@ -1,22 +1,25 @@
 -- A carrier's copy is the one that starts with the rows of its registration and takes the downloads
 -- that it has acknowledged.
-use Rattle.std.proofs.Common.{◌≡◌, ℕ, ◌≤◌, ◌⊎◌, inl, inr, Bool, true, false, not, ◌||◌, List, [], ◌∷◌, map, Option, Some, None, refl, ap, sym, ◌∙◌, subst, arith}
+use Rattle.std.proofs.Common.{◌≡◌, ℕ, ◌≤◌, ◌⊎◌, inl, inr, Bool, true, false, ◌||◌, List, [], ◌∷◌, map, Option, Some, None, refl, ap, sym, ◌∙◌, subst, arith}
 use Rattle.std.specs.Prelude.{◌==◌, fold, find, flat_map, option_and_then, if◌then◌else◌}
 use Rattle.std.specs.List.{list_any, AllByRecursion}
 use Rattle.std.proofs.lemmas.List.Sums.{fold-append}
 use Rattle.numbers.specs.Subjects.{Subject, subject_eq}
 use Rattle.numbers.specs.Routings.{Routing}
+use Rattle.model.specs.declared.words.Action.{Action}
+use Rattle.model.specs.declared.words.Action.TheVariants.{Create, Delete, Modify}
 use Rattle.model.specs.Windows.{Windows, AreWindows}
 use Rattle.model.specs.Versions.{Version, version_in_force}
 use Rattle.model.specs.History.{Request, CommandRequest, AcknowledgementRequest, Entry, replay}
 use Rattle.model.specs.State.{State, Download, InForce, record_now, registers, routing_in_force, all_in_force, downloads_acknowledged, first_of, download, queue, copy_of}
 use Rattle.model.specs.Refusals.{RequestFrom, refusal, is_download}
 use Rattle.model.specs.Machine.{IsHistory, HasHistory}
-use Rattle.model.specs.Laws.{IsReachable, IsRowInForce, CopyIsHanded}
-use Rattle.model.specs.Copies.{copy_after_download, copy_of_rows, rows_handed, acknowledged_of, and_then, downloads_handed, copy_handed}
+use Rattle.model.specs.Laws.{IsReachable, IsRowInForce, CopyIsHanded, FitsAction}
+use Rattle.model.specs.Copies.{routing_left, copy_after_download, copy_of_rows, rows_handed, acknowledged_of, and_then, downloads_handed, copy_handed}
 use Rattle.numbers.proofs.Small.{same_number, and_first, and_second, equal_number, negated}
 use Rattle.model.proofs.Lists.{Among, any_there, there_any, found-among, found-there, each_there}
 use Rattle.model.proofs.Ids.{same_subject}
+use Rattle.model.proofs.Fitting.{queued_fits}
 use Rattle.model.proofs.Entered.{subject_eq-refl}
 use Rattle.model.proofs.Listed.{row_is, row_there}
 use Rattle.model.proofs.Copies.{Carrier}
@@ -103,6 +106,14 @@ fold_then s start ds None = refl
 fold_then s start ds (Some d) =
     fold-append (λ before d. copy_after_download d s before) start ds (d ∷ [])
 
+-- A routing that fits its action is the one that is left.
+left_is : (action : Action) (routing : Option Routing) → FitsAction action routing
+    → routing_left action routing ≡ routing
+left_is Create routing fits = refl
+left_is Modify routing fits = refl
+left_is Delete None fits = refl
+left_is Delete (Some routing) fits = cc
+
 -- The carrier's own acknowledgement says of a subject what the download in the queue says.
 module _ (st : State) (is : HasHistory st) (s : Subject) (c id attempt : ℕ)
     (ok : refusal st (RequestFrom c (AcknowledgementRequest id attempt)) ≡ None) where
@@ -153,15 +164,20 @@ module _ (st : State) (is : HasHistory st) (s : Subject) (c id attempt : ℕ)
       by_cases : (o : Option Download) → of_it ≡ o
           → copied o before ≡ copy_after_download x s before
       by_cases None none =
-          sym (ap (λ b. if b then x.routing else before) (not_its x there.0 there.1 none))
+          sym (ap (λ b. if b then routing_left x.action x.routing else before)
+          (not_its x there.0 there.1 none))
       by_cases (Some d) some =
           let one : IsOf st is s c id attempt d = it_is_of st is s c id attempt d some in
           let same : x ≡ d = (same_download st is s c id attempt d one x there.0 there.1).0
           ∙ sym one.is_its in
           let about : subject_eq d.subject s ≡ true =
           ap (λ (y : Download). subject_eq y.subject s) one.is_its ∙ subject_eq-refl s in
-          sym (ap (λ y. copy_after_download y s before) same ∙ ap (λ b. if b then d.routing
-          else before) about)
+          let fits : FitsAction d.action d.routing =
+          subst (λ (y : Download). FitsAction y.action y.routing) same
+          (queued_fits st is c x there.0) in
+          sym (ap (λ y. copy_after_download y s before) same ∙ ap (λ b. if b
+          then routing_left d.action d.routing else before) about
+          ∙ left_is d.action d.routing fits)
 
   own_says : (before : Option Routing)
       → copied of_it before ≡ taken s (acknowledged_of c c (AcknowledgementRequest id attempt)
