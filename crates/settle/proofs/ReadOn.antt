@@ -1,5 +1,5 @@
 -- Read-only calls one after the other.
-use Rattle.std.proofs.Common.{◌≡◌, ℕ, ◌∙◌}
+use Rattle.std.proofs.Common.{◌≡◌, ◌∙◌}
 use Rattle.std.specs.Prelude.{⊤, Result, Err}
 use Rattle.std.proofs.Math.Nat.{le_trans}
 use Rattle.model.specs.Content.{Content}

@@ -13,8 +13,8 @@ use Rattle.model.proofs.Entered.{subject_eq-refl}
 use Rattle.model.proofs.Ids.{same_subject}
 use Rattle.model.proofs.Lists.{any_there, contains-among, there_any}
 use Rattle.numbers.proofs.Small.{same_number, neither, equal_number, impossible, or_false}
-use Rattle.settle.specs.Reads.{AreInBlock, HasRowInForce, IsInBlock, HasOpenRow}
-use Rattle.settle.specs.Settling.{IsSettled, FramesRows, Settles, ForStatesAtClock, is_one_of, is_within, those_with_block}
+use Rattle.settle.specs.Reads.{AreInBlock, HasRowInForce, IsInBlock, HasOpenRow, Reflects}
+use Rattle.settle.specs.Settling.{IsSettled, IsAtRest, FramesRows, Settles, ForStatesAtClock, is_one_of, is_within, those_with_block}
 use Rattle.settle.proofs.Among.{all-among}
 use Rattle.settle.proofs.Settled.{none-due, stays_settled}
 use Rattle.version.specs.declared.in_use.NumberInUse.{NumberInUse}
@@ -110,6 +110,31 @@ module _ (clock : ClockRow) (old mid read new : Content) (block : BlockId)
       unnamed apart false e = e
       unnamed apart true e =
           impossible (sym (any_inside old block.number numbers inside st s e) ∙ apart)
+
+  -- A number that is not among those that have an open version or one in force.
+  pub at_rest_elsewhere : (s : Subject) → subject_eq s (Block block.number) ≡ false
+      → IsAtRest old s → FramesRows old new s
+  at_rest_elsewhere s other rests st rep written =
+      stay s (listed_is numbers block s ∙ ap (λ b. b || subject_eq s (Block block.number))
+      (unnamed (is_any_of numbers s) refl) ∙ other) st rep is
+    where
+      used : (x : NumberInUse) → IsInBlock old block.number x → s ≡ Number x.tn.number → ⊥
+      used x its same = by_cases x.is_in_force x.is_open its.is_in_force its.is_open its.in_use
+        where
+          by_cases : (holds opens : Bool) → Reflects holds (HasRowInForce old (Number x.tn.number))
+              → Reflects opens (HasOpenRow old (Number x.tn.number)) → (holds || opens) ≡ true → ⊥
+          by_cases true opens held opened in_use =
+              rests.1 held.0 held.1 held.2 (held.3 ∙ ap (λ t. Some t) (sym same))
+          by_cases false true held opened in_use =
+              rests.0 opened.0 opened.1 opened.2 (opened.3 ∙ ap (λ t. Some t) (sym same))
+          by_cases false false held opened in_use = cc
+
+      unnamed : (b : Bool) → is_any_of numbers s ≡ b → is_any_of numbers s ≡ false
+      unnamed false e = e
+      unnamed true e =
+          let x = any_there (λ (n : NumberInUse). subject_eq s (Number n.tn.number)) numbers e in
+          absurd (used x.0 (all-among (IsInBlock old block.number) numbers inside.only x.0 x.1)
+          (sym (same_subject s (Number x.0.tn.number) x.2)))
 
   pub within_settled : ((s : Subject) → is_one_of subjects s ≡ true
       → ForStatesAtClock clock read (λ st. IsSettled new st s)) → (s : Subject)

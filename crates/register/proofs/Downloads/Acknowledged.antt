@@ -24,7 +24,7 @@ use Rattle.settle.proofs.Aside.{lagging_aside}
 use Rattle.settle.specs.Reads.{is_last_wait}
 use Rattle.settle.specs.Settling.{IsSettled}
 use Rattle.register.specs.Refinement.{Refines}
-use Rattle.register.specs.Settling.{FramesOthers}
+use Rattle.register.specs.Settling.{FramesUnchanged}
 use Rattle.register.proofs.EveryCall.Settled.{leaves_but, of_id_found, wait_subject}
 use Rattle.version.specs.Acknowledging.{is_sending, completed_if}
 use Rattle.register.specs.Acknowledging.{answered_row, own_rows, acknowledgement_changes}
@@ -496,7 +496,7 @@ module _ (st : State) (old new : Content) (refines : Refines old st) (caller : â
           waits = rest.waits;
         }
 
-    pub acknowledged-leaves : FramesOthers old new st
+    pub acknowledged-leaves : FramesUnchanged old new st
         (RequestFrom caller (AcknowledgementRequest id attempt))
     acknowledged-leaves =
         leaves_but old new st (RequestFrom caller (AcknowledgementRequest id attempt)) s

@@ -27,7 +27,7 @@ use Rattle.settle.specs.Reads.{AreWaitsAbout, is_last_wait}
 use Rattle.settle.specs.Changes.{Changes, AppliesChanges}
 use Rattle.settle.specs.Settling.{IsSettled}
 use Rattle.register.specs.Refinement.{Refines}
-use Rattle.register.specs.Settling.{SimulatesSettledStep, AreSettled, FramesOthers}
+use Rattle.register.specs.Settling.{SimulatesSettledStep, AreSettled, FramesUnchanged}
 use Rattle.register.proofs.EveryCall.Settled.{IdSettled, row_now, row_settled}
 use Rattle.requests.specs.Calls.{refused_with}
 use Rattle.settle.specs.Fired.{retired_rows, IsSuperseded}
@@ -272,7 +272,7 @@ answers_acknowledged old new caller id attempt clock row held u keys key broadca
         (accepted st (RequestFrom caller (AcknowledgementRequest id attempt)))
         (RequestFrom caller (AcknowledgementRequest id attempt)))
         × Refines new (accepted st (RequestFrom caller (AcknowledgementRequest id attempt)))
-        × FramesOthers old new st (RequestFrom caller (AcknowledgementRequest id attempt))
+        × FramesUnchanged old new st (RequestFrom caller (AcknowledgementRequest id attempt))
     each st refines settled = (
       none,
       acknowledged-answer st old new refines caller row.subject due key.minute.number id attempt

@@ -1,6 +1,6 @@
 -- A call that settles its subjects first: the content after settling, and the contract of the whole
 -- call.
-use Rattle.std.proofs.Common.{◌≡◌, ℕ, Bool, true, false, ◌||◌, [], ◌∷◌, Option, Some, None, refl, ap, sym, ◌∙◌}
+use Rattle.std.proofs.Common.{◌≡◌, ℕ, Bool, true, false, ◌||◌, ◌&&◌, [], ◌∷◌, Option, Some, None, refl, ap, sym, ◌∙◌}
 use Rattle.std.specs.Prelude.{is_some}
 use Rattle.std.specs.FinMap.{get}
 use Rattle.std.proofs.Math.Nat.{le_trans}
@@ -13,7 +13,9 @@ use Rattle.numbers.specs.declared.ported.Subject.{Subject as SubjectImpl}
 use Rattle.numbers.specs.declared.ported.Subject.TheVariants.{Number as NumberImpl, Block as BlockImpl}
 use Rattle.model.specs.Machine.{Reply, HasHistory}
 use Rattle.model.specs.State.{State, record_now}
-use Rattle.model.specs.Refusals.{Input}
+use Rattle.model.specs.Commands.{Command, Donate, Assign, Release}
+use Rattle.model.specs.History.{CommandRequest, AcknowledgementRequest}
+use Rattle.model.specs.Refusals.{Input, ClockMoment, RequestFrom, QuestionFrom, is_in_block}
 use Rattle.model.specs.Versions.{Version, version_with}
 use Rattle.model.specs.Content.{Content, VersionRow}
 use Rattle.model.proofs.Entered.{none_elsewhere, none_with, subject_eq-refl}
@@ -25,7 +27,7 @@ use Rattle.settle.specs.declared.store_model.StoreModel.{Ghosts}
 use Rattle.settle.proofs.Settled.{rows_joined}
 use Rattle.settle.proofs.Risen.{risen-since}
 use Rattle.register.specs.Refinement.{Refines, SimulatesStep}
-use Rattle.register.specs.Settling.{SimulatesSettledStep, AreSettled, PreservesAndFrames, FramesOthers, ReportsOnceSettled, SettlesThose, is_of_id, is_of_number, settles}
+use Rattle.register.specs.Settling.{SimulatesSettledStep, AreSettled, PreservesAndFrames, FramesOthers, FramesUnchanged, ReportsOnceSettled, SettlesThose, is_of_id, is_of_number, settles, settles_for, changes_for, changes_then}
 use Rattle.numbers.proofs.Small.{impossible, or_false}
 
 -- ---- some subjects
@@ -122,6 +124,33 @@ all_settled old new settled st refines s its = settled s st refines.represents r
 
 -- ---- the whole call
 
+-- A subject that a call does not settle is not one that it may change.
+pub unsettled_unchanged : (st : State) (input : Input) (t : Subject) → settles st input t ≡ false
+    → changes_then st input t ≡ false
+unsettled_unchanged st (ClockMoment minute) t other = other
+unsettled_unchanged st (RequestFrom caller (CommandRequest command)) t other =
+    by_command command other
+  where
+    first_apart : (b c : Bool) → (b || c) ≡ false → b ≡ false
+    first_apart false c e = refl
+    first_apart true c e = cc
+
+    fewer_apart : (b c d : Bool) → (b || c) ≡ false → (b || (c && d)) ≡ false
+    fewer_apart false false d e = refl
+    fewer_apart _ _ d e = cc
+
+    by_command : (command : Command) → settles_for command st t ≡ false
+        → changes_for command st t ≡ false
+    by_command (Donate block used lrn cic) e =
+        fewer_apart (subject_eq t (Block block)) (is_in_block block t) _ e
+    by_command (Assign block holder lrn cic) e =
+        first_apart (subject_eq t (Block block)) (is_in_block block t) e
+    by_command (Release block) e =
+        first_apart (subject_eq t (Block block)) (is_in_block block t) e
+    by_command _ e = e
+unsettled_unchanged st (RequestFrom caller (AcknowledgementRequest id attempt)) t other = other
+unsettled_unchanged st (QuestionFrom caller question) t other = other
+
 module _ (old mid new : Content) (input : Input)
     (kept : PreservesAndFrames (λ st s. settles st input s)
     old mid) (settled : SettlesThose (λ st s. settles st input s) old mid) where
@@ -137,15 +166,20 @@ module _ (old mid new : Content) (input : Input)
       let given = answers st (kept st refines).0 (are_settled st refines) in
       (given.0, given.1)
 
+  -- From the content between, the call changes only what it may.
+  pub unchanged_after : (reply : Option Reply) → SimulatesSettledStep mid new input reply
+      → (st : State) → Refines old st → FramesUnchanged mid new st input
+  unchanged_after None answers =
+      λ st refines. (answers st (kept st refines).0 (are_settled st refines)).1
+  unchanged_after (Some reply) answers =
+      λ st refines. (answers st (kept st refines).0 (are_settled st refines)).2
+
   pub leaves_after : (reply : Option Reply) → SimulatesSettledStep mid new input reply
       → (st : State)
       → Refines old st → FramesOthers old new st input
-  leaves_after None answers = λ st refines t other.
+  leaves_after reply answers = λ st refines t other.
       rows_joined t old mid new ((kept st refines).1 t other)
-      ((answers st (kept st refines).0 (are_settled st refines)).1 t other)
-  leaves_after (Some reply) answers = λ st refines t other.
-      rows_joined t old mid new ((kept st refines).1 t other)
-      ((answers st (kept st refines).0 (are_settled st refines)).2 t other)
+      (unchanged_after reply answers st refines t (unsettled_unchanged st input t other))
 
 -- A call keeps its promises if its settling does and, with its subjects settled, the rest of it
 -- does.

@@ -34,7 +34,7 @@ use Rattle.requests.specs.Calls.{refused_with}
 use Rattle.register.specs.declared.blocks.BlockRead.{BlockRead}
 use Rattle.register.specs.Refinement.{Refines}
 use Rattle.register.specs.Pooling.{block_changes}
-use Rattle.register.specs.Settling.{SimulatesSettledStep, AreSettled, FramesOthers, is_of_block}
+use Rattle.register.specs.Settling.{SimulatesSettledStep, AreSettled, FramesUnchanged, is_of_block}
 use Rattle.register.proofs.OnBlocks.BlockCalled.{HasFound, not_past}
 use Rattle.register.proofs.OnBlocks.BlockCommands.{assigned_row, assignment-blocks, assignment-makes, unsent_block}
 use Rattle.register.proofs.OnBlocks.BlockFacts.{block_facts_are}
@@ -184,16 +184,12 @@ module _ (old new : Content) (caller : ℕ) (a : Assignment) (clock : ClockRow) 
           by_cases true e = refl
           by_cases false e = cc
 
-      within : (t : Subject) → is_of_block a.block.number st t ≡ false
+      within : (t : Subject) → subject_eq t (Block a.block.number) ≡ false
           → list_any (subject_eq t) (Block a.block.number ∷ []) ≡ false
-      within t other = by_cases (subject_eq t (Block a.block.number)) other
-        where
-          by_cases : (b : Bool) → (b || is_in_block a.block.number t) ≡ false → (b || false) ≡ false
-          by_cases false e = refl
-          by_cases true e = cc
+      within t other = ap (λ b. b || false) other
 
       assigned-stands : Refines new after_it
-          × FramesOthers old new st (RequestFrom caller (CommandRequest (assigned a)))
+          × FramesUnchanged old new st (RequestFrom caller (CommandRequest (assigned a)))
       assigned-stands =
           pooled-stands st caller (CommandRequest (assigned a)) (Block a.block.number ∷ []) blank
           (assignment-makes st caller a.block.number a.holder.number a.routing.lrn.number cic)

@@ -23,7 +23,7 @@ use Rattle.settle.specs.Changes.{AppliesChanges}
 use Rattle.settle.specs.Settling.{IsSettled}
 use Rattle.settle.specs.Transition.{transition_changes}
 use Rattle.register.specs.Refinement.{Refines}
-use Rattle.register.specs.Settling.{FramesOthers}
+use Rattle.register.specs.Settling.{FramesUnchanged}
 use Rattle.register.proofs.OnBlocks.BlockCommands.{release-steps}
 use Rattle.register.proofs.EveryCall.Composed.{Views}
 use Rattle.register.proofs.OnVersions.OnVersion.{clock_is_of, clock_of}
@@ -149,7 +149,7 @@ module _ (st : State) (old new : Content) (caller block : ℕ) (v : Version) (u 
       v
       all_carriers clock one refines due found clock_is none are_all put
 
-  pub released-leaves : FramesOthers old new st
+  pub released-leaves : FramesUnchanged old new st
       (RequestFrom caller (CommandRequest (Release block)))
   released-leaves = stepped-leaves st old new caller (CommandRequest (Release block)) (Block block)
       v.id

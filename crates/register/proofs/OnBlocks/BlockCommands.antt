@@ -238,5 +238,5 @@ release-steps st old caller block v refines found forced = record {
       (one_in_force st old refines (Block block)) found forced);
   keeps = λ u. refl;
   stepped = (refl, ap (λ b. not b && true) forced);
-  settles = ap (λ b. b || false) (subject_eq-refl (Block block));
+  changes = subject_eq-refl (Block block);
 }

@@ -1,6 +1,6 @@
 -- The answer to a donation and the content after it.
-use Rattle.std.proofs.Common.{◌≡◌, ℕ, suc, ◌+◌, ◌≤◌, ◌<◌, Bool, true, false, List, [], ◌∷◌, ◌++◌, map, length, Some, None, refl, ap, sym, ◌∙◌, subst, inl, inr}
-use Rattle.std.specs.Prelude.{◌==◌, ◌≢◌, nat_lt, filter, is_none, Result, Err, if◌then◌else◌}
+use Rattle.std.proofs.Common.{◌≡◌, ℕ, suc, ◌+◌, ◌≤◌, ◌<◌, Bool, true, false, List, [], ◌∷◌, ◌++◌, map, length, Some, None, refl, ap, sym, ◌∙◌, subst, inl, inr, ◌&&◌}
+use Rattle.std.specs.Prelude.{◌||◌, ◌==◌, ◌≢◌, nat_lt, filter, is_none, Result, Err, if◌then◌else◌}
 use Rattle.std.specs.List.{list_any}
 use Rattle.std.specs.FinMap.{get, keys}
 use Rattle.numbers.specs.Digits.{block_of, number_in}
@@ -19,7 +19,7 @@ use Rattle.model.specs.Versions.{version_in_force}
 use Rattle.model.proofs.Accepted.{accepted_command}
 use Rattle.model.proofs.Ids.{same_subject}
 use Rattle.model.proofs.Lists.{Among, any_there, filtered-from, mapped-from}
-use Rattle.numbers.proofs.Small.{same_number, or_right}
+use Rattle.numbers.proofs.Small.{same_number, or_right, neither, impossible}
 use Rattle.version.specs.declared.version.Version.{Version as VersionImpl}
 use Rattle.settle.specs.Changes.{ClockMove, AppliesChanges}
 use Rattle.settle.specs.Sending.{SendingVersion, begun_of, sends_changes}
@@ -32,7 +32,7 @@ use Rattle.requests.specs.Calls.{replied}
 use Rattle.register.specs.declared.blocks.BlockRead.{BlockRead}
 use Rattle.register.specs.Refinement.{Refines}
 use Rattle.register.specs.Pooling.{block_changes}
-use Rattle.register.specs.Settling.{SimulatesSettledStep, AreSettled, FramesOthers, is_of_block}
+use Rattle.register.specs.Settling.{SimulatesSettledStep, AreSettled, FramesUnchanged, is_of_block}
 use Rattle.register.proofs.OnBlocks.BlockCalled.{HasFound, answers_or_no_memory, not_past}
 use Rattle.register.proofs.OnBlocks.BlockCommands.{donated_row, donation-blocks, donation-makes, protective, to_protect}
 use Rattle.register.proofs.OnBlocks.BlockFacts.{block_facts_are, facts_numbers_are}
@@ -61,20 +61,17 @@ each_line [] lines n there = absurd there
 each_line (m ∷ ms) lines n (inl is) = subst (λ k. k < 1000) (sym is) lines.0
 each_line (m ∷ ms) lines n (inr there) = each_line ms lines.1 n there
 
-used-inside : (st : State) (block : ℕ) (test : Subject → Bool) (used : List ℕ) → AreLines used
+used-inside : (block : ℕ) (test : Subject → Bool) (used : List ℕ) → AreLines used
     → (t : Subject) → list_any (subject_eq t) (filter test (used_numbers block used)) ≡ true
-    → is_of_block block st t ≡ true
-used-inside st block test used lines t named =
+    → is_in_block block t ≡ true
+used-inside block test used lines t named =
     let s = any_there (subject_eq t) (filter test (used_numbers block used)) named in
     let inner = filtered-from test (used_numbers block used) s.0 s.1 in
     let line = mapped-from (λ n. Number (number_in block n)) (rising used) s.0 inner.0 in
     let own : block_of (number_in block line.0) ≡ block =
     in_this_block block line.0 (each_line (rising used) (rising-lines used lines) line.0 line.1) in
     let is : t ≡ Number (number_in block line.0) = sym (same_subject t s.0 s.2) ∙ line.2 in
-    subst (λ x. is_of_block block st x ≡ true) (sym is)
-    (or_right (subject_eq (Number (number_in block line.0)) (Block block))
-    (is_in_block block (Number (number_in block line.0))) (ap (λ b. b == block) own
-    ∙ same_number block))
+    subst (λ x. is_in_block block x ≡ true) (sym is) (ap (λ b. b == block) own ∙ same_number block)
 
 -- ---- their ids
 
@@ -216,22 +213,31 @@ module _ (old new : Content) (caller : ℕ) (d : Donation) (clock : ClockRow) (r
       blocks k = put.blocks k ∙ donation-blocks st old caller d.block.number (lines_of d.used.now)
           d.routing.lrn.number (cic_of d) lines refines none k
 
-      is_due : (t : Subject) → list_any (subject_eq t) news ≡ true
-          → is_of_block d.block.number st t ≡ true
-      is_due t named =
-          used-inside st d.block.number (λ s. is_none (version_in_force (record_now st s)))
+      inside : (t : Subject) → list_any (subject_eq t) news ≡ true
+          → is_in_block d.block.number t ≡ true
+      inside t named =
+          used-inside d.block.number (λ s. is_none (version_in_force (record_now st s)))
           (lines_of d.used.now) lines t named
 
-      within : (t : Subject) → is_of_block d.block.number st t ≡ false
+      is_due : (t : Subject) → list_any (subject_eq t) news ≡ true
+          → is_of_block d.block.number st t ≡ true
+      is_due t named = or_right (subject_eq t (Block d.block.number)) (is_in_block d.block.number t)
+          (inside t named)
+
+      within : (t : Subject) → (subject_eq t (Block d.block.number)
+          || (is_in_block d.block.number t && list_any (subject_eq t) news)) ≡ false
           → list_any (subject_eq t) news ≡ false
       within t other = by_cases (list_any (subject_eq t) news) refl
+          (neither (subject_eq t (Block d.block.number)) _ other).1
         where
-          by_cases : (b : Bool) → list_any (subject_eq t) news ≡ b → b ≡ false
-          by_cases false e = refl
-          by_cases true e = let never : true ≡ false = sym (is_due t e) ∙ other in cc
+          by_cases : (b : Bool) → list_any (subject_eq t) news ≡ b
+              → (is_in_block d.block.number t && b) ≡ false → b ≡ false
+          by_cases false e apart = refl
+          by_cases true e apart =
+              impossible (sym (ap (λ b. b && true) (inside t e)) ∙ apart)
 
       donated-stands : Refines new (accepted st (RequestFrom caller (CommandRequest (donated d))))
-          × FramesOthers old new st (RequestFrom caller (CommandRequest (donated d)))
+          × FramesUnchanged old new st (RequestFrom caller (CommandRequest (donated d)))
       donated-stands =
           pooled-stands st caller (CommandRequest (donated d)) news (protective (set_now st) caller
           st.now

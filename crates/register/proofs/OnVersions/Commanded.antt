@@ -46,7 +46,7 @@ use Rattle.register.proofs.EveryCall.HeldSets.{row_held, windows-now}
 use Rattle.version.proofs.Commanded.{change_holds}
 use Rattle.requests.specs.Calls.{refused_with}
 use Rattle.register.specs.CommandFacts.{AreCommandFacts}
-use Rattle.register.specs.Settling.{SimulatesSettledStep, AreSettled, FramesOthers}
+use Rattle.register.specs.Settling.{SimulatesSettledStep, AreSettled, FramesUnchanged}
 use Rattle.register.proofs.Asking.Alone.{none_held, row_is_held}
 use Rattle.register.proofs.OnVersions.RowVersion.{row_version, row_subject}
 use Rattle.register.proofs.EveryCall.Composed.{answers_refused_same, answers_accepted, Views}
@@ -315,7 +315,7 @@ module _ (old : Content) (caller id : ℕ) (c : VersionCommand) (clock : ClockRo
           (accepted st (RequestFrom caller (CommandRequest (OnVersion id c))))
           (RequestFrom caller (CommandRequest (OnVersion id c))))
           × Refines new (accepted st (RequestFrom caller (CommandRequest (OnVersion id c))))
-          × FramesOthers old new st (RequestFrom caller (CommandRequest (OnVersion id c)))
+          × FramesUnchanged old new st (RequestFrom caller (CommandRequest (OnVersion id c)))
       each st refines settled = (
         none,
         stepped-answer st old new caller (CommandRequest (OnVersion id c)) s id change
@@ -403,7 +403,7 @@ module _ (old : Content) (caller id : ℕ) (c : VersionCommand) (clock : ClockRo
             keeps = λ v. change_id (set_now st) caller st.now (record_now st s).carriers c v;
             stepped = change_stepped (set_now st) (windows-now old st refines.represents) caller
                 st.now (record_now st s).carriers c shown.0 fit;
-            settles = of_id_found st s id shown.0 shown.1;
+            changes = of_id_found st s id shown.0 shown.1;
           }
 
           put : AppliesChanges (transition_changes id st.now (sends_of st.now c) s (change shown.0)

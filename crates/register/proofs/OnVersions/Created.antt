@@ -26,7 +26,7 @@ use Rattle.version.specs.Creates.{command_by, command_of, create_refusal, lacks,
 use Rattle.version.specs.Facts.{HasModelIfAny}
 use Rattle.settle.specs.Settling.{IsSettled}
 use Rattle.register.specs.Refinement.{Refines}
-use Rattle.register.specs.Settling.{SimulatesSettledStep, AreSettled, is_of_number, settles_for}
+use Rattle.register.specs.Settling.{SimulatesSettledStep, AreSettled, is_of_number, settles_for, changes_for}
 use Rattle.requests.specs.Calls.{refused_with}
 use Rattle.register.specs.Serving.{AreCreateFacts, IsVersionInForce, HasReadFacts, IsOpened, are_known}
 use Rattle.register.proofs.EveryCall.Composed.{answers_refused_same, first_refusal}
@@ -49,10 +49,16 @@ create_settled old st caller c settled s is =
     settled s (create_settles c.creator c.tn.number c.old_provider.number c.new_provider.number
     c.due.number st s ∙ is)
 
-pub settles_number : (st : State) (c : CreateImpl)
-    → settles_for (command_of c) st (Number c.tn.number) ≡ true
-settles_number st c =
-    create_settles c.creator c.tn.number c.old_provider.number c.new_provider.number c.due.number st
+create_changes : (creator : Creator) (tn old_provider new_provider due : ℕ) (st : State)
+    (s : Subject) →
+    changes_for (command_by creator tn old_provider new_provider due) st s ≡ is_of_number tn st s
+create_changes (OldProvider authorized) tn old_provider new_provider due st s = refl
+create_changes (NewProvider routing) tn old_provider new_provider due st s = refl
+
+pub changes_number : (st : State) (c : CreateImpl)
+    → changes_for (command_of c) st (Number c.tn.number) ≡ true
+changes_number st c =
+    create_changes c.creator c.tn.number c.old_provider.number c.new_provider.number c.due.number st
     (Number c.tn.number) ∙ number_of_number st c.tn.number
 
 -- ---- the contents that were read, and refusals

@@ -23,7 +23,7 @@ use Rattle.settle.specs.Changes.{AppliesChanges, ClockMove}
 use Rattle.settle.specs.Settling.{IsSettled}
 use Rattle.register.specs.Refinement.{Refines}
 use Rattle.register.specs.Serving.{HasReadFacts}
-use Rattle.register.specs.Settling.{SimulatesSettledStep, AreSettled, FramesOthers}
+use Rattle.register.specs.Settling.{SimulatesSettledStep, AreSettled, FramesUnchanged}
 use Rattle.settle.specs.Sending.{version_changes}
 use Rattle.register.proofs.EveryCall.Composed.{answers_accepted, Views}
 use Rattle.register.proofs.OnVersions.OnVersion.{IsOnOne, clock_of, clock_is_of, on_version-stands, others_stay, shown_is}
@@ -33,7 +33,7 @@ use Rattle.register.proofs.EveryCall.HeldSets.{windows-now}
 use Rattle.register.proofs.OnVersions.FirstCreate.{made-record, made-elsewhere, next_is_free, version_changes-are, made-shows, made-quiet, made-id, made-unsent, create-leaves, create-subjects_made_by, create-concerns}
 use Rattle.register.proofs.OnVersions.SecondCreate.{lacking-open, create-carrier}
 use Rattle.register.proofs.EveryCall.Settled.{number_of_number, leaves_but}
-use Rattle.register.proofs.OnVersions.Created.{create_settled, settles_number, refused_as, create-registry, id_or, reply_by, none_answers, if_holds-none, first_created}
+use Rattle.register.proofs.OnVersions.Created.{create_settled, changes_number, refused_as, create-registry, id_or, reply_by, none_answers, if_holds-none, first_created}
 use Rattle.numbers.proofs.Small.{same_number}
 
 module _ (st : State) (old new : Content) (caller : ℕ) (c : CreateImpl) (next : ClockMove)
@@ -128,8 +128,8 @@ module _ (st : State) (old new : Content) (caller : ℕ) (c : CreateImpl) (next 
           due.quiet,
         )
 
-    first-leaves : FramesOthers old new st (RequestFrom caller request)
-    first-leaves = leaves_but old new st (RequestFrom caller request) s (settles_number st c)
+    first-leaves : FramesUnchanged old new st (RequestFrom caller request)
+    first-leaves = leaves_but old new st (RequestFrom caller request) s (changes_number st c)
         (others_stay st old new caller request s id (version_changes id s made (Some next))
         first_record
         (create-registry c.creator caller c.tn.number c.old_provider.number c.new_provider.number
@@ -184,7 +184,7 @@ answers_first old new caller c clock next facts m view has accepts created next_
         (accepted st (RequestFrom caller (CommandRequest (command_of c))))
         (RequestFrom caller (CommandRequest (command_of c))))
         × Refines new (accepted st (RequestFrom caller (CommandRequest (command_of c))))
-        × FramesOthers old new st (RequestFrom caller (CommandRequest (command_of c)))
+        × FramesUnchanged old new st (RequestFrom caller (CommandRequest (command_of c)))
     each st refines settled = (
       none,
       first-answer st old new caller c next refines due none lacking next_now change view

@@ -30,7 +30,7 @@ use Rattle.model.specs.Windows.{Windows}
 use Rattle.model.proofs.Sets.{IsSetOf, held-is, present-is}
 use Rattle.register.proofs.EveryCall.HeldSets.{has_set, held-are, held_read, windows-now}
 use Rattle.register.proofs.Records.Touched.{clock-stays}
-use Rattle.register.specs.Settling.{SimulatesSettledStep, AreSettled, FramesOthers}
+use Rattle.register.specs.Settling.{SimulatesSettledStep, AreSettled, FramesUnchanged}
 use Rattle.settle.specs.Sending.{version_changes}
 use Rattle.register.proofs.EveryCall.Composed.{answers_accepted, Views}
 use Rattle.register.proofs.OnVersions.OnVersion.{IsOnOne, clock_of, clock_is_of, on_version-stands, others_stay, shown_is}
@@ -41,7 +41,7 @@ use Rattle.register.proofs.OnVersions.SecondCreate.{one_of, lacking-open, with_c
 use Rattle.model.proofs.HasCreate.{create_kept}
 use Rattle.model.proofs.KeptVersions.{version_now}
 use Rattle.register.proofs.EveryCall.Settled.{number_of_number, leaves_but}
-use Rattle.register.proofs.OnVersions.Created.{create_settled, settles_number, refused_as, create-registry, id_or, reply_by, lacks_as, second_created, found_quiet}
+use Rattle.register.proofs.OnVersions.Created.{create_settled, changes_number, refused_as, create-registry, id_or, reply_by, lacks_as, second_created, found_quiet}
 
 module _ (st : State) (old new : Content) (caller : ℕ) (c : CreateImpl) (id : ℕ) (v : Version)
     (clock : ClockRow) (refines : Refines old st) (due : IsSettled old st (Number c.tn.number))
@@ -133,8 +133,8 @@ module _ (st : State) (old new : Content) (caller : ℕ) (c : CreateImpl) (id : 
       due.quiet))
       due.quiet)
 
-  second-leaves : FramesOthers old new st (RequestFrom caller request)
-  second-leaves = leaves_but old new st (RequestFrom caller request) s (settles_number st c)
+  second-leaves : FramesUnchanged old new st (RequestFrom caller request)
+  second-leaves = leaves_but old new st (RequestFrom caller request) s (changes_number st c)
       (others_stay st old new caller request s id (version_changes id s (change v) None)
       second_record
       (create-registry c.creator caller c.tn.number c.old_provider.number c.new_provider.number
@@ -185,7 +185,7 @@ answers_open old new caller c clock id u facts m w view has opened accepts lacke
         (accepted st (RequestFrom caller (CommandRequest (command_of c))))
         (RequestFrom caller (CommandRequest (command_of c))))
         × Refines new (accepted st (RequestFrom caller (CommandRequest (command_of c))))
-        × FramesOthers old new st (RequestFrom caller (CommandRequest (command_of c)))
+        × FramesUnchanged old new st (RequestFrom caller (CommandRequest (command_of c)))
     each st refines settled = (
       none,
       second-answer st old new caller c id found.0 clock refines due has.clock_is none found.1

@@ -27,7 +27,7 @@ use Rattle.settle.proofs.Aside.{AreAmong, ArePutsAmong, among_lagging}
 use Rattle.settle.proofs.Applied.{Puts, same_shows, sent_in_turn, sent_puts}
 use Rattle.register.specs.Refinement.{Refines}
 use Rattle.register.specs.Pooling.{block_changes}
-use Rattle.register.specs.Settling.{FramesOthers, settles}
+use Rattle.register.specs.Settling.{FramesUnchanged, changes_then}
 use Rattle.register.proofs.OnVersions.FirstCreate.{none_with_id}
 use Rattle.register.proofs.Records.MadeSent.{AreApart, AreBegun, each_shown}
 use Rattle.register.proofs.Records.Sent.{carriers_agree}
@@ -325,9 +325,9 @@ module _ (st : State) (caller : ℕ) (request : Request) (news : List Subject) (
       }
 
       -- The new content refines the next state, and the rows of other subjects stay.
-      pub pooled-stands : ((t : Subject) → settles st (RequestFrom caller request) t ≡ false
+      pub pooled-stands : ((t : Subject) → changes_then st (RequestFrom caller request) t ≡ false
           → is_new t ≡ false)
-          → Refines new after_it × FramesOthers old new st (RequestFrom caller request)
+          → Refines new after_it × FramesUnchanged old new st (RequestFrom caller request)
       pooled-stands within = (
         touched-stands st old new caller request is_new refines none sends.lines sends.unset
             changed.sets registry elsewhere (λ t is. pooled-settled t (due t is)),

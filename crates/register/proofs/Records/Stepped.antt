@@ -26,7 +26,7 @@ use Rattle.settle.specs.Settling.{IsSettled}
 use Rattle.settle.specs.Transition.{transition_changes}
 use Rattle.settle.proofs.SentRows.{next_attempt-broadcasts, next_attempt-waits}
 use Rattle.register.specs.Refinement.{Refines}
-use Rattle.register.specs.Settling.{FramesOthers, settles}
+use Rattle.register.specs.Settling.{FramesUnchanged, changes_then}
 use Rattle.register.proofs.OnVersions.Created.{found_quiet}
 use Rattle.register.proofs.OnVersions.FirstCreate.{version_changes-are}
 use Rattle.register.proofs.OnVersions.OnVersion.{LeavesRegistry, NamesVersion, IsOnOne, on_one, clock_same, on_version-stands, others_stay, shown_is}
@@ -178,7 +178,7 @@ pub record StepsOne (st : State) (caller : ℕ) (request : Request) (s : Subject
       (of_id id f) (record_now st s).versions
   pub keeps : (u : Version) → (f u).id ≡ u.id
   pub stepped : IsStepped (set_now st) st.now (record_now st s).carriers v (f v) a
-  pub settles : settles st (RequestFrom caller request) s ≡ true
+  pub changes : changes_then st (RequestFrom caller request) s ≡ true
 
 module _ (st : State) (old new : Content) (caller : ℕ) (request : Request) (s : Subject) (id : ℕ)
     (f : Version → Version) (a : Option Send) (v : Version) (all_carriers : List ℕ)
@@ -236,8 +236,8 @@ module _ (st : State) (old new : Content) (caller : ℕ) (request : Request) (s 
       found due.quiet))
       due.quiet)
 
-  pub stepped-leaves : FramesOthers old new st (RequestFrom caller request)
-  stepped-leaves = leaves_but old new st (RequestFrom caller request) s steps.settles
+  pub stepped-leaves : FramesUnchanged old new st (RequestFrom caller request)
+  stepped-leaves = leaves_but old new st (RequestFrom caller request) s steps.changes
       (others_stay st old new caller request s id (transition_changes id st.now a s (f v)
       all_carriers)
       record_after

@@ -5,7 +5,7 @@ use Rattle.settle.specs.Settling.{those_with_block}
 use Rattle.settle.specs.Abstraction.{clock_row_of}
 use Rattle.settle.proofs.Risen.{risen-since}
 use Rattle.settle.proofs.Settled.{keeps-read}
-use Rattle.settle.proofs.SettledBlock.{within_elsewhere, within_settled}
+use Rattle.settle.proofs.SettledBlock.{within_elsewhere, at_rest_elsewhere, within_settled}
 use Rattle.settle.proofs.settling.settle_within.Goals as goal
 
 pub returns-clause-elsewhere : goal.returns-clause-elsewhere
@@ -13,6 +13,17 @@ returns-clause-elsewhere g c = λ usable.
     let read = c.fire_subjects.ensures.preserves.usable usable in
     let at_numbers = c.in_ok-numbers.ensures.looks_up.read_only.same read in
     within_elsewhere _ _ _ _ _ c.args.block c.in_ok-numbers.numbers.items c.deref-2.result.now
+    (rw c.in-Some.is at c.in_ok-clock.ensures.value at_numbers.0)
+    (c.in_ok-clock.ensures.read_only.same at_numbers.0).1 at_numbers.1
+    (c.deref-2.ensures.value ∙ c.in_ok-subjects.ensures
+    ∙ ap (λ xs. those_with_block xs c.args.block) c.deref.ensures.value)
+    (c.in_ok-numbers.ensures.value read) (c.fire_subjects.ensures.elsewhere usable)
+
+pub returns-clause-at_rest : goal.returns-clause-at_rest
+returns-clause-at_rest g c = λ usable.
+    let read = c.fire_subjects.ensures.preserves.usable usable in
+    let at_numbers = c.in_ok-numbers.ensures.looks_up.read_only.same read in
+    at_rest_elsewhere _ _ _ _ _ c.args.block c.in_ok-numbers.numbers.items c.deref-2.result.now
     (rw c.in-Some.is at c.in_ok-clock.ensures.value at_numbers.0)
     (c.in_ok-clock.ensures.read_only.same at_numbers.0).1 at_numbers.1
     (c.deref-2.ensures.value ∙ c.in_ok-subjects.ensures
