@@ -42,7 +42,7 @@ lines_by cr b s true is_cr e f ih jh h = after_lf cr b s (eqb-true b 10 e) (ih h
 lines_by cr b s false true e f ih jh h = after_cr cr b s (eqb-true b 13 f) jh h
 lines_by cr b s false false e f ih jh h = cc
 
-lines : (cr : Bool) (s : List ℕ) → blank_after cr s ≡ true → AreLines cr s
+pub lines : (cr : Bool) (s : List ℕ) → blank_after cr s ≡ true → AreLines cr s
 lines true [] h = cc
 lines false [] h = ([], refl)
 lines cr (b ∷ s) h = lines_by cr b s (b == 10) (b == 13) refl refl (lines false s) (lines true s) h
@@ -61,7 +61,7 @@ pub blank_is : (all r : Option (List ℕ)) (bytes : List ℕ) → Keeps all (pre
     → HasOnlyEmptyLines bytes r → IfSome all IsBlank
 blank_is all r bytes k done = all_is all r bytes IsBlank k done.2 (lines false bytes done.0, done.1)
 
-not_lines : (bytes : List ℕ) → is_blank bytes ≡ false → ¬ (IsBlank bytes)
+pub not_lines : (bytes : List ℕ) → is_blank bytes ≡ false → ¬ (IsBlank bytes)
 not_lines bytes e blank = let is = lines_are_blank blank.0.0 in let h : is_blank bytes ≡ true =
     ap (blank_after false) blank.0.1 ∙ is in cc
 

@@ -1,4 +1,5 @@
 mod Appending
+mod ArrivedLemmas
 mod BlankLemmas
 mod BodyLemmas
 mod BufferLemmas

@@ -120,7 +120,7 @@ cut_made (Some input) (Some more) bytes bytes' len h request x asks small e shor
   short = subst (λ (t : List ℕ). length (t ++ more) < request.length) e short;
 }
 
-refused_here : (input rest : List ℕ) (h : RequestHead) (fault : MessageFault)
+pub refused_here : (input rest : List ℕ) (h : RequestHead) (fault : MessageFault)
     → HasHead input h rest → RefusesHead h fault
     → ParsesAs input (RefusedMessage fault)
 refused_here input rest h BadHead x refuses =

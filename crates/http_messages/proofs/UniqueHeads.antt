@@ -26,7 +26,7 @@ pub one_head : (s : List ℕ) (h k : RequestHead) (r q : List ℕ) → HasHead s
 one_head s h k r q x y = request_unique s h k r q x.reads y.reads
 
 -- An input begins with no head if its first 8,192 bytes begin with none.
-full_no_head : (buf more : List ℕ) (h : RequestHead) (rest : List ℕ) → length buf ≡ 8192
+pub full_no_head : (buf more : List ℕ) (h : RequestHead) (rest : List ℕ) → length buf ≡ 8192
     → HasNoRequest buf → ¬ (HasHead (buf ++ more) h rest)
 full_no_head buf more h rest long none x =
     let fits : length (print_request h) ≤ length buf = omega (arith, long, x.short) in

@@ -1,3 +1,4 @@
+pub mod Arrived
 pub mod Blank
 pub mod Parsing
 pub mod Faults

@@ -1,6 +1,7 @@
 //! Reads HTTP/1.1 messages from any reader and writes texts to any writer.
 #![tactic(auto)]
 
+mod arrived;
 mod body;
 mod fault;
 mod head;
@@ -11,6 +12,7 @@ mod paths;
 mod read_buffer;
 mod send;
 
+pub use arrived::{Arrived, next_arrived};
 pub use fault::MessageFault;
 pub use head::read_number;
 pub use laws::parse_is_unique;

@@ -72,8 +72,8 @@ fn caller_of(buf: &[u8], found: Occurrence) -> Option<Spid>
     }
 }
 
-// Returns what the head in the buffered bytes asks. `BadHead` precedes `TooLarge`.
-fn request_of(
+/// Returns what the head in the buffered bytes asks. `BadHead` precedes `TooLarge`.
+pub(crate) fn request_of(
     buf: &[u8],
     headers: &[HeaderSpan],
     spans: &RequestSpans,

@@ -1,0 +1,88 @@
+//! Reads the next message of bytes that have arrived.
+ghost use Rattle.std.specs.Prelude.{◌≡◌, ℕ, List, length};
+ghost use Rattle.httparse.specs.Grammar.{HasNoRequest};
+ghost use Rattle.http_messages.specs.Arrived.{HasArrived, IsStart};
+ghost use Rattle.http_messages.specs.Table.{table};
+
+use crate::fault::MessageFault;
+use crate::head::{HeadParse, parse_head};
+use crate::message::{Request, request_of};
+use crate::next_head::are_empty_lines;
+use crate::paths::Route;
+use httparse::spans::HeaderSpan;
+use matchit::Router;
+
+// The most bytes of a head.
+const HEAD_LIMIT: usize = 8192;
+
+/// What the bytes that have arrived begin with.
+#[derive(Clone, Copy, Debug)]
+pub enum Arrived {
+    /// A whole message: a head of this length, and its body.
+    Message { request: Request, head: usize },
+    /// What is refused in place of a message.
+    Refused(MessageFault),
+    /// The input has ended, and only empty lines are left of it.
+    Nothing,
+    /// A part of a message, or nothing yet. It stays so with fewer than `wanted` bytes.
+    Part { wanted: usize },
+}
+
+// Returns what bytes without a whole head are.
+fn without_head(start: &[u8], has_ended: bool) -> Arrived
+    ensures { (input : List ℕ) → IsStart input start.now → HasNoRequest start.now
+        → HasArrived input has_ended result }
+{
+    if start.len() == HEAD_LIMIT {
+        return Arrived::Refused(MessageFault::BadHead);
+    }
+    if !has_ended {
+        return Arrived::Part {
+            wanted: start.len() + 1,
+        };
+    }
+    if are_empty_lines(start) {
+        Arrived::Nothing
+    } else {
+        Arrived::Refused(MessageFault::BadHead)
+    }
+}
+
+/// Returns what `input` begins with, the bytes that have arrived. `has_ended` says that no more
+/// will.
+///
+/// Reads a head that is whole, and no byte of its body. A caller that waits for `wanted` bytes
+/// before it asks again has each head read at most twice once it is whole.
+pub fn next_arrived(
+    input: &[u8],
+    has_ended: bool,
+    headers: &mut [HeaderSpan],
+    router: &Router<Route>,
+) -> Arrived
+    requires room { length headers.old ≡ 64 }
+    requires router { router.now ≡ table }
+    ensures room { length headers.new ≡ 64 }
+    ensures arrived { HasArrived input.now has_ended result }
+{
+    let start = &input[..input.len().min(HEAD_LIMIT)];
+    let spans = match parse_head(start, headers) {
+        HeadParse::Head(spans) => spans,
+        HeadParse::Bad => return Arrived::Refused(MessageFault::BadHead),
+        HeadParse::More => return without_head(start, has_ended),
+    };
+    let request = match request_of(start, headers, &spans, router) {
+        Ok(request) => request,
+        Err(fault) => return Arrived::Refused(fault),
+    };
+    let whole = spans.len + request.length;
+    if whole <= input.len() {
+        Arrived::Message {
+            request,
+            head: spans.len,
+        }
+    } else if has_ended {
+        Arrived::Refused(MessageFault::CutBody)
+    } else {
+        Arrived::Part { wanted: whole }
+    }
+}
