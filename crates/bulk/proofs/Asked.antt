@@ -1,5 +1,6 @@
 -- The register's answers to questions.
 use Rattle.std.proofs.Common.{◌≡◌, ℕ, Option, Some, None}
+use Rattle.std.specs.Prelude.{⊤}
 use Rattle.model.specs.Content.{Content}
 use Rattle.model.specs.Machine.{Found, out, refused_or}
 use Rattle.model.specs.State.{State}
@@ -27,54 +28,56 @@ ids_are st tn a b e =
 pub owes_on :
     {S First Settles Answers Says : Type 0} {store : Ghosts S} {before mid after : S}
     {old between : Content} →
-    PreservesStore store before mid Settles First
+    PreservesStore store before mid Settles First → Settles
     → PreservesStore store mid after Answers
     (ReportsStorage (store.IsUsable after) between Says)
     → (store.IsUsable mid → (st : State) → Refines old st → (later : State) × Refines between later)
     →
-    PreservesStore store before after ⊥ (ReportsStorage (store.IsUsable after)
+    PreservesStore store before after Answers (ReportsStorage (store.IsUsable after)
     old Says)
-owes_on {store = store} {before = before} {mid = mid} {after = after} first second on = record {
-  usable = λ u. first.usable (second.usable u);
-  honest = λ h. first.honest (second.honest h);
-  stays = λ never. absurd never;
-  rises = le_trans first.rises second.rises;
-  storage = λ s.
-      let at = on (second.usable s.usable) s.st (record {
-        represents = s.represents;
-        written =
-            s.written;
-      }) in
-      risen-since (store.failed before) (store.failed mid) (store.failed after) first.rises
-      second.rises
-      (second.storage (record {
-        usable = s.usable;
-        st = at.0;
-        represents = at.1.represents;
-        written = at.1.written;
-        says = s.says;
-      }));
-}
+owes_on {store = store} {before = before} {mid = mid} {after = after} first settles second on =
+    record {
+      usable = λ u. first.usable (second.usable u);
+      honest = λ h. first.honest (second.honest h);
+      stays = λ answers usable honest.
+          second.stays answers (first.stays settles usable (second.honest honest)) honest;
+      rises = le_trans first.rises second.rises;
+      storage = λ s.
+          let at = on (second.usable s.usable) s.st (record {
+            represents = s.represents;
+            written =
+                s.written;
+          }) in
+          risen-since (store.failed before) (store.failed mid) (store.failed after) first.rises
+          second.rises
+          (second.storage (record {
+            usable = s.usable;
+            st = at.0;
+            represents = at.1.represents;
+            written = at.1.written;
+            says = s.says;
+          }));
+    }
 
 -- Two calls in order preserve the store, if the content between them refines the same state.
 pub owes_then :
     {S First Settles Answers Says : Type 0} {store : Ghosts S} {before mid after : S}
     {old between : Content} →
-    PreservesStore store before mid Settles First
+    PreservesStore store before mid Settles First → Settles
     → PreservesStore store mid after Answers
     (ReportsStorage (store.IsUsable after) between Says)
     → (store.IsUsable mid → (st : State) → Refines old st → Refines between st) →
-    PreservesStore store before after ⊥ (ReportsStorage (store.IsUsable after)
+    PreservesStore store before after Answers (ReportsStorage (store.IsUsable after)
     old Says)
-owes_then first second kept = owes_on first second (λ u st s. (st, kept u st s))
+owes_then first settles second kept = owes_on first settles second (λ u st s. (st, kept u st s))
 
 -- No call preserves the store.
 pub owes_none : {S : Type 0} (store : Ghosts S) (s : S)
-    → PreservesStore store s s ⊥ ⊥
+    → PreservesStore store s s ⊤ ⊥
 owes_none store s = record {
   usable = λ u. u;
   honest = λ h. h;
-  stays = λ never. absurd never;
+  stays = λ settles usable honest. usable;
   rises = le_refl (store.failed s);
   storage = λ x. absurd x;
 }

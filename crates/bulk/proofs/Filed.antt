@@ -10,7 +10,7 @@ use Rattle.bulk.specs.Faults.{IsUnread}
 use Rattle.bulk.specs.Requests.{header}
 use Rattle.bulk.specs.Report.{report_header}
 use Rattle.bulk.specs.Rows.{Row, AreRowsOf}
-use Rattle.bulk.specs.Running.{LacksHeader, Reports, RunsFile}
+use Rattle.bulk.specs.Running.{LacksHeader, Reports, ReportsUntil, RunsFile, RunsFileUntil}
 use Rattle.bulk.specs.declared.fault.BulkFault.{BulkFault}
 use Rattle.bulk.specs.declared.fault.FaultKind.{FaultKind}
 use Rattle.bulk.specs.declared.fault.FaultKind.TheVariants.{BadHeader, Write}
@@ -66,6 +66,13 @@ pub file_run :
     Reports st others new had has result → RunsFile st bytes new had has result
 file_run st bytes new had has result rows others are e reports = let P : List Row → Type 0 =
     λ rs. AreRowsOf bytes rs in inl (others, subst P e are, reports)
+
+pub file_until :
+    (st : State) (bytes : List ℕ) (had has : Option (List ℕ)) (result : Result ℕ BulkFault)
+    (rows others : List Row) → AreRowsOf bytes rows → rows ≡ header ∷ others →
+    ReportsUntil st others had has result → RunsFileUntil st bytes had has result
+file_until st bytes had has result rows others are e until = let P : List Row → Type 0 =
+    λ rs. AreRowsOf bytes rs in (others, subst P e are, until)
 
 -- The reason why nothing was run, by some rows of the file.
 pub why_not :

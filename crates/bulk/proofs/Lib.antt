@@ -16,6 +16,7 @@ mod Passing
 mod Ranging
 mod Runs
 mod Sending
+mod Until
 pub mod Wishes
 mod Examples
 mod AuditExamples

@@ -8,11 +8,12 @@ use Rattle.bulk.specs.Faults.{IsUnread}
 use Rattle.bulk.specs.Requests.{ParsesRow}
 use Rattle.bulk.specs.Report.{AreRead, Task, state_after, tasks_from, tasks_of}
 use Rattle.bulk.specs.Rows.{Row, HasRows, Takes}
-use Rattle.bulk.specs.Running.{DoesAll, FailsIn, RunsAll, RunsFirst, RunsTo}
+use Rattle.bulk.specs.Running.{DoesAll, FailsIn, RunsAll, RunsFirst, RunsRowsUntil, RunsTo, RunsUntil, SendsFirst}
 use Rattle.bulk.specs.declared.fault.BulkFault.{BulkFault}
 use Rattle.bulk.specs.declared.fault.FaultKind.{FaultKind}
 use Rattle.bulk.specs.declared.request.BulkRequest.{BulkRequest}
 use Rattle.bulk.proofs.Runs.{nothing, runs_then, stops_here}
+use Rattle.bulk.proofs.Until.{until_then}
 
 -- Holds if the first rows were run, and the reader has the others.
 pub record Passes {R : Type 0} (rem : R → Option (List ℕ)) (st : State) (rows : List Row)
@@ -129,3 +130,22 @@ module _ {R : Type 0} (rem : R → Option (List ℕ)) (st : State) (rows : List 
               new
               had has then 0 k (Err fault) p.done run);
         }
+
+    -- The row ended with `storage` or `no_memory`.
+    pub until_row : (fault : BulkFault)
+        → RunsUntil (state_after st (tasks_from 1 p.requests)) (tasks_of row o) has then k
+        (Err fault) → RunsRowsUntil st rows had then (Err fault)
+    until_row fault run =
+        let until = until_then st (tasks_from 1 p.requests) (tasks_of row o) mid had has then 0 k
+        (Err fault) p.done run in
+        let P : List Task → Type 0 = λ ts. SendsFirst st ts had then 0 fault.rows in (
+          until.0,
+          record {
+            first = p.first ++ raw ∷ [];
+            others = taken.0;
+            all = rows_are;
+            requests = p.requests ++ o ∷ [];
+            read = read_then p.first p.requests raw o p.read reads;
+            sent = subst P tasks_are until.1;
+          },
+        )

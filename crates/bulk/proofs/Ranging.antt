@@ -1,14 +1,17 @@
 -- The numbers of a range.
-use Rattle.std.proofs.Common.{◌≡◌, ℕ, zero, suc, ◌+◌, ◌-◌, ◌<◌, ◌≤◌, ◌/◌, List, [], ◌∷◌, ◌++◌, map, Option, Result, ap, sym, subst, ◌∙◌, arith, add-one, add-zero, zero-add}
+use Rattle.std.proofs.Common.{◌≡◌, ℕ, zero, suc, ◌+◌, ◌-◌, ◌<◌, ◌≤◌, ◌/◌, List, [], ◌∷◌, ◌++◌, map, Option, Result, inl, inr, ap, sym, subst, ◌∙◌, arith, add-one, add-zero, zero-add}
+use Rattle.std.specs.Prelude.{◌⊎◌}
 use Rattle.std.proofs.lemmas.List.{map-append}
 use Rattle.numbers.specs.Digits.{IsTn, code_of}
 use Rattle.model.specs.Content.{Content}
 use Rattle.model.specs.State.{State}
+use Rattle.register.specs.Refinement.{Refines}
 use Rattle.bulk.specs.Report.{Task, rising, state_after}
-use Rattle.bulk.specs.Running.{DoesAll, FailsIn, RunsTo}
+use Rattle.bulk.specs.Running.{DoesAll, FailsIn, RunsTo, RunsUntil}
 use Rattle.bulk.specs.declared.fault.BulkFault.{BulkFault}
 use Rattle.bulk.specs.declared.fault.FaultKind.{FaultKind}
 use Rattle.bulk.proofs.Runs.{fails_more, runs_then}
+use Rattle.bulk.proofs.Until.{until_more, until_then}
 
 pub rising-more : (first many : ℕ) → rising first (many + 1) ≡ rising first many ++ (first + many)
     ∷ []
@@ -61,6 +64,16 @@ runs_number f first n st mid new had at has from j r low before now =
     (runs_then st (map f (rising first (n - first))) (f n ∷ []) mid new had at has from j r before
     now)
 
+-- The tasks of the numbers up to `n`, and of those after it.
+range_split : (f : ℕ → Task) (first last n : ℕ) → first ≤ n → n < last + 1
+    → map f (rising first (n + 1 - first)) ++ map f (rising (first + (n + 1 - first)) (last - n))
+    ≡ map f (rising first (last + 1 - first))
+range_split f first last n low high =
+    let all : n + 1 - first + (last - n) ≡ last + 1 - first = omega (arith, low, high) in
+    sym (map-append f (rising first (n + 1 - first)) (rising (first + (n + 1 - first)) (last - n)))
+    ∙ ap (map f) (sym (rising-split first (n + 1 - first) (last - n)))
+    ∙ ap (λ (m : ℕ). map f (rising first m)) all
+
 -- A run that failed in the first numbers failed in all.
 pub fails_among :
     (kind : FaultKind) (f : ℕ → Task) (first last n : ℕ) (st : State) (new : Content)
@@ -68,15 +81,45 @@ pub fails_among :
     FailsIn kind st (map f (rising first (n + 1 - first))) new had has from k
     → FailsIn kind st (map f (rising first (last + 1 - first))) new had has from k
 fails_among kind f first last n st new had has from k low high h =
-    let all : n + 1 - first + (last - n) ≡ last + 1 - first = omega (arith, low, high) in
-    let split : map f (rising first (n + 1 - first)) ++ map f (rising (first + (n + 1 - first))
-    (last - n)) ≡ map f (rising first (last + 1 - first)) =
-    sym (map-append f (rising first (n + 1 - first)) (rising (first + (n + 1 - first)) (last - n)))
-    ∙ ap (map f) (sym (rising-split first (n + 1 - first) (last - n)))
-    ∙ ap (λ (m : ℕ). map f (rising first m)) all in
     let P : List Task → Type 0 = λ tasks. FailsIn kind st tasks new had has from k in
-    subst P split (fails_more kind st (map f (rising first (n + 1 - first)))
+    subst P (range_split f first last n low high)
+    (fails_more kind st (map f (rising first (n + 1 - first)))
     (map f (rising (first + (n + 1 - first)) (last - n))) new had has from k h)
+
+-- A run over the numbers before `n` that ended with `storage` or `no_memory` at `n`.
+until_number :
+    (f : ℕ → Task) (first last n : ℕ) (st : State) (mid : Content) (had at has : Option (List ℕ))
+    (from j : ℕ) (r : Result ℕ BulkFault) → first ≤ n → n < last + 1 →
+    DoesAll st (map f (rising first (n - first))) mid had at from j →
+    RunsUntil (state_after st (map f (rising first (n - first)))) (f n ∷ []) at has j r
+    → RunsUntil st (map f (rising first (last + 1 - first))) had has from r
+until_number f first last n st mid had at has from j r low high before now =
+    let P : List Task → Type 0 = λ tasks. RunsUntil st tasks had has from r in
+    subst P (range_split f first last n low high)
+    (until_more st (map f (rising first (n + 1 - first)))
+    (map f (rising (first + (n + 1 - first)) (last - n))) had has from r
+    (subst P (sym (tasks-more f first (n - first) n (omega (arith, low))))
+    (until_then st (map f (rising first (n - first))) (f n ∷ []) mid had at has from j r before
+    now)))
+
+pub until_among :
+    (U : Type 0) (f : ℕ → Task) (first last n : ℕ) (old mid : Content)
+    (had at has : Option (List ℕ)) (from j : ℕ) (r result : Result ℕ BulkFault)
+    → result ≡ r → first ≤ n → n < last + 1 →
+    ((st : State) → Refines old st
+    → DoesAll st (map f (rising first (n - first))) mid had at from j)
+    → U ⊎ ((st : State) → Refines mid st → RunsUntil st (f n ∷ []) at has j r)
+    → U ⊎ ((st : State) → Refines old st
+    → RunsUntil st (map f (rising first (last + 1 - first))) had has from result)
+until_among U f first last n old mid had at has from j r result is low high before (inl usable) =
+    inl usable
+until_among U f first last n old mid had at has from j r result is low high before (inr now) =
+    inr (λ st s.
+    let done = before st s in
+    let P : Result ℕ BulkFault → Type 0 =
+    λ said. RunsUntil st (map f (rising first (last + 1 - first))) had has from said in
+    subst P (sym is) (until_number f first last n st mid had at has from j r low high done
+    (now (state_after st (map f (rising first (n - first)))) done.refines)))
 
 -- After the last number, all are done.
 pub does_numbers :

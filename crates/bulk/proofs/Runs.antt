@@ -28,7 +28,7 @@ lines_of-append st [] ys = refl
 lines_of-append st (x ∷ xs) ys =
     ap (λ (ls : List (List ℕ)). line_of st x ∷ ls) (lines_of-append (next_state st x) xs ys)
 
-texts-append : (st : State) (xs ys : List Task)
+pub texts-append : (st : State) (xs ys : List Task)
     → concat (lines_of st xs) ++ concat (lines_of (state_after st xs) ys)
     ≡ concat (lines_of st (xs ++ ys))
 texts-append st xs ys = sym (concat-append (lines_of st xs) (lines_of (state_after st xs) ys))

@@ -8,7 +8,7 @@ use Rattle.model.specs.State.{State}
 use Rattle.model.specs.Refusals.{Input}
 use Rattle.http_messages.specs.Sending.{AppendsPrefix}
 use Rattle.register.specs.Refinement.{Refines}
-use Rattle.bulk.specs.Faults.{IsUnread}
+use Rattle.bulk.specs.Faults.{IsUnavailableKind, IsUnread}
 use Rattle.bulk.specs.Files.{AreSent}
 use Rattle.bulk.specs.Requests.{header}
 use Rattle.bulk.specs.Report.{AreRead, Task, line_of, lines_of, report_header, next_state, state_after, tasks_from}
@@ -71,6 +71,23 @@ RunsTo st tasks new had has from (Ok k) = DoesAll st tasks new had has from k
 RunsTo st tasks new had has from (Err fault) =
     FailsIn fault.kind st tasks new had has from fault.rows
 
+-- Holds if only the lines of the first tasks were sent, after `from` lines.
+pub record SendsFirst (st : State) (tasks : List Task) (had has : Option (List ℕ))
+    (from k : ℕ) : Type 0 where
+  pub first : List Task
+  pub others : List Task
+  pub all : tasks ≡ first ++ others
+  pub sent : AreSent had has (lines_of st first)
+  pub count : k ≡ from + length first
+
+-- Holds if a run from the state `st`, after `from` lines, ended with `storage` or `no_memory` after
+-- the lines of the first tasks. Not said: what the content is.
+abbrev pub RunsUntil : State → List Task → (had has : Option (List ℕ)) → (from : ℕ)
+    → Result ℕ BulkFault → Type 0
+RunsUntil st tasks had has from (Ok k) = ⊥
+RunsUntil st tasks had has from (Err fault) =
+    IsUnavailableKind fault.kind × SendsFirst st tasks had has from fault.rows
+
 -- ---- the rows of a file
 
 -- Holds if all rows were run from the state `st`.
@@ -94,6 +111,22 @@ abbrev pub RunsRows : State → List Row → Content → (had has : Option (List
     → Type 0
 RunsRows st rows new had has (Ok k) = RunsAll st rows new had has k
 RunsRows st rows new had has (Err fault) = RunsFirst fault.kind st rows new had has fault.rows
+
+-- Holds if only lines of the first rows were sent, those of the last of them perhaps in part.
+pub record SendsFirstRows (st : State) (rows : List Row) (had has : Option (List ℕ))
+    (k : ℕ) : Type 0 where
+  pub first : List Row
+  pub others : List Row
+  pub all : rows ≡ first ++ others
+  pub requests : List (Option BulkRequest)
+  pub read : AreRead first requests
+  pub sent : SendsFirst st (tasks_from 1 requests) had has 0 k
+
+abbrev pub RunsRowsUntil : State → List Row → (had has : Option (List ℕ)) → Result ℕ BulkFault
+    → Type 0
+RunsRowsUntil st rows had has (Ok k) = ⊥
+RunsRowsUntil st rows had has (Err fault) =
+    IsUnavailableKind fault.kind × SendsFirstRows st rows had has fault.rows
 
 -- Holds if the content refines a state that the machine can reach from `st`.
 abbrev pub RefinesReachable : State → Content → Type 0
@@ -122,6 +155,11 @@ Reports st rows new had has result =
     × RunsRows st rows new behind has result)
     ⊎ BreaksHeader st new had has result
 
+abbrev pub ReportsUntil : State → List Row → (had has : Option (List ℕ)) → Result ℕ BulkFault
+    → Type 0
+ReportsUntil st rows had has result = (behind : Option (List ℕ)) × Appends had behind report_header
+    × RunsRowsUntil st rows behind has result
+
 -- Holds if the rows do not begin with the header of a bulk file.
 abbrev pub LacksHeader : List Row → Type 0
 LacksHeader rows = (others : List Row) → rows ≢ header ∷ others
@@ -147,3 +185,11 @@ abbrev pub RunsFile : State → (bytes : List ℕ) → Content → (had has : Op
 RunsFile st bytes new had has result =
     ((rows : List Row) × AreRowsOf bytes (header ∷ rows) × Reports st rows new had has result)
     ⊎ StopsFirst st bytes new had has result
+
+-- Holds if the run of a file of these bytes from the state `st` ended with `storage` or
+-- `no_memory`, and the report has the machine's answers to its first commands, as many as are
+-- counted.
+abbrev pub RunsFileUntil : State → (bytes : List ℕ) → (had has : Option (List ℕ))
+    → Result ℕ BulkFault → Type 0
+RunsFileUntil st bytes had has result =
+    (rows : List Row) × AreRowsOf bytes (header ∷ rows) × ReportsUntil st rows had has result

@@ -1,5 +1,5 @@
 //! Asks the register what bulk files, exports and audits need.
-ghost use Rattle.std.specs.Prelude.{◌≡◌, ◌⊎◌, true, false, IfOk, IfErr, Err, map};
+ghost use Rattle.std.specs.Prelude.{◌≡◌, ◌⊎◌, ◌↔◌, true, false, IfOk, IfErr, Err, map};
 ghost use Rattle.delivery.specs.Mirrors.{in_force_of};
 ghost use Rattle.model.specs.declared.refusal.Refusal.TheVariants.{Storage, UnknownCarrier};
 ghost use Rattle.model.specs.State.{State, all_in_force, is_carrier};
@@ -7,7 +7,7 @@ ghost use Rattle.register.specs.Refinement.{Refines};
 ghost use Rattle.settle.specs.StoreContract.{PreservesStore, ReportsStorage};
 ghost use Rattle.requests.specs.Calls.{command_of};
 ghost use Rattle.numbers.specs.Abstraction.{subject_of};
-ghost use Rattle.bulk.specs.Faults.{IsUnavailableKind};
+ghost use Rattle.bulk.specs.Faults.{IsAvailableKind, IsUnavailableKind};
 ghost use Rattle.bulk.specs.Findings.{awaited};
 ghost use Rattle.bulk.specs.Report.{command_for, id_taken, in_force_id, open_id};
 
@@ -26,7 +26,7 @@ const NO_ID: u64 = 0;
 
 // Returns the fault of a call that the machine never refuses.
 fn kind_of(refusal: Refusal) -> FaultKind
-    ensures storage { result ≡ FaultKind.Storage → refusal ≡ Storage }
+    ensures storage { (result ≡ FaultKind.Storage) ↔ (refusal ≡ Storage) }
     ensures unavailable { IsUnavailableKind result }
 {
     match refusal {
@@ -43,8 +43,8 @@ pub fn rows_in_force<S: Store>(register: &mut Register<S>) -> Result<Vec<RoutedR
     ensures kept { S.IsUsable register.new.store → (st : State)
         → Refines (S.content register.old.store) st → Refines (S.content register.new.store) st }
     ensures unavailable { IfErr result IsUnavailableKind }
-    ensures preserves { PreservesStore S.StoreModel register.old.store register.new.store ⊥
-        (ReportsStorage (S.IsUsable register.new.store) (S.content register.old.store)
+    ensures preserves { PreservesStore S.StoreModel register.old.store register.new.store
+        (IfErr result IsAvailableKind) (ReportsStorage (S.IsUsable register.new.store) (S.content register.old.store)
         (result ≡ Err FaultKind.Storage)) }
 {
     match register.in_force() {
@@ -55,7 +55,7 @@ pub fn rows_in_force<S: Store>(register: &mut Register<S>) -> Result<Vec<RoutedR
 
 // Returns the fault of a call that the machine refuses only for an unknown carrier.
 fn kind_for(refusal: Refusal) -> FaultKind
-    ensures storage { result ≡ FaultKind.Storage → refusal ≡ Storage }
+    ensures storage { (result ≡ FaultKind.Storage) ↔ (refusal ≡ Storage) }
     ensures unknown { result ≡ FaultKind.UnknownCarrier → refusal ≡ UnknownCarrier }
     ensures kinds { IsUnavailableKind result ⊎ (result ≡ FaultKind.UnknownCarrier) }
 {
@@ -85,8 +85,8 @@ pub fn subjects_waiting<S: Store>(
         → Refines (S.content register.old.store) st → Refines (S.content register.new.store) st }
     ensures kinds { IfErr result (λ kind. IsUnavailableKind kind ⊎ (kind
         ≡ FaultKind.UnknownCarrier)) }
-    ensures preserves { PreservesStore S.StoreModel register.old.store register.new.store ⊥
-        (ReportsStorage (S.IsUsable register.new.store) (S.content register.old.store)
+    ensures preserves { PreservesStore S.StoreModel register.old.store register.new.store
+        (IfErr result IsAvailableKind) (ReportsStorage (S.IsUsable register.new.store) (S.content register.old.store)
         (result ≡ Err FaultKind.Storage)) }
 {
     match register.waiting(carrier) {
@@ -103,8 +103,8 @@ fn ids_of<S: Store>(register: &mut Register<S>, tn: Tn) -> Result<Ids, FaultKind
     ensures kept { S.IsUsable register.new.store → (st : State)
         → Refines (S.content register.old.store) st → Refines (S.content register.new.store) st }
     ensures unavailable { IfErr result IsUnavailableKind }
-    ensures preserves { PreservesStore S.StoreModel register.old.store register.new.store ⊥
-        (ReportsStorage (S.IsUsable register.new.store) (S.content register.old.store)
+    ensures preserves { PreservesStore S.StoreModel register.old.store register.new.store
+        (IfErr result IsAvailableKind) (ReportsStorage (S.IsUsable register.new.store) (S.content register.old.store)
         (result ≡ Err FaultKind.Storage)) }
 {
     match register.ids(tn) {
@@ -137,8 +137,8 @@ pub fn command_for<S: Store>(
     ensures kept { S.IsUsable register.new.store → (st : State)
         → Refines (S.content register.old.store) st → Refines (S.content register.new.store) st }
     ensures unavailable { IfErr result IsUnavailableKind }
-    ensures preserves { PreservesStore S.StoreModel register.old.store register.new.store ⊥
-        (ReportsStorage (S.IsUsable register.new.store) (S.content register.old.store)
+    ensures preserves { PreservesStore S.StoreModel register.old.store register.new.store
+        (IfErr result IsAvailableKind) (ReportsStorage (S.IsUsable register.new.store) (S.content register.old.store)
         (result ≡ Err FaultKind.Storage)) }
 {
     match operation {

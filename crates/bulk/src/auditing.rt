@@ -7,7 +7,7 @@ ghost use Rattle.register.specs.Refinement.{Refines};
 ghost use Rattle.settle.specs.StoreContract.{PreservesStore, ReportsStorage};
 ghost use Rattle.bulk.specs.Audits.{Audits, AreDistinct, subjects_in};
 ghost use Rattle.bulk.specs.Comparing.{AreCompared, ComparesFile, IsNotCompared};
-ghost use Rattle.bulk.specs.Faults.{FailsWith, IsUnavailableKind};
+ghost use Rattle.bulk.specs.Faults.{FailsWith, IsAvailable, IsAvailableKind, IsUnavailableKind, IsUnwritten};
 ghost use Rattle.bulk.specs.Findings.{awaited};
 
 use crate::asking::{rows_in_force, subjects_waiting};
@@ -49,8 +49,8 @@ fn side_for<S: Store>(register: &mut Register<S>, carrier: Spid) -> Result<Regis
         → Refines (S.content register.old.store) st → Refines (S.content register.new.store) st }
     ensures kinds { IfErr result (λ kind. IsUnavailableKind kind ⊎ (kind
         ≡ FaultKind.UnknownCarrier)) }
-    ensures preserves { PreservesStore S.StoreModel register.old.store register.new.store ⊥
-        (ReportsStorage (S.IsUsable register.new.store) (S.content register.old.store)
+    ensures preserves { PreservesStore S.StoreModel register.old.store register.new.store
+        (IfErr result IsAvailableKind) (ReportsStorage (S.IsUsable register.new.store) (S.content register.old.store)
         (result ≡ Err FaultKind.Storage)) }
 {
     let waiting = match subjects_waiting(register, carrier) {
@@ -124,9 +124,11 @@ pub fn audit<S: Store, R: Read + Drop, W: Write>(
         (W.contents writer.old) (W.contents writer.new) result) }
     ensures kept { S.IsUsable register.new.store → (st : State)
         → Refines (S.content register.old.store) st → Refines (S.content register.new.store) st }
-    ensures preserves { PreservesStore S.StoreModel register.old.store register.new.store ⊥
-        (ReportsStorage (S.IsUsable register.new.store) (S.content register.old.store)
-        (FailsWith FaultKind.Storage result)) }
+    // Whether or not the store is usable, before or afterwards.
+    ensures unwritten { IsUnwritten result (W.contents writer.old) (W.contents writer.new) }
+    ensures preserves { PreservesStore S.StoreModel register.old.store register.new.store
+        (IsAvailable result) (ReportsStorage (S.IsUsable register.new.store)
+        (S.content register.old.store) (FailsWith FaultKind.Storage result)) }
 {
     let (mut line, side) = match (LineBuffer::new(alloc), side_for(register, carrier)) {
         (Ok(line), Ok(side)) => (line, side),

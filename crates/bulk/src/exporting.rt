@@ -4,7 +4,7 @@ ghost use Rattle.model.specs.State.{State};
 ghost use Rattle.register.specs.Refinement.{Refines};
 ghost use Rattle.settle.specs.StoreContract.{PreservesStore, ReportsStorage};
 ghost use Rattle.bulk.specs.Exports.{Exports};
-ghost use Rattle.bulk.specs.Faults.{FailsWith};
+ghost use Rattle.bulk.specs.Faults.{FailsWith, IsAvailable, IsUnwritten};
 
 use crate::asking::rows_in_force;
 use crate::fault::{BulkFault, FaultKind};
@@ -37,9 +37,11 @@ pub fn export<S: Store, W: Write>(
         → Exports result st (W.contents writer.old) (W.contents writer.new) }
     ensures kept { S.IsUsable register.new.store → (st : State)
         → Refines (S.content register.old.store) st → Refines (S.content register.new.store) st }
-    ensures preserves { PreservesStore S.StoreModel register.old.store register.new.store ⊥
-        (ReportsStorage (S.IsUsable register.new.store) (S.content register.old.store)
-        (FailsWith FaultKind.Storage result)) }
+    // Whether or not the store is usable, before or afterwards.
+    ensures unwritten { IsUnwritten result (W.contents writer.old) (W.contents writer.new) }
+    ensures preserves { PreservesStore S.StoreModel register.old.store register.new.store
+        (IsAvailable result) (ReportsStorage (S.IsUsable register.new.store)
+        (S.content register.old.store) (FailsWith FaultKind.Storage result)) }
 {
     let (mut line, rows) = match (LineBuffer::new(alloc), rows_in_force(register)) {
         (Ok(line), Ok(rows)) => (line, rows),

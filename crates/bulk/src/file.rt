@@ -3,10 +3,10 @@ ghost use Rattle.std.specs.Prelude.{◌≡◌, ◌⊎◌, ◌∷◌, List, IfSom
 ghost use Rattle.model.specs.State.{State};
 ghost use Rattle.register.specs.Refinement.{Refines};
 ghost use Rattle.settle.specs.StoreContract.{PreservesStore, ReportsStorage};
-ghost use Rattle.bulk.specs.Faults.{FailsWith, IsUnread};
+ghost use Rattle.bulk.specs.Faults.{FailsWith, IsAvailable, IsUnread};
 ghost use Rattle.bulk.specs.Requests.{header};
 ghost use Rattle.bulk.specs.Rows.{Row, HasRows, IsPlain};
-ghost use Rattle.bulk.specs.Running.{RefinesReachable, LacksHeader, Reports, RunsFile};
+ghost use Rattle.bulk.specs.Running.{RefinesReachable, LacksHeader, Reports, ReportsUntil, RunsFile, RunsFileUntil};
 
 use crate::fault::{BulkFault, FaultKind};
 use crate::fields::is_header;
@@ -54,12 +54,17 @@ fn report_rows<S: Store, R: Read, W: Write>(
         → Refines (S.content register.old.store) st → (rows : List Row)
         → HasRows R.remaining reader.old rows → Reports st rows (S.content register.new.store)
         (W.contents writer.old) (W.contents writer.new) result }
+    ensures until { S.IsUsable register.old.store → S.HasHonestDevice register.new.store
+        → S.IsUsable register.new.store
+        ⊎ ((st : State) → Refines (S.content register.old.store) st
+        → (rows : List Row) → HasRows R.remaining reader.old rows
+        → ReportsUntil st rows (W.contents writer.old) (W.contents writer.new) result) }
     ensures state { S.IsUsable register.new.store → (st : State)
         → Refines (S.content register.old.store) st
         → RefinesReachable st (S.content register.new.store) }
-    ensures preserves { PreservesStore S.StoreModel register.old.store register.new.store ⊥
-        (ReportsStorage (S.IsUsable register.new.store) (S.content register.old.store)
-        (FailsWith FaultKind.Storage result)) }
+    ensures preserves { PreservesStore S.StoreModel register.old.store register.new.store
+        (IsAvailable result) (ReportsStorage (S.IsUsable register.new.store)
+        (S.content register.old.store) (FailsWith FaultKind.Storage result)) }
 {
     line.set_first(HEADER);
     match line.send(writer) {
@@ -92,12 +97,18 @@ pub fn run_file<S: Store, R: Read + Drop, W: Write>(
         → Refines (S.content register.old.store) st
         → IfSome (R.remaining reader) (λ bytes. RunsFile st bytes (S.content register.new.store)
         (W.contents writer.old) (W.contents writer.new) result) }
+    // If the store shuts over an honest device: the lines up to then are those of a run.
+    ensures until { S.IsUsable register.old.store → S.HasHonestDevice register.new.store
+        → S.IsUsable register.new.store
+        ⊎ ((st : State) → Refines (S.content register.old.store) st
+        → IfSome (R.remaining reader) (λ bytes. RunsFileUntil st bytes (W.contents writer.old)
+        (W.contents writer.new) result)) }
     ensures state { S.IsUsable register.new.store → (st : State)
         → Refines (S.content register.old.store) st
         → RefinesReachable st (S.content register.new.store) }
-    ensures preserves { PreservesStore S.StoreModel register.old.store register.new.store ⊥
-        (ReportsStorage (S.IsUsable register.new.store) (S.content register.old.store)
-        (FailsWith FaultKind.Storage result)) }
+    ensures preserves { PreservesStore S.StoreModel register.old.store register.new.store
+        (IsAvailable result) (ReportsStorage (S.IsUsable register.new.store)
+        (S.content register.old.store) (FailsWith FaultKind.Storage result)) }
 {
     let mut line = match LineBuffer::new(alloc) {
         Ok(line) => line,

@@ -144,6 +144,8 @@ impl LineBuffer {
     }
 
     /// Sends the line to `writer`, and flushes.
+    ///
+    /// Not proved: that it flushes.
     pub fn send<W: Write>(&self, writer: &mut W) -> Result<(), FaultKind>
         ensures ok { OnOk result
             (Appends (W.contents writer.old) (W.contents writer.new) (string_bytes self.now.text)) }

@@ -1,5 +1,5 @@
 //! Executes the commands of a bulk file.
-ghost use Rattle.std.specs.Prelude.{◌≡◌, true, false, nat_lt, IfOk, IfErr, OnOk, OnErr, Err, string_bytes};
+ghost use Rattle.std.specs.Prelude.{◌≡◌, ◌↔◌, true, false, nat_lt, IfOk, IfErr, OnOk, OnErr, Err, string_bytes};
 ghost use Rattle.model.specs.Machine.{Refused, out, next};
 ghost use Rattle.model.specs.History.{CommandRequest};
 ghost use Rattle.model.specs.State.{State};
@@ -10,7 +10,7 @@ ghost use Rattle.bulk.specs.declared.fault.FaultKind.TheVariants.{Storage};
 ghost use Rattle.requests.specs.Calls.{command_of, reply_of};
 ghost use Rattle.register.specs.Refinement.{Refines};
 ghost use Rattle.settle.specs.StoreContract.{PreservesStore, ReportsStorage};
-ghost use Rattle.bulk.specs.Faults.{IsUnavailableKind};
+ghost use Rattle.bulk.specs.Faults.{IsAvailableKind, IsUnavailableKind};
 ghost use Rattle.bulk.specs.Making.{IsCommandReply, IsResultOf, is_of_number};
 ghost use Rattle.bulk.specs.Report.{CommandTask, input_for, line_of, next_state};
 
@@ -42,8 +42,8 @@ fn outcome_of_refusal(refusal: Refusal) -> Result<CommandResult, FaultKind>
     ensures outcome { IfOk result (λ outcome. (nat_lt (number_of refusal) 29 ≡ true)
         × IsResultOf outcome (Refused (number_of refusal))) }
     ensures other { OnErr result (nat_lt (number_of refusal) 29 ≡ false) }
-    ensures kind { IfErr result
-        (λ kind. IsUnavailableKind kind × (kind ≡ Storage → refusal ≡ StorageRefusal)) }
+    ensures kind { IfErr result IsUnavailableKind }
+    ensures storage { (result ≡ Err Storage) ↔ (refusal ≡ StorageRefusal) }
 {
     match refusal {
         Refusal::Storage => Err(FaultKind::Storage),
@@ -69,8 +69,8 @@ fn execute_command<S: Store>(
         → is_of_number (command_of command.now) ≡ true
         → Refines (S.content register.new.store) st) }
     ensures unavailable { IfErr result IsUnavailableKind }
-    ensures preserves { PreservesStore S.StoreModel register.old.store register.new.store ⊥
-        (ReportsStorage (S.IsUsable register.new.store) (S.content register.old.store)
+    ensures preserves { PreservesStore S.StoreModel register.old.store register.new.store
+        (IfErr result IsAvailableKind) (ReportsStorage (S.IsUsable register.new.store) (S.content register.old.store)
         (result ≡ Err FaultKind.Storage)) }
 {
     match register.do_it(caller, command) {
@@ -94,8 +94,8 @@ fn execute_operation<S: Store>(
     ensures kept { OnErr result (S.IsUsable register.new.store → (st : State)
         → Refines (S.content register.old.store) st → Refines (S.content register.new.store) st) }
     ensures unavailable { IfErr result IsUnavailableKind }
-    ensures preserves { PreservesStore S.StoreModel register.old.store register.new.store ⊥
-        (ReportsStorage (S.IsUsable register.new.store) (S.content register.old.store)
+    ensures preserves { PreservesStore S.StoreModel register.old.store register.new.store
+        (IfErr result IsAvailableKind) (ReportsStorage (S.IsUsable register.new.store) (S.content register.old.store)
         (result ≡ Err FaultKind.Storage)) }
 {
     let command = command_for(register, tn, operation)?;
@@ -121,8 +121,8 @@ pub fn execute<S: Store>(
     ensures kept { OnErr result (S.IsUsable register.new.store → (st : State)
         → Refines (S.content register.old.store) st → Refines (S.content register.new.store) st) }
     ensures unavailable { IfErr result IsUnavailableKind }
-    ensures preserves { PreservesStore S.StoreModel register.old.store register.new.store ⊥
-        (ReportsStorage (S.IsUsable register.new.store) (S.content register.old.store)
+    ensures preserves { PreservesStore S.StoreModel register.old.store register.new.store
+        (IfErr result IsAvailableKind) (ReportsStorage (S.IsUsable register.new.store) (S.content register.old.store)
         (result ≡ Err FaultKind.Storage)) }
 {
     let outcome = execute_operation(register, caller, tn, operation)?;

@@ -1,16 +1,16 @@
 //! Runs the rows of a bulk file.
-ghost use Rattle.std.specs.Prelude.{◌≡◌, List, ◌+◌, ◌<◌, ◌≤◌, ◌^◌, ⊤, [], ◌∷◌, Some, Option, IfOk, IfErr, OnErr, string_bytes};
+ghost use Rattle.std.specs.Prelude.{◌≡◌, ◌⊎◌, List, ◌+◌, ◌<◌, ◌≤◌, ◌^◌, ⊤, [], ◌∷◌, Some, Option, IfOk, IfErr, OnErr, string_bytes};
 ghost use Rattle.std.specs.Io.KnownBytes.{Appends};
 ghost use Rattle.csv.specs.Records.{fields_of};
 ghost use Rattle.model.specs.State.{State};
 ghost use Rattle.http_messages.specs.Sending.{AppendsPrefix};
 ghost use Rattle.register.specs.Refinement.{Refines};
 ghost use Rattle.settle.specs.StoreContract.{PreservesStore, ReportsStorage};
-ghost use Rattle.bulk.specs.Faults.{FailsWith};
+ghost use Rattle.bulk.specs.Faults.{FailsWith, IsAvailable};
 ghost use Rattle.bulk.specs.Requests.{ParsesRow};
 ghost use Rattle.bulk.specs.Report.{CommandTask, tasks_of};
 ghost use Rattle.bulk.specs.Rows.{Row, HasRows, IsPlain};
-ghost use Rattle.bulk.specs.Running.{RefinesReachable, RunsRows, RunsTo, SendsOne};
+ghost use Rattle.bulk.specs.Running.{RefinesReachable, RunsRows, RunsRowsUntil, RunsTo, RunsUntil, SendsOne};
 ghost use Rattle.bulk.specs.declared.request.BulkRequest.{BulkRequest as BulkRequestImpl};
 
 use crate::fault::{BulkFault, FaultKind};
@@ -54,10 +54,15 @@ fn run_number<S: Store, W: Write>(
         → RunsTo st (CommandTask row request.now.caller.number tn.number request.now.operation ∷ [])
         (S.content register.new.store) (W.contents writer.old) (W.contents writer.new)
         count result }
+    ensures until { S.IsUsable register.old.store → S.HasHonestDevice register.new.store
+        → S.IsUsable register.new.store
+        ⊎ ((st : State) → Refines (S.content register.old.store) st
+        → RunsUntil st (CommandTask row request.now.caller.number tn.number
+        request.now.operation ∷ []) (W.contents writer.old) (W.contents writer.new) count result) }
     ensures count { IfOk result (λ k. k ≡ count + 1) }
-    ensures preserves { PreservesStore S.StoreModel register.old.store register.new.store ⊥
-        (ReportsStorage (S.IsUsable register.new.store) (S.content register.old.store)
-        (FailsWith FaultKind.Storage result)) }
+    ensures preserves { PreservesStore S.StoreModel register.old.store register.new.store
+        (IsAvailable result) (ReportsStorage (S.IsUsable register.new.store)
+        (S.content register.old.store) (FailsWith FaultKind.Storage result)) }
 {
     match execute(register, line, row, request.caller, tn, &request.operation) {
         Ok(()) => send_line(line, writer, count),
@@ -79,10 +84,15 @@ fn run_request<S: Store, W: Write>(
         → Refines (S.content register.old.store) st
         → RunsTo st (tasks_of row (Some request.now)) (S.content register.new.store)
         (W.contents writer.old) (W.contents writer.new) count result }
+    ensures until { S.IsUsable register.old.store → S.HasHonestDevice register.new.store
+        → S.IsUsable register.new.store
+        ⊎ ((st : State) → Refines (S.content register.old.store) st
+        → RunsUntil st (tasks_of row (Some request.now)) (W.contents writer.old)
+        (W.contents writer.new) count result) }
     ensures few { IfOk result (λ k. k ≤ count + 1000) }
-    ensures preserves { PreservesStore S.StoreModel register.old.store register.new.store ⊥
-        (ReportsStorage (S.IsUsable register.new.store) (S.content register.old.store)
-        (FailsWith FaultKind.Storage result)) }
+    ensures preserves { PreservesStore S.StoreModel register.old.store register.new.store
+        (IsAvailable result) (ReportsStorage (S.IsUsable register.new.store)
+        (S.content register.old.store) (FailsWith FaultKind.Storage result)) }
 {
     let mut written = count;
     let numbers = request.numbers;
@@ -106,11 +116,16 @@ fn run_row<S: Store, W: Write>(
     ensures runs { (o : Option BulkRequestImpl) × ParsesRow (fields_of raw.now) o
         × (S.IsUsable register.new.store → (st : State) → Refines (S.content register.old.store) st
         → RunsTo st (tasks_of row o) (S.content register.new.store) (W.contents writer.old)
-        (W.contents writer.new) count result) }
+        (W.contents writer.new) count result)
+        × (S.IsUsable register.old.store → S.HasHonestDevice register.new.store
+        → S.IsUsable register.new.store
+        ⊎ ((st : State) → Refines (S.content register.old.store) st
+        → RunsUntil st (tasks_of row o) (W.contents writer.old) (W.contents writer.new) count
+        result)) }
     ensures few { IfOk result (λ k. k ≤ count + 1000) }
-    ensures preserves { PreservesStore S.StoreModel register.old.store register.new.store ⊥
-        (ReportsStorage (S.IsUsable register.new.store) (S.content register.old.store)
-        (FailsWith FaultKind.Storage result)) }
+    ensures preserves { PreservesStore S.StoreModel register.old.store register.new.store
+        (IsAvailable result) (ReportsStorage (S.IsUsable register.new.store)
+        (S.content register.old.store) (FailsWith FaultKind.Storage result)) }
 {
     match read_request(raw) {
         Some(request) => run_request(register, line, writer, row, &request, count),
@@ -137,12 +152,17 @@ pub fn run_rows<S: Store, R: Read, W: Write>(
         → Refines (S.content register.old.store) st → (rows : List Row)
         → HasRows R.remaining reader.old rows → RunsRows st rows (S.content register.new.store)
         (W.contents writer.old) (W.contents writer.new) result }
+    ensures until { S.IsUsable register.old.store → S.HasHonestDevice register.new.store
+        → S.IsUsable register.new.store
+        ⊎ ((st : State) → Refines (S.content register.old.store) st
+        → (rows : List Row) → HasRows R.remaining reader.old rows
+        → RunsRowsUntil st rows (W.contents writer.old) (W.contents writer.new) result) }
     ensures state { S.IsUsable register.new.store → (st : State)
         → Refines (S.content register.old.store) st
         → RefinesReachable st (S.content register.new.store) }
-    ensures preserves { PreservesStore S.StoreModel register.old.store register.new.store ⊥
-        (ReportsStorage (S.IsUsable register.new.store) (S.content register.old.store)
-        (FailsWith FaultKind.Storage result)) }
+    ensures preserves { PreservesStore S.StoreModel register.old.store register.new.store
+        (IsAvailable result) (ReportsStorage (S.IsUsable register.new.store)
+        (S.content register.old.store) (FailsWith FaultKind.Storage result)) }
 {
     let mut raw = ByteRecord::new(alloc);
     let mut count = 0;

@@ -12,7 +12,7 @@ use requests::Command;
 use std::alloc::Global;
 
 /// A carrier, its copy, the findings, and the result of the audit.
-type Row<'a> = (&'a str, &'a str, &'a str, Result<u64, BulkFault>);
+pub type Row<'a> = (&'a str, &'a str, &'a str, Result<u64, BulkFault>);
 
 const UNKNOWN_CARRIER: Result<u64, BulkFault> = Err(BulkFault {
     kind: FaultKind::UnknownCarrier,
@@ -29,8 +29,8 @@ const BAD_FILE: Result<u64, BulkFault> = Err(BulkFault {
     rows: 0,
 });
 
-// The number is in force at 2025440000, and its download is pending for CCCC.
-static ROWS: [Row<'static>; 20] = [
+/// Audits of a number that is in force at 2025440000, whose download is pending for CCCC.
+pub static ROWS: [Row<'static>; 20] = [
     (
         "AAAA",
         "subject,lrn,cic\n2025331234,2025550000,\n2025339999,2025330000,\n",
@@ -297,17 +297,22 @@ fn pool_block(alloc: Global, register: &mut MemoryRegister) -> Option<()> {
     acknowledge_all(register, 3, 1)
 }
 
-const POOL_EXPORT: &str =
-    "subject,lrn,cic\n2025337,2025550000,\n2025337001,2025330000,\n2025337002,2025330000,\n";
-
-fn is_pool_exported_in(alloc: Global, register: &mut MemoryRegister) -> Option<bool> {
-    pool_block(alloc, register)?;
-    Some(is_exported_in(alloc, register, POOL_EXPORT, 3))
+/// Returns a register with a block and two of its numbers in force.
+pub fn register_with_pool(alloc: Global) -> Option<MemoryRegister> {
+    let mut register = register_with_carriers(alloc)?;
+    match pool_block(alloc, &mut register) {
+        Some(()) => Some(register),
+        None => None,
+    }
 }
 
+/// The export of that register.
+pub const POOL_EXPORT: &str =
+    "subject,lrn,cic\n2025337,2025550000,\n2025337001,2025330000,\n2025337002,2025330000,\n";
+
 fn is_pool_exported(alloc: Global) -> Option<bool> {
-    let mut register = register_with_carriers(alloc)?;
-    is_pool_exported_in(alloc, &mut register)
+    let mut register = register_with_pool(alloc)?;
+    Some(is_exported_in(alloc, &mut register, POOL_EXPORT, 3))
 }
 
 #[test]

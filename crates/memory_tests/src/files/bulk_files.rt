@@ -8,14 +8,23 @@ use bulk::{BulkFault, FaultKind, run_file};
 use std::alloc::Global;
 
 /// A file, its report, and the result of the run.
-type Row<'a> = (&'a str, &'a str, Result<u64, BulkFault>);
+pub type Row<'a> = (&'a str, &'a str, Result<u64, BulkFault>);
 
 const BAD_HEADER: Result<u64, BulkFault> = Err(BulkFault {
     kind: FaultKind::BadHeader,
     rows: 0,
 });
 
-static ROWS: [Row<'static>; 12] = [
+/// Two commands on two numbers each.
+pub const RANGES: &str =
+    "caller,action,subject,old,new,due,lrn,cic,flag\nAAAA,subscriptionVersionNewSP-Create,2025331234-2025331235,BBBB,AAAA,100,2025440000,0288,\nAAAA,subscriptionVersionCancel,2025331234-2025331235,,,,,,\n";
+
+/// The report of those ranges.
+pub const RANGES_REPORT: &str =
+    "row,subject,result,id\n1,2025331234,ok,1\n1,2025331235,ok,2\n2,2025331234,ok,1\n2,2025331235,ok,2\n";
+
+/// Files with good and bad rows.
+pub static ROWS: [Row<'static>; 12] = [
     (
         "caller,action,subject,old,new,due,lrn,cic,flag\nAAAA,subscriptionVersionNewSP-Create,2025331234,BBBB,AAAA,100,2025440000,,\nCCCC,subscriptionVersionNewSP-Create,2025331234,BBBB,CCCC,100,2025550000,,\nBBBB,subscriptionVersionOldSP-Create,2025331234,BBBB,AAAA,100,,,yes\n",
         "row,subject,result,id\n1,2025331234,ok,1\n2,2025331234,busy,\n3,2025331234,ok,1\n",
@@ -62,11 +71,7 @@ static ROWS: [Row<'static>; 12] = [
         "row,subject,result,id\n1,,bad_row,\n2,2025331234,not_found,\n3,,bad_row,\n",
         Ok(3),
     ),
-    (
-        "caller,action,subject,old,new,due,lrn,cic,flag\nAAAA,subscriptionVersionNewSP-Create,2025331234-2025331235,BBBB,AAAA,100,2025440000,0288,\nAAAA,subscriptionVersionCancel,2025331234-2025331235,,,,,,\n",
-        "row,subject,result,id\n1,2025331234,ok,1\n1,2025331235,ok,2\n2,2025331234,ok,1\n2,2025331235,ok,2\n",
-        Ok(4),
-    ),
+    (RANGES, RANGES_REPORT, Ok(4)),
     (
         "caller,action,subject,old,new,due,lrn,cic,flag\nBBBB,subscriptionVersionOldSP-Create,2025331234,BBBB,AAAA,0,,,no\nBBBB,subscriptionVersionOldSP-Create,2025331234,BBBB,AAAA,0,,,yes\nBBBB,subscriptionVersionModify,2025331234,,,,,,\n",
         "row,subject,result,id\n1,2025331234,too_late,\n2,2025331234,ok,1\n3,,bad_row,\n",

@@ -5,6 +5,7 @@ use bulk::{BulkFault, export, run_file};
 use numbers::{CodeId, Lrn, Minute, Spid};
 use register::Register;
 use requests::Command;
+use settle::Store;
 use std::alloc::Global;
 use std::io::Read;
 use store::MemoryStore;
@@ -57,9 +58,9 @@ pub fn acknowledge_all(register: &mut MemoryRegister, id: u64, attempt: u64) -> 
 }
 
 /// Returns whether the register runs a file with this report and this result.
-pub fn is_run_in<R: Read + Drop>(
+pub fn is_run_in<S: Store, R: Read + Drop>(
     alloc: Global,
-    register: &mut MemoryRegister,
+    register: &mut Register<S>,
     reader: R,
     report: &str,
     expected: Result<u64, BulkFault>,

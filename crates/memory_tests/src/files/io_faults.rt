@@ -8,10 +8,11 @@ use crate::files::fixture::{
 use bulk::{BulkFault, FaultKind, export, run_file};
 use std::alloc::Global;
 
-const HEADER: &str = "caller,action,subject,old,new,due,lrn,cic,flag\n";
+/// The header of a file of commands.
+pub const HEADER: &str = "caller,action,subject,old,new,due,lrn,cic,flag\n";
 
-// Three rows, after the header.
-static ROWS: [&str; 3] = [
+/// Three rows, after the header.
+pub static ROWS: [&str; 3] = [
     "AAAA,subscriptionVersionNewSP-Create,2025331234,BBBB,AAAA,100,2025440000,,\n",
     "CCCC,subscriptionVersionNewSP-Create,2025331234,BBBB,CCCC,100,2025550000,,\n",
     "BBBB,subscriptionVersionOldSP-Create,2025331234,BBBB,AAAA,100,,,yes\n",
@@ -52,8 +53,8 @@ static RERUN_LINES: [[&str; 3]; 4] = [
     ],
 ];
 
-// Returns a first line and the lines after it.
-fn text_of(alloc: Global, first: &str, lines: &[&str]) -> Option<String> {
+/// Returns a first line and the lines after it.
+pub fn text_of(alloc: Global, first: &str, lines: &[&str]) -> Option<String> {
     let mut text = String::new(alloc);
     text.push_str(first).ok()?;
     for line in lines {
@@ -182,9 +183,9 @@ fn expected_within(capacity: usize) -> (Result<u64, BulkFault>, usize) {
     }
 }
 
-// Returns whether this is the report of another run of the file, after the first `executed`
-// commands.
-fn is_rerun_reported(
+/// Returns whether this is the report of another run of the file, after the first `executed`
+/// commands.
+pub fn is_rerun_reported(
     alloc: Global,
     register: &mut MemoryRegister,
     file: &[u8],

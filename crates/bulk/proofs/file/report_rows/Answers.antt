@@ -3,6 +3,7 @@ use Rattle.std.specs.Io.KnownBytes.{Appends}
 use Rattle.http_messages.specs.Sending.{AppendsPrefix}
 use Rattle.bulk.specs.Report.{report_header}
 use Rattle.bulk.proofs.Filed.{header_broken}
+use Rattle.bulk.proofs.Until.{or_then}
 use Rattle.bulk.proofs.file.report_rows.Goals as goal
 
 pub returns-in-Ok-clause-reports : goal.returns-in-Ok-clause-reports
@@ -22,3 +23,13 @@ returns-in-Err-clause-reports g c = λ u st s rows has.
     c.at_start.ensures.rows s
     (subst (AppendsPrefix (g.W.Write.contents c.args.writer.now)
     (g.W.Write.contents c.send.new.writer)) c.set_first.ensures c.in-Err.ensures.err)
+
+pub returns-in-Ok-clause-until : goal.returns-in-Ok-clause-until
+unfolding report_header
+returns-in-Ok-clause-until g c = λ usable honest.
+    or_then (c.run_rows.ensures.until usable honest) (λ until st s rows has. (
+      g.W.Write.contents c.send.new.writer,
+      subst (Appends (g.W.Write.contents c.args.writer.now) (g.W.Write.contents c.send.new.writer))
+          c.set_first.ensures c.in-Ok.ensures.ok,
+      until st s rows has,
+    ))

@@ -26,5 +26,5 @@ returns-clause-kept g c =
 
 pub returns-clause-preserves : goal.returns-clause-preserves
 returns-clause-preserves g c =
-    owes_then c.in_ok-command.ensures.preserves c.execute_command.ensures.preserves
+    owes_then c.in_ok-command.ensures.preserves tt c.execute_command.ensures.preserves
     c.in_ok-command.ensures.kept

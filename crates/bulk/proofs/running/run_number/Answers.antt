@@ -1,6 +1,7 @@
-use Rattle.std.proofs.Common.{[], ◌∷◌, string_bytes}
+use Rattle.std.proofs.Common.{[], ◌∷◌, inr, string_bytes}
 use Rattle.bulk.specs.Report.{CommandTask}
 use Rattle.bulk.proofs.Runs.{one_sent, short_stop}
+use Rattle.bulk.proofs.Until.{until_none}
 use Rattle.bulk.proofs.running.run_number.Goals as goal
 
 pub returns-in-Ok-clause-runs : goal.returns-in-Ok-clause-runs
@@ -17,3 +18,9 @@ returns-in-Err-clause-runs g c = λ u st s.
     c.args.tn.number
     c.args.request.now.operation ∷ []) _ (g.W.Write.contents c.args.writer.now) c.args.count
     c.in-Err.ensures.unavailable (c.in-Err.ensures.kept u st s)
+
+pub returns-in-Err-clause-until : goal.returns-in-Err-clause-until
+returns-in-Err-clause-until g c = λ usable honest.
+    inr (λ st s. until_none st (CommandTask c.args.row c.args.request.now.caller.number
+    c.args.tn.number c.args.request.now.operation ∷ []) (g.W.Write.contents c.args.writer.now)
+    (record { kind = c.in-Err.kind; rows = c.args.count }) c.in-Err.ensures.unavailable)

@@ -1,4 +1,5 @@
 use Rattle.std.proofs.Common.{◌≡◌, ◌+◌, ◌-◌, ◌≤◌, ℕ, map}
+use Rattle.std.specs.Prelude.{⊤}
 use Rattle.model.specs.State.{State}
 use Rattle.register.specs.Refinement.{Refines}
 use Rattle.settle.specs.StoreContract.{PreservesStore}
@@ -12,7 +13,7 @@ invariant-loop-number g l = record {
   counted : l.written ≡ l.fn.count + (l.number - l.numbers.first.number);
   owed : PreservesStore g.S.StoreModel
       l.fn.register.store
-      l.register.store ⊥ ⊥;
+      l.register.store ⊤ ⊥;
   going : g.S.StoreModel.IsUsable l.register.store → (st : State)
       → Refines (g.S.StoreModel.content l.fn.register.store) st →
       DoesAll st (map (λ (n : ℕ). CommandTask l.row l.request.caller.number n l.request.operation)

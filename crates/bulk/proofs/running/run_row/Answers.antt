@@ -1,11 +1,15 @@
-use Rattle.std.proofs.Common.{Some, None, string_bytes}
+use Rattle.std.proofs.Common.{Some, None, inl, string_bytes}
 use Rattle.bulk.specs.Report.{Bad}
 use Rattle.bulk.proofs.Runs.{one_sent}
 use Rattle.bulk.proofs.running.run_row.Goals as goal
 
 pub returns-in-Some-clause-runs : goal.returns-in-Some-clause-runs
-returns-in-Some-clause-runs g c =
-    (Some c.in-Some.request, c.in-Some.ensures, c.run_request.ensures.runs)
+returns-in-Some-clause-runs g c = (
+  Some c.in-Some.request,
+  c.in-Some.ensures,
+  c.run_request.ensures.runs,
+  c.run_request.ensures.until,
+)
 
 pub returns-in-None-clause-runs : goal.returns-in-None-clause-runs
 returns-in-None-clause-runs g c = (
@@ -13,4 +17,5 @@ returns-in-None-clause-runs g c = (
   c.in-None.ensures,
   λ u st s. one_sent st (Bad c.args.row) _ _ _ c.args.count (string_bytes c.set_bad.new.self.text)
       c.send_line.result c.set_bad.ensures s c.send_line.ensures,
+  λ usable honest. inl usable,
 )

@@ -1,10 +1,11 @@
-use Rattle.std.proofs.Common.{Ok, Err, inr, refl, arith}
+use Rattle.std.proofs.Common.{Ok, Err, inl, inr, refl, arith}
 use Rattle.std.proofs.Math.Nat.{le_trans}
 use Rattle.csv.specs.Records.{fields_of}
 use Rattle.bulk.specs.Report.{state_after, tasks_from, tasks_of}
 use Rattle.bulk.specs.declared.fault.FaultKind.TheVariants.{NoMemory}
 use Rattle.bulk.proofs.Asked.{owes_none, owes_on}
-use Rattle.bulk.proofs.Passing.{begins, ends, unread, passes_row, fails_row}
+use Rattle.bulk.proofs.Passing.{begins, ends, unread, passes_row, fails_row, until_row}
+use Rattle.bulk.proofs.Until.{or_then}
 use Rattle.bulk.proofs.Runs.{run_follows, follows_then, follows_none}
 use Rattle.bulk.proofs.running.run_rows.Goals as goal
 
@@ -30,6 +31,20 @@ returns-in-Err-run_row-clause-runs g c = λ u st s rows has.
     c.loop-row.count p (fields_of c.next_row.new.row) runs.0 _ _ runs.1 takes
     c.in-Err-run_row.fault (runs.2 u (state_after st (tasks_from 1 p.requests)) p.done.refines)
 
+pub returns-in-Err-run_row-clause-until : goal.returns-in-Err-run_row-clause-until
+returns-in-Err-run_row-clause-until g c = λ usable honest.
+    let mid = c.loop-row.invariant.owed.stays tt usable
+    (c.run_row.ensures.preserves.honest honest) in
+    let runs = c.in-Err-run_row.ensures.runs in
+    let takes = rw c.in-Ok-true.field-0-test at c.in-Ok-true.ensures.takes in
+    or_then (runs.3 mid honest) (λ until st s rows has.
+    let p = c.loop-row.invariant.passes mid st s rows has in
+    until_row g.R.Read.remaining st rows c.loop-row.reader c.next_row.new.reader _
+    (g.W.Write.contents c.args.writer.now) (g.W.Write.contents c.loop-row.writer) c.loop-row.row
+    c.loop-row.count p (fields_of c.next_row.new.row) runs.0
+    (g.S.StoreModel.content c.run_row.new.register.store) _ runs.1 takes c.in-Err-run_row.fault
+    (until (state_after st (tasks_from 1 p.requests)) p.done.refines))
+
 pub returns-in-Err-run_row-clause-state : goal.returns-in-Err-run_row-clause-state
 returns-in-Err-run_row-clause-state g c = λ u st s.
     let runs = c.in-Err-run_row.ensures.runs in
@@ -41,7 +56,7 @@ returns-in-Err-run_row-clause-state g c = λ u st s.
 
 pub returns-in-Err-run_row-clause-preserves : goal.returns-in-Err-run_row-clause-preserves
 returns-in-Err-run_row-clause-preserves g c =
-    owes_on c.loop-row.invariant.owed c.in-Err-run_row.ensures.preserves (λ u st s. let f =
+    owes_on c.loop-row.invariant.owed tt c.in-Err-run_row.ensures.preserves (λ u st s. let f =
     c.loop-row.invariant.follows u st s in (_, f.1))
 
 pub returns-in-Ok-false-clause-runs : goal.returns-in-Ok-false-clause-runs
@@ -66,7 +81,10 @@ loop-row-preserved g c =
       owed = record {
         usable = λ u. c.loop-row.invariant.owed.usable (c.run_row.ensures.preserves.usable u);
         honest = λ h. c.loop-row.invariant.owed.honest (c.run_row.ensures.preserves.honest h);
-        stays = λ never. absurd never;
+        stays = λ settles usable honest.
+            c.in-Ok.ensures.preserves.stays tt
+            (c.loop-row.invariant.owed.stays tt usable
+            (c.run_row.ensures.preserves.honest honest)) honest;
         rises = le_trans c.loop-row.invariant.owed.rises c.run_row.ensures.preserves.rises;
         storage = λ x. absurd x;
       };
@@ -91,3 +109,15 @@ returns-clause-runs g c = λ u st s rows has.
     let p = c.loop-row.invariant.passes u st s rows has in
     unread g.R.Read.remaining st rows c.loop-row.reader c.loop-row.reader _ _ _ c.loop-row.row
     c.loop-row.count p NoMemory (inr refl)
+
+pub returns-in-Ok-false-clause-until : goal.returns-in-Ok-false-clause-until
+returns-in-Ok-false-clause-until g c =
+    λ usable honest. inl (c.loop-row.invariant.owed.stays tt usable honest)
+
+pub returns-in-Err-clause-until : goal.returns-in-Err-clause-until
+returns-in-Err-clause-until g c =
+    λ usable honest. inl (c.loop-row.invariant.owed.stays tt usable honest)
+
+pub returns-clause-until : goal.returns-clause-until
+returns-clause-until g c =
+    λ usable honest. inl (c.loop-row.invariant.owed.stays tt usable honest)

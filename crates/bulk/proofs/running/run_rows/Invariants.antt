@@ -1,4 +1,5 @@
 use Rattle.std.proofs.Common.{◌+◌, ◌*◌, ◌≤◌, List}
+use Rattle.std.specs.Prelude.{⊤}
 use Rattle.model.specs.State.{State}
 use Rattle.register.specs.Refinement.{Refines}
 use Rattle.settle.specs.StoreContract.{PreservesStore}
@@ -13,7 +14,7 @@ invariant-loop-row g l = record {
   few : l.count + 1000 ≤ 1000 * l.row;
   owed : PreservesStore g.S.StoreModel
       l.fn.register.store
-      l.register.store ⊥ ⊥;
+      l.register.store ⊤ ⊥;
   follows : g.S.StoreModel.IsUsable l.register.store → (st : State)
       → Refines (g.S.StoreModel.content l.fn.register.store) st
       → RefinesReachable st (g.S.StoreModel.content l.register.store);
