@@ -1,6 +1,6 @@
 -- The effect on the content of a row inserted into each table or deleted from it.
 use Rattle.std.proofs.Common.{◌≡◌, ℕ, pos, [], ◌∷◌, cond, Some, None, refl, sym, ap, subst, ◌∙◌, arith}
-use Rattle.std.specs.Prelude.{option_map, option_and_then}
+use Rattle.std.specs.Prelude.{option_map, unwrap_or}
 use Rattle.std.specs.Ordering.{nat_cmp}
 use Rattle.std.specs.Cmp.{nat_cmp_total, eq_by_cmp_equiv}
 use Rattle.std.specs.FinMap.{FinMap, get, insert, remove, get-insert, get-remove, nat_cmp-IsAntisymmetric}
@@ -14,7 +14,8 @@ use Rattle.settle.specs.Abstraction.{wait_key_of}
 use Rattle.settle.specs.declared.rows.WaitKey.{WaitKey as WaitImpl}
 use Rattle.model.specs.Content.{Content, BlockRow, VersionRow, BroadcastRow, BroadcastKey, ClockRow, broadcast_cmp, wait_cmp}
 use Rattle.model.specs.Windows.{Windows}
-use Rattle.sql_rows.specs.Clocks.{StoredClock, clock_row, with_windows}
+use Rattle.version.specs.Abstraction.{no_windows}
+use Rattle.sql_rows.specs.Clocks.{StoredClock, clock_row, windows_named, with_windows}
 use Rattle.numbers.specs.Routings.{Routing}
 use Rattle.sql_rows.specs.Tables.{the_schema}
 use Rattle.sql_rows.specs.Shaped.{AreShaped}
@@ -31,7 +32,7 @@ use Rattle.sql_rows.proofs.TableLemmas.{Leaves, framed_twice, put, taken, conten
 use Rattle.sql_rows.proofs.Over.{over-remove}
 use Rattle.sql_rows.proofs.Rerouted.{row-put}
 use Rattle.sql_rows.proofs.Backs.{carrier_back}
-use Rattle.sql_rows.proofs.Inversions.{bind_some, map_some}
+use Rattle.sql_rows.proofs.Inversions.{map_some}
 
 -- Holds if the schema and the shapes are right, and this is the content.
 pub record Became (new : Database) (wanted : Content) : Type 0 where
@@ -128,7 +129,7 @@ module _ (old new : Database) (shaped : AreShaped old.trees) where
   pub put_clock : (c : StoredClock) → clock_entry (stored (clock_params 0 c)) ≡ Some (0, c)
       → Replaced Clock (Int (pos 0) ∷ []) (clock_params 0 c) old new
       → Became new (record (content_in old.trees) {
-        clock = with_windows (content_in old.trees).sets c;
+        clock = Some (with_windows (content_in old.trees).sets c);
       })
   put_clock c back r =
       let l = put Clock nat_cmp nat_cmp_total nat_cmp-IsAntisymmetric clock_entry 0
@@ -139,7 +140,7 @@ module _ (old new : Database) (shaped : AreShaped old.trees) where
         shaped = l.shaped;
         is = content_framed Clock old.trees new.trees l.frame
             ∙ ap (λ o. record (content_in old.trees) {
-              clock = option_and_then (with_windows (sets_in (old.trees 17))) o;
+              clock = option_map (with_windows (sets_in (old.trees 17))) o;
             }) (ap (λ m. get m 0) l.map ∙ get-insert nat_cmp_total _ 0 c 0);
       }
 
@@ -230,14 +231,29 @@ put_set_clock old mid new shaped w c set_back clock_back first second =
     record {
       schema = b.schema;
       shaped = b.shaped;
-      is = b.is ∙ ap (λ (x : Content). record x { clock = with_windows x.sets c }) a.is
+      is = b.is ∙ ap (λ (x : Content). record x { clock = Some (with_windows x.sets c) }) a.is
           ∙ ap (λ o. record (content_in old.trees) {
             sets = insert (content_in old.trees).sets c.present w;
-            clock = option_map (clock_row c.minute c.next_id c.present) o;
+            clock = Some (clock_row c.minute c.next_id c.present (unwrap_or o no_windows));
           }) (get-insert nat_cmp_total (content_in old.trees).sets c.present w c.present
           ∙ ap (λ b. cond b (Some w) (get (content_in old.trees).sets c.present))
           ((eq_by_cmp_equiv nat_cmp_total).refl c.present));
     }
+
+-- Putting a set's row, or the clock's, changes only its table.
+pub set_framed : (old new : Database) (n : ℕ) (w : Windows)
+    → Replaced WindowSet (Int (pos n) ∷ []) (set_params n w) old new
+    → IsFrame WindowSet old.trees new.trees
+set_framed old new n w r =
+    framed_twice WindowSet old.trees r.mid.trees new.trees r.removed.frame
+    (r.added (stored (set_params n w)) (set_cast r.mid.trees n w)).frame
+
+pub clock_framed : (old new : Database) (c : StoredClock)
+    → Replaced Clock (Int (pos 0) ∷ []) (clock_params 0 c) old new
+    → IsFrame Clock old.trees new.trees
+clock_framed old new c r =
+    framed_twice Clock old.trees r.mid.trees new.trees r.removed.frame
+    (r.added (stored (clock_params 0 c)) (clock_cast r.mid.trees 0 c)).frame
 
 module _ (old mid new : Database) (shaped : AreShaped old.trees) (n : ℕ) where
   -- Holds if the map of versions, and no other table, was changed so.
@@ -376,13 +392,11 @@ module _ (old mid new : Database) (shaped : AreShaped old.trees) (n : ℕ) where
 
 -- The clock's row has the windows of its set.
 pub clock_joins : (db : Trees) (r : ClockRow) → (content_in db).clock ≡ Some r
-    → get (content_in db).sets r.present.number ≡ Some r.present.windows
+    → windows_named (content_in db).sets r.present.number ≡ r.present.windows
 clock_joins db r e =
-    let a = bind_some (with_windows (sets_in (db 17))) (get (clocks_in (db 21)) 0) r e in
-    let b = map_some (clock_row a.0.minute a.0.next_id a.0.present)
-    (get (sets_in (db 17)) a.0.present) r a.2 in
-    subst (λ (c : ClockRow). get (content_in db).sets c.present.number ≡ Some c.present.windows) b.2
-    b.1
+    let a = map_some (with_windows (sets_in (db 17))) (get (clocks_in (db 21)) 0) r e in
+    subst (λ (c : ClockRow). windows_named (content_in db).sets c.present.number
+    ≡ c.present.windows) a.2 refl
 
 -- Putting only a version's row, as its table has it, changes only that table.
 pub version_left : (old new : Database) (n : ℕ) (v : VersionRow)

@@ -1,10 +1,10 @@
 -- The clock's row as stored, and in an earlier schema.
-use Rattle.std.specs.Prelude.{ℕ, Option, option_map}
+use Rattle.std.specs.Prelude.{ℕ, Option, unwrap_or}
 use Rattle.std.specs.Ordering.{nat_cmp}
 use Rattle.std.specs.FinMap.{FinMap, get}
 use Rattle.model.specs.Content.{ClockRow}
 use Rattle.model.specs.Windows.{Windows}
-use Rattle.version.specs.Abstraction.{windows_of}
+use Rattle.version.specs.Abstraction.{no_windows, windows_of}
 use Rattle.sql_rows.specs.declared.keyed.StoredClock.{StoredClock as StoredImpl}
 use Rattle.sql_rows.specs.declared.keyed.OldClock.{OldClock}
 
@@ -28,6 +28,12 @@ clock_row minute next_id present windows = record {
 abbrev pub old_clock_of : OldClock → ClockRow
 old_clock_of c = clock_row c.minute.number c.next_id 1 (windows_of c.windows)
 
--- The row with the windows of its set, if the set exists.
-abbrev pub with_windows : FinMap nat_cmp Windows → StoredClock → Option ClockRow
-with_windows sets c = option_map (clock_row c.minute c.next_id c.present) (get sets c.present)
+-- The windows of the set with this number. A missing set has windows of zero minutes: no set that
+-- exists has those.
+abbrev pub windows_named : FinMap nat_cmp Windows → ℕ → Windows
+windows_named sets number = unwrap_or (get sets number) no_windows
+
+-- The row with the windows of its set. If the set is missing, no look-up can return the row, nor
+-- that there is none.
+abbrev pub with_windows : FinMap nat_cmp Windows → StoredClock → ClockRow
+with_windows sets c = clock_row c.minute c.next_id c.present (windows_named sets c.present)

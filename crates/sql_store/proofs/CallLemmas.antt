@@ -360,11 +360,47 @@ module _ (a b c : State) where
     survives = both_survive first.survives two.survives;
   }
 
+  -- Two statements together change the tables so.
+  pub two_wrote : (done : Bool) (First Second Whole : Database → Database → Type 0)
+      → WritesInTransaction a b true First → WritesInTransaction b c done Second
+      → (AreShaped a.now.trees → First a.now b.now → (b.now.schema ≡ the_schema)
+      × AreShaped b.now.trees)
+      → (First a.now b.now → Second b.now c.now → Whole a.now c.now)
+      → WritesInTransaction a c done Whole
+  two_wrote done First Second Whole first two between means = record {
+    wrote = λ ok clean inside.
+        let one = first.wrote refl (earlier two.survives clean) inside in
+        let m = between inside.shaped one.did in
+        let then = two.wrote ok clean (record {
+          is_open = one.is_open;
+          inside = one.inside;
+          schema = m.0;
+          shaped = m.1;
+        }) in
+        record {
+          is_open = then.is_open;
+          inside = then.inside;
+          committed = then.committed ∙ one.committed;
+          did = means one.did then.did;
+        };
+    kept = kept_then first.kept two.kept;
+    survives = both_survive first.survives two.survives;
+  }
+
   pub two_stop : (First Second : Database → Database → Type 0) (change : Content → Content)
       → WritesInTransaction a b true First → WritesInTransaction b c false Second
       → AppliesInTransaction a c false change
   two_stop First Second change first two = record {
     made = λ no. absurd (true≢false (sym no));
+    kept = kept_then first.kept two.kept;
+    survives = both_survive first.survives two.survives;
+  }
+
+  pub two_unwritten : (First Second Whole : Database → Database → Type 0)
+      → WritesInTransaction a b true First → WritesInTransaction b c false Second
+      → WritesInTransaction a c false Whole
+  two_unwritten First Second Whole first two = record {
+    wrote = λ no. absurd (true≢false (sym no));
     kept = kept_then first.kept two.kept;
     survives = both_survive first.survives two.survives;
   }

@@ -1,6 +1,6 @@
 -- The content with all rows of a batch written and deleted is the content with its changes.
 use Rattle.std.proofs.Common.{◌≡◌, ℕ, List, [], ◌∷◌, map, Option, Some, None, Bool, true, false, cond, ◌&&◌, refl, sym, ap, ◌∙◌, arith, drop, drop-cons, add-one, suc, ◌+◌, ◌<◌, length, get_or}
-use Rattle.std.specs.Prelude.{◌==◌, ◌||◌, IsTrue, if◌then◌else◌, is_some, option_map}
+use Rattle.std.specs.Prelude.{◌==◌, ◌||◌, IsTrue, if◌then◌else◌, is_some, option_map, unwrap_or}
 use Rattle.std.specs.declared.cmp.Ordering.{Ordering}
 use Rattle.std.specs.Ordering.{nat_cmp, eq_by_cmp, is_eq}
 use Rattle.std.specs.Cmp.{IsTotalOrder, nat_cmp_total}
@@ -16,8 +16,8 @@ use Rattle.settle.specs.declared.rows.ClockRow.{ClockRow as ClockImpl}
 use Rattle.settle.specs.declared.rows.ClockMove.{ClockMove as MoveImpl}
 use Rattle.windows.specs.declared.window.WindowSet.{WindowSet as SetImpl}
 use Rattle.model.specs.Windows.{WindowSet, Windows}
-use Rattle.version.specs.Abstraction.{set_of, windows_of}
-use Rattle.sql_rows.specs.Clocks.{clock_row}
+use Rattle.version.specs.Abstraction.{no_windows, set_of, windows_of}
+use Rattle.sql_rows.specs.Clocks.{StoredClock, clock_row, windows_named, with_windows}
 use Rattle.model.specs.Content.{Content, ClockRow, BroadcastKey, WaitKey, broadcast_cmp, empty_content, wait_cmp}
 use Rattle.settle.specs.Changes.{AppliesChanges, changes_of, clock_after, clock_move_of, put_rows, put_row, delete_rows, same_broadcast, same_wait}
 use Rattle.settle.specs.Lists.{items_of}
@@ -25,7 +25,7 @@ use Rattle.settle.specs.Abstraction.{spid_of, lrn_of, code_of, block_of, block_r
 use Rattle.settle.specs.declared.changes.Changes.{Changes}
 use Rattle.sql_rows.proofs.Orders.{broadcast_tie, wait_tie}
 use Rattle.model.proofs.KeyOrders.{broadcast_total, wait_total}
-use Rattle.sql_store.specs.Changes.{all_made, go_by_clock, if_some, singles, lists, with_changes, with_carrier, with_lrn, with_code, with_block, clock_made, with_version, without_version, with_broadcast, without_broadcast, with_wait, without_wait}
+use Rattle.sql_store.specs.Changes.{all_made, go_by_clock, if_some, singles, lists, with_changes, with_carrier, with_lrn, with_code, with_block, clock_made, with_version, without_version, with_broadcast, without_broadcast, with_wait, without_wait, rewindowed}
 use Rattle.numbers.proofs.Small.{grouped}
 
 -- ---- parts of the content that a change keeps
@@ -53,7 +53,7 @@ clock_keeps part same (Some m) None None c = refl
 clock_keeps part same (Some m) None (Some row) c = same c c.sets _
 clock_keeps part same (Some m) (Some s) row c = same c _ _
 clock_keeps part same None (Some s) (Some row) c = same c _ _
-clock_keeps part same None (Some s) None c = same c _ c.clock
+clock_keeps part same None (Some s) None c = same c _ _
 
 -- ---- a table
 
@@ -148,6 +148,22 @@ pairs_map (p ∷ ps) = ap (λ l. p ∷ l) (pairs_map ps)
 
 number_ties : (a b : ℕ) → eq_by_cmp nat_cmp b a ≡ (a == b)
 number_ties a b = grind (arith, nat_tests)
+
+-- The clock's row has the windows of a set that was written, if it names that set.
+chosen : (b : Bool) (w : Windows) (o : Option Windows)
+    → unwrap_or (if b then Some w else o) no_windows ≡ (if b then w else unwrap_or o no_windows)
+chosen true w o = refl
+chosen false w o = refl
+
+pub set_alone : (number : ℕ) (w : Windows) (sets : FinMap nat_cmp Windows) (o : Option StoredClock)
+    → option_map (with_windows (insert sets number w)) o
+    ≡ option_map (rewindowed number w) (option_map (with_windows sets) o)
+set_alone number w sets None = refl
+set_alone number w sets (Some c) =
+    ap (λ v. Some (clock_row c.minute c.next_id c.present v))
+    (ap (λ o. unwrap_or o no_windows) (put_at nat_cmp nat_cmp_total ◌==◌ number_ties sets number w
+    c.present)
+    ∙ chosen (number == c.present) w (get sets c.present))
 
 turned : (a b : ℕ) → is_eq (nat_cmp b a) ≡ (a == b)
 turned a b = grind (arith, nat_tests)
@@ -302,7 +318,8 @@ module _ (ch : Changes) (row : Option ClockImpl) (c : Content) where
       clock_keeps many (λ c sets clock. refl) ch.clock ch.set row before ∙ ap many before_is
 
   clock_left : (IsTrue (go_by_clock ch) → option_map clock_row_of row ≡ c.clock)
-      → ((r : ClockRow) → c.clock ≡ Some r → get c.sets r.present.number ≡ Some r.present.windows)
+      → ((r : ClockRow) → c.clock ≡ Some r
+      → windows_named c.sets r.present.number ≡ r.present.windows)
       → (with_changes ch row c).clock ≡ clock_after (option_map clock_move_of ch.clock)
       (option_map set_of ch.set) c.clock
   clock_left is joins =
@@ -324,9 +341,9 @@ module _ (ch : Changes) (row : Option ClockImpl) (c : Content) where
             next_id = t.next_id;
           })) (is refl)
       by_cases (Some t) None (Some r) m same sets is =
-          ap (λ (s : FinMap nat_cmp Windows). option_map (clock_row t.minute.number t.next_id
-          r.present.number) (get s r.present.number)) sets
-          ∙ ap (option_map (clock_row t.minute.number t.next_id r.present.number))
+          ap (λ (s : FinMap nat_cmp Windows). Some (clock_row t.minute.number t.next_id
+          r.present.number (windows_named s r.present.number))) sets
+          ∙ ap (λ w. Some (clock_row t.minute.number t.next_id r.present.number w))
           (joins (clock_row_of r) (sym (is refl)))
           ∙ ap (option_map (λ (r : ClockRow). record r {
             minute = t.minute.number;
@@ -337,8 +354,8 @@ module _ (ch : Changes) (row : Option ClockImpl) (c : Content) where
       by_cases None (Some s) (Some r) m same sets is =
           ap (option_map (λ (r : ClockRow). record r { present = set_of s })) (is refl)
       by_cases None (Some s) None m same sets is =
-          same ∙ sym (is refl) ∙ ap (option_map (λ (r : ClockRow). record r { present = set_of s }))
-          (is refl)
+          ap (option_map (rewindowed s.number (windows_of s.windows))) (same ∙ sym (is refl))
+          ∙ ap (option_map (λ (r : ClockRow). record r { present = set_of s })) (is refl)
 
   sets_left : (k : ℕ)
       → get (with_changes ch row c).sets k ≡ put_row ◌==◌
@@ -435,7 +452,8 @@ module _ (ch : Changes) (row : Option ClockImpl) (c : Content) where
       ∙ ap (λ (m : Content). m.waits) singles_keep))
 
   pub changed : (IsTrue (go_by_clock ch) → option_map clock_row_of row ≡ c.clock)
-      → ((r : ClockRow) → c.clock ≡ Some r → get c.sets r.present.number ≡ Some r.present.windows)
+      → ((r : ClockRow) → c.clock ≡ Some r
+      → windows_named c.sets r.present.number ≡ r.present.windows)
       → AppliesChanges (changes_of ch) c (with_changes ch row c)
   changed is joins = record {
     carriers = carriers_left;

@@ -1,6 +1,6 @@
 -- The answers of the look-ups.
 use Rattle.std.proofs.Common.{◌≡◌, ℕ, pos, [], ◌∷◌, true, Option, Some, None, refl, sym, ap, subst, ◌∙◌, true≢false}
-use Rattle.std.specs.Prelude.{option_map, option_and_then, is_some, IsSomeAnd, MatchOption}
+use Rattle.std.specs.Prelude.{option_map, unwrap_or, is_some, IsSome, IsSomeAnd, MatchOption}
 use Rattle.std.specs.FinMap.{get}
 use Rattle.sqlite.specs.declared.types.Value.{Value}
 use Rattle.sqlite.specs.declared.types.Value.TheVariants.{Int}
@@ -16,11 +16,13 @@ use Rattle.model.specs.Windows.{Windows}
 use Rattle.windows.specs.declared.window.Windows.{Windows as WindowsImpl}
 use Rattle.windows.specs.declared.window.WindowSet.{WindowSet}
 use Rattle.settle.specs.declared.rows.ClockRow.{ClockRow as ClockImpl}
-use Rattle.version.specs.Abstraction.{windows_of}
-use Rattle.sql_rows.specs.Clocks.{clock_of, clock_row, with_windows}
+use Rattle.version.specs.Abstraction.{no_windows, windows_of}
+use Rattle.sql_rows.specs.Clocks.{StoredClock, clock_of, clock_row, with_windows}
 use Rattle.sql_rows.specs.declared.keyed.StoredClock.{StoredClock as StoredImpl}
 use Rattle.sql_rows.specs.declared.statement.Query.{Query}
 use Rattle.sql_store.specs.Found.{IsVersionFound, version_model}
+use Rattle.sql_store.specs.Whole.{HasPresentSet}
+use Rattle.numbers.proofs.Small.{some_is}
 use Rattle.numbers.specs.declared.spid.Spid.{Spid}
 use Rattle.numbers.specs.declared.ported.Subject.{Subject as SubjectImpl}
 use Rattle.model.specs.Content.{ClockRow, VersionRow}
@@ -172,8 +174,8 @@ pub no_clock : (db : Trees) (stored : Option StoredImpl) → stored ≡ None
     → option_map clock_of stored ≡ get (clocks_in (db 21)) 0
     → ◌≡◌ {A = Option ClockRow} None (content_in db).clock
 no_clock db stored none is =
-    ap (λ o. option_and_then (with_windows (sets_in (db 17))) (option_map clock_of o)) (sym none)
-    ∙ ap (option_and_then (with_windows (sets_in (db 17)))) is
+    ap (λ o. option_map (with_windows (sets_in (db 17))) (option_map clock_of o)) (sym none)
+    ∙ ap (option_map (with_windows (sets_in (db 17)))) is
 
 pub the_clock : (db : Trees) (stored : Option StoredImpl) (c : StoredImpl)
     (found : Option WindowsImpl) (w : WindowsImpl) → stored ≡ Some c
@@ -181,10 +183,27 @@ pub the_clock : (db : Trees) (stored : Option StoredImpl) (c : StoredImpl)
     → option_map windows_of found ≡ get (content_in db).sets c.present
     → Some (clock_row_of (clock_with c w)) ≡ (content_in db).clock
 the_clock db stored c found w some is there has =
-    ap (option_map (clock_row c.minute.number c.next_id c.present))
+    ap (λ o. Some (clock_row c.minute.number c.next_id c.present (unwrap_or o no_windows)))
     (ap (option_map windows_of) (sym there) ∙ has)
-    ∙ ap (option_and_then (with_windows (sets_in (db 17)))) (ap (option_map clock_of) (sym some)
-    ∙ is)
+    ∙ ap (option_map (with_windows (sets_in (db 17)))) (ap (option_map clock_of) (sym some) ∙ is)
+
+-- The set that the clock's row names is there, or there is no such row.
+pub set_there : (db : Trees) (stored : Option StoredImpl) (c : StoredImpl)
+    (found : Option WindowsImpl) (w : WindowsImpl) → stored ≡ Some c
+    → option_map clock_of stored ≡ get (clocks_in (db 21)) 0 → found ≡ Some w
+    → option_map windows_of found ≡ get (content_in db).sets c.present → HasPresentSet db
+set_there db stored c found w some is there has row named =
+    subst (λ (r : StoredClock). IsSome (get (sets_in (db 17)) r.present))
+    (some_is (clock_of c) row (ap (option_map clock_of) (sym some) ∙ is ∙ named))
+    (subst IsSome (ap (option_map windows_of) (sym there) ∙ has) refl)
+
+never_none : {A : Type 0} (a : A) → None ≡ Some a → ⊥
+never_none a h = cc
+
+pub no_set_named : (db : Trees) (stored : Option StoredImpl) → stored ≡ None
+    → option_map clock_of stored ≡ get (clocks_in (db 21)) 0 → HasPresentSet db
+no_set_named db stored none is row named =
+    absurd (never_none row (ap (option_map clock_of) (sym none) ∙ is ∙ named))
 
 -- ---- a row that sends a modify
 

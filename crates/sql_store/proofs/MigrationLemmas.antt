@@ -1,7 +1,7 @@
 -- The migration of a file with an earlier schema.
 use Rattle.std.proofs.Common.{subst₂, pos, Err, IfOk, IfErr, ◌≡◌, ◌≢◌, ◌⊎◌, inl, inr, ℕ, List, [], ◌∷◌, map, Bool, true, false, cond, Option, Some, None, Result, Ok, IsTrue, refl, sym, ap, subst, ◌∙◌, true≢false, arith, drop, zero, suc, ◌+◌, ◌<◌, ◌≤◌, length, get_or}
 use Rattle.std.specs.Option.{option_or}
-use Rattle.std.specs.Prelude.{◌==◌, ◌&&◌, option_and_then, option_map, option_to_list}
+use Rattle.std.specs.Prelude.{◌==◌, ◌&&◌, IsSome, option_map, option_to_list}
 use Rattle.std.specs.Cmp.{eq_by_cmp_equiv, nat_cmp_total}
 use Rattle.std.specs.FinMap.{FinMap, empty, get, get-empty, get-insert, same_map, nat_cmp-IsAntisymmetric}
 use Rattle.std.specs.Ordering.{eq_by_cmp, nat_cmp}
@@ -25,16 +25,16 @@ use Rattle.sqlite_trees.specs.declared.store.Shape.TheVariants.{Table as AsTable
 use Rattle.model.specs.Content.{ClockRow, Content, VersionRow}
 use Rattle.version.specs.Abstraction.{windows_of}
 use Rattle.model.specs.Windows.{Windows}
-use Rattle.numbers.proofs.Small.{same_number as itself}
+use Rattle.numbers.proofs.Small.{same_number as itself, some_is}
 use Rattle.sql_rows.specs.Clocks.{StoredClock, old_clock_of, with_windows}
-use Rattle.sql_rows.specs.Content.{content_in, old_clock_in, stored_clock, versions_in}
-use Rattle.sql_rows.specs.OldSchemas.{content_with, old_clock, old_versions_in}
+use Rattle.sql_rows.specs.Content.{clock_entry, content_in, old_clock_in, set_entry, sets_in, stored_clock, versions_in}
+use Rattle.sql_rows.specs.OldSchemas.{content_with, first_sets, old_clock, old_versions_in}
 use Rattle.sql_rows.specs.Found.{IsListAnswer, IsSole}
 use Rattle.sql_rows.specs.Migration.{IsCleared, IsMade, IsTableOf, schema_of}
 use Rattle.sql_rows.specs.Shaped.{AreShaped}
-use Rattle.sql_rows.specs.Statements.{all_text, query_of, query_text}
+use Rattle.sql_rows.specs.Statements.{all_text, query_of, query_text, tree_of}
 use Rattle.sql_rows.specs.Tables.{the_schema}
-use Rattle.sql_rows.specs.Versions.{bare, old_version_in}
+use Rattle.sql_rows.specs.Versions.{bare, old_version_in, version_entry, version_params, version_row}
 use Rattle.sql_rows.specs.declared.keyed.OldClock.{OldClock as ClockImpl}
 use Rattle.sql_rows.specs.declared.migration.SchemaVersion.{SchemaVersion}
 use Rattle.sql_rows.specs.declared.migration.SchemaVersion.TheVariants.{First, Modify}
@@ -53,9 +53,11 @@ use Rattle.sql_rows.proofs.PutLemmas.{version_left}
 use Rattle.sql_rows.proofs.StatementLemmas.{query_is, query_plain, query_selects, query_unlisted}
 use Rattle.sql_rows.proofs.TableLemmas.{framed_twice, content_framed, removed_shaped}
 use Rattle.sql_store.specs.Changes.{if_some, with_set}
-use Rattle.sql_store.specs.Migration.{MigratesInTransaction, AreOldShaped, ArePutBut, HasIds, IsBarePut, IsBegunAs, IsCarried, IsCarriedOver, AreRowsCopied, AreTablesCreated, IsIndexed, HasSchemaVersion, IsOldPut, IsOldDeleted, IsMigrated, AreTreesMigrated, AreOldRowsDeleted, HasMigrated, HasTheseWindows, HasDifferentWindows, all_of, all_old, ids_in, put_if, seen_of}
-use Rattle.sql_store.specs.Store.{IsInTransaction, IsSame, HasCommittedNothing, HasQueried, AppliesInTransaction, WritesInTransaction, Wrote}
-use Rattle.sql_store.proofs.WholeLemmas.{moved_read}
+use Rattle.sql_store.specs.Migration.{MigratesInTransaction, AreOldShaped, ArePutBut, HasIds, IsBarePut, IsBegunAs, IsCarried, IsCarriedOver, AreRowsCopied, AreTablesCreated, IsIndexed, HasSchemaVersion, IsOldPut, IsOldDeleted, IsMigrated, AreTreesMigrated, AreOldRowsDeleted, HasMigrated, HasStayingRows, HasTheseWindows, HasDifferentWindows, all_of, all_old, ids_in, put_if, seen_of}
+use Rattle.sql_store.specs.Store.{IsInTransaction, IsSame, IsSetPut, HasCommittedNothing, HasQueried, AppliesInTransaction, WritesInTransaction, Wrote}
+use Rattle.sql_rows.proofs.Casts.{version_cast}
+use Rattle.sql_store.specs.Whole.{EachReads, HasPresentSet}
+use Rattle.sql_store.proofs.WholeLemmas.{moved_read, reads_replaced}
 use Rattle.sql_store.proofs.CallLemmas.{both_survive, call_keeps, earlier, fails_as, fails_open, fails_same, kept_then, looked_then, query_commits_nothing, shown_open, shown_same, shown_unchanged, survives_still}
 
 -- ---- calls in order
@@ -89,6 +91,18 @@ statement_alters g old new P inside sql params r done Did clean_of ended runs su
       kept = λ up. call_keeps g old new sql params r up ended (runs (clean_of up));
       survives = survives;
     }
+
+abbrev pub first_set : Option ClockImpl → Content → Content
+first_set clock =
+    if_some (λ (c : ClockImpl). with_set (stored_clock c.minute.number c.next_id 1)
+    (windows_of c.windows)) clock
+
+abbrev pub IsChangedBy : (Content → Content) → Database → Database → Type 0
+IsChangedBy change old new = (new.schema ≡ the_schema) × AreShaped new.trees
+    × (content_in new.trees ≡ change (content_in old.trees))
+
+abbrev pub IsFirstSetPut : Option ClockImpl → Database → Database → Type 0
+IsFirstSetPut clock old new = IsChangedBy (first_set clock) old new × IsSetPut old new
 
 -- Two changes of a database in order.
 abbrev pub Both : (Database → Database → Type 0) → (Database → Database → Type 0) → Database
@@ -154,6 +168,21 @@ module _ (a b : State) where
       → MigratesInTransaction IsInTransaction a b done Did
       → WritesInTransaction a b done Did
   to_writes done Did it = record { wrote = it.altered; kept = it.kept; survives = it.survives }
+
+  -- The first set of windows is put: how the content changes, and that other tables stay.
+  pub from_first_set : (done : Bool) (clock : Option ClockImpl)
+      → AppliesInTransaction a b done (first_set clock) → WritesInTransaction a b done IsSetPut
+      → MigratesInTransaction IsInTransaction a b done (IsFirstSetPut clock)
+  from_first_set done clock made put = record {
+    altered = λ ok clean inside. let s = made.made ok clean inside in record {
+      is_open = s.inside.is_open;
+      inside = s.inside.inside;
+      committed = s.committed;
+      did = ((s.inside.schema, s.inside.shaped, s.is), (put.wrote ok clean inside).did);
+    };
+    kept = made.kept;
+    survives = made.survives;
+  }
 
   -- A change of the content, and what it leaves.
   pub from_makes : (done : Bool) (change : Content → Content) → AppliesInTransaction a b done change
@@ -261,6 +290,23 @@ grown_sets old new it =
       );
     }
 
+-- Nothing was put, and nothing changed.
+pub no_set_put : (a : State) → WritesInTransaction a a true IsSetPut
+no_set_put a = record {
+  wrote = λ ok clean it. record {
+    is_open = it.is_open;
+    inside = it.inside;
+    committed = refl;
+    did = record {
+      others = λ t set clock. refl;
+      sets = λ each. each;
+      clock = λ each. each;
+    };
+  };
+  kept = λ up. record { was_open = up; committed = refl };
+  survives = survives_still a;
+}
+
 -- A table without rows is well-formed.
 blank_shaped : (rows : List Row) → rows ≡ [] → IsShaped AsTable rows
 blank_shaped rows none = subst (IsShaped AsTable) (sym none) (tt, tt)
@@ -336,6 +382,7 @@ put_none a ids = record {
       schema = λ e. e;
       shaped = λ s. s;
       versions = λ s. refl;
+      read = λ each. each;
       frame = λ u other. refl;
     };
   };
@@ -359,6 +406,9 @@ module _ (a b c : State) (id : ℕ) (more ids : List ℕ) where
         shaped = λ s. (left.1 (first.shaped s)).shaped;
         versions = λ s. ap (all_old a.now.trees more) ((left.1 (first.shaped s)).map
             ∙ ap (λ o. put_if id o (versions_in (m.trees 18))) (sym here)) ∙ first.versions s;
+        read = λ each. reads_replaced Version version_entry (Int (pos id) ∷ [])
+            (version_params id v) (version_row id v) (id, bare v) put.1 m c.now
+            (λ db. version_cast db id v) put.0 (first.read each);
         frame = λ u other. left.2 u other ∙ first.frame u other;
       }
 
@@ -571,15 +621,6 @@ module _ (a b c : State) (id : ℕ) (rows : List Row) (kept : IsTrue b.is_open
 
 -- ---- all rows copied, and the old tables emptied
 
-abbrev pub first_set : Option ClockImpl → Content → Content
-first_set clock =
-    if_some (λ (c : ClockImpl). with_set (stored_clock c.minute.number c.next_id 1)
-    (windows_of c.windows)) clock
-
-abbrev pub IsChangedBy : (Content → Content) → Database → Database → Type 0
-IsChangedBy change old new = (new.schema ≡ the_schema) × AreShaped new.trees
-    × (content_in new.trees ≡ change (content_in old.trees))
-
 with_first : (versions : FinMap nat_cmp VersionRow) (clock : Option ClockImpl) (db : Trees)
     → first_set clock (content_with Modify versions None db) ≡ content_with Modify versions
     (option_map old_clock_of clock) db
@@ -590,15 +631,45 @@ pub cleared_shaped : (t : OldTable) (db next : Database) → IsCleared t db next
     → AreShaped next.trees
 cleared_shaped t db next it shaped u = old_rows t db.trees next.trees it.rows it.frame shaped u
 
+apart : (n m : ℕ) → (n == m) ≡ false → n ≢ m
+apart n m differ same = true≢false (sym (itself n) ∙ ap (λ k. n == k) same ∙ differ)
+
+blank_read : {X : Type 0} (entry : Row → Option X) (rows : List Row) → rows ≡ []
+    → EachReads entry rows
+blank_read entry [] none = λ r at. absurd at
+blank_read entry (r ∷ rows) none = absurd cc
+
+-- Only the tables that are emptied or new were changed.
+stays : {ids : List ℕ} (a b c d e : Database) → ArePutBut [] ids a b → IsSetPut b c
+    → IsCleared former.Version c d → IsCleared former.Clock d e
+    → HasStayingRows Modify a.trees e.trees
+stays a b c d e put set one two = record {
+  carriers = same Carrier refl refl refl refl refl;
+  lrns = same Lrn refl refl refl refl refl;
+  codes = same Code refl refl refl refl refl;
+  blocks = same Block refl refl refl refl refl;
+  broadcasts = same Broadcast refl refl refl refl refl;
+  waits = same Wait refl refl refl refl refl;
+  nexts = same NextRouting refl refl refl refl refl;
+}
+  where
+    same : (t : RowTable) → (tree_of t == 12) ≡ false → (tree_of t == 5) ≡ false
+        → (tree_of t == 17) ≡ false → (tree_of t == 21) ≡ false → (tree_of t == 18) ≡ false
+        → e.trees (tree_of t) ≡ a.trees (tree_of t)
+    same t old_clock old_version sets clock version =
+        two.frame t (apart _ _ old_clock) ∙ one.frame t (apart _ _ old_version)
+        ∙ set.others t (apart _ _ sets) (apart _ _ clock) ∙ put.frame t (apart _ _ version)
+
 pub filled : (ids : List ℕ) (clock : Option ClockImpl) (old new : Database) → AreShaped old.trees
-    → Both (Both (Both (ArePutBut [] ids) (IsChangedBy (first_set clock)))
-    (IsCleared former.Version)) (IsCleared former.Clock) old new → AreRowsCopied ids clock old new
+    → Both (Both (Both (ArePutBut [] ids) (IsFirstSetPut clock)) (IsCleared former.Version))
+    (IsCleared former.Clock) old new → AreRowsCopied ids clock old new
 filled ids clock a e shaped it =
     let b = it.1.1.0 in
     let c = it.1.0 in
     let d = it.0 in
     let put = it.1.1.1 in
-    let changed = it.1.1.2 in
+    let changed = it.1.1.2.0 in
+    let set = it.1.1.2.1 in
     let one = it.1.2 in
     let two = it.2 in
     record {
@@ -608,6 +679,19 @@ filled ids clock a e shaped it =
       moved = record {
         versions = two.frame OldVersion (λ same. omega arith) ∙ one.rows;
         clock = two.rows;
+      };
+      staying = stays a b c d e put set one two;
+      read = λ sets versions clocks. record {
+        versions = subst (EachReads version_entry) (sym (two.frame Version (apart _ _ refl)
+            ∙ one.frame Version (apart _ _ refl)
+            ∙ set.others Version (apart _ _ refl) (apart _ _ refl)))
+            (put.read (blank_read version_entry _ versions));
+        sets = subst (EachReads set_entry) (sym (two.frame WindowSet (apart _ _ refl)
+            ∙ one.frame WindowSet (apart _ _ refl)))
+            (set.sets (blank_read set_entry _ (put.frame WindowSet (apart _ _ refl) ∙ sets)));
+        clock = subst (EachReads clock_entry) (sym (two.frame Clock (apart _ _ refl)
+            ∙ one.frame Clock (apart _ _ refl)))
+            (set.clock (blank_read clock_entry _ (put.frame Clock (apart _ _ refl) ∙ clocks)));
       };
       content = λ sets versions clocks.
           content_framed OldClock d.trees e.trees two.frame ∙ content_framed OldVersion c.trees
@@ -636,7 +720,7 @@ filled ids clock a e shaped it =
         blank_over sets clocks =
             rw (sets, clocks)
             (ap (λ o. record (content_with Modify (all_old a.trees ids empty) None a.trees)
-            { clock = option_and_then (with_windows empty) o }) (get-empty {X =
+            { clock = option_map (with_windows empty) o }) (get-empty {X =
             StoredClock} nat_cmp 0))
 
 -- Creating tables keeps the versions.
@@ -645,6 +729,28 @@ grown_old : (f : SchemaVersion) (old new : Database) → AreTablesCreated f old 
 grown_old First old new g = g.same.1.1.1.1.0
 grown_old Modify old new g = g.same.1.1.1.1.0
 
+-- Creating tables keeps the tables that are not migrated.
+grown_staying : (f : SchemaVersion) (old mid new : Database) → AreTablesCreated f old mid
+    → HasStayingRows Modify mid.trees new.trees → HasStayingRows f old.trees new.trees
+grown_staying First old mid new g it = record {
+  carriers = it.carriers ∙ g.same.0;
+  lrns = it.lrns ∙ g.same.1.0;
+  codes = it.codes ∙ g.same.1.1.0;
+  blocks = it.blocks ∙ g.same.1.1.1.0;
+  broadcasts = it.broadcasts ∙ g.same.1.1.1.1.1.0;
+  waits = it.waits ∙ g.same.1.1.1.1.1.1.0;
+  nexts = it.nexts ∙ g.nexts;
+}
+grown_staying Modify old mid new g it = record {
+  carriers = it.carriers ∙ g.same.0;
+  lrns = it.lrns ∙ g.same.1.0;
+  codes = it.codes ∙ g.same.1.1.0;
+  blocks = it.blocks ∙ g.same.1.1.1.0;
+  broadcasts = it.broadcasts ∙ g.same.1.1.1.1.1.0;
+  waits = it.waits ∙ g.same.1.1.1.1.1.1.0;
+  nexts = it.nexts ∙ g.nexts;
+}
+
 pub rebuilt : (f : SchemaVersion) (ids : List ℕ) (clock : Option ClockImpl) (old new : Database)
     → AreOldShaped f old.trees → Both (AreTablesCreated f) (AreRowsCopied ids clock) old new
     → IsMigrated f ids clock old new
@@ -652,6 +758,8 @@ rebuilt f ids clock old new shaped it = record {
   schema = it.2.schema;
   shaped = it.2.shaped;
   moved = it.2.moved;
+  staying = grown_staying f old it.0 new it.1 it.2.staying;
+  read = it.2.read it.1.sets it.1.versions it.1.clock;
   content =
       it.2.content it.1.sets it.1.versions it.1.clock
       ∙ grown_content f old it.0 it.1 (all_old (it.0).trees ids empty)
@@ -739,6 +847,8 @@ module _ (f : SchemaVersion) (ids : List ℕ) (clock : Option ClockImpl) (old mi
         subst (AreTreesMigrated f ids clock old.now.trees) (sym is) (record {
           content = did.content;
           moved = did.moved;
+          staying = did.staying;
+          read = did.read;
         })
 
     all_survives : Survives old new (λ db. IsTrue old.is_open
@@ -1023,6 +1133,32 @@ pub old_shape : (f : SchemaVersion) (db : Trees) → AreOldShaped f db → IsSha
 old_shape First db shaped = shaped.1.1.1.1.0
 old_shape Modify db shaped = shaped.1.1.1.1.0
 
+-- The clock's row names set 1, which is there.
+set_carried : (after db : Trees) (f : SchemaVersion) (versions : FinMap nat_cmp VersionRow)
+    (clock : Option ClockImpl)
+    → content_in after ≡ content_with f versions (option_map old_clock_of clock) db
+    → HasPresentSet after
+set_carried after db f versions clock is row named =
+    by_cases clock (ap (λ (c : Content). c.sets) is)
+    (ap (option_map (with_windows (sets_in (after 17)))) (sym named)
+    ∙ ap (λ (c : Content). c.clock) is)
+  where
+    by_cases : (clock : Option ClockImpl)
+        → sets_in (after 17) ≡ first_sets (option_map old_clock_of clock)
+        → Some (with_windows (sets_in (after 17)) row) ≡ option_map old_clock_of clock
+        → IsSome (get (sets_in (after 17)) row.present)
+    by_cases None sets same = absurd cc
+    by_cases (Some x) sets same =
+        let one : row.present ≡ 1 =
+        ap (λ (r : ClockRow). r.present.number) (some_is _ (old_clock_of x) same) in
+        subst₂ (λ m k. IsSome (get m k)) (sym sets) (sym one)
+        (subst IsSome (sym (get-insert nat_cmp_total none 1 (windows_of x.windows) 1
+        ∙ ap (λ b. cond b (Some (windows_of x.windows)) (get none 1))
+        ((eq_by_cmp_equiv nat_cmp_total).refl 1))) refl)
+      where
+        none : FinMap nat_cmp Windows
+        none = empty
+
 carried : (f : SchemaVersion) (db after : Trees) (ids : List ℕ) (clock : Option ClockImpl)
     → AreOldShaped f db → HasIds ids db
     → IsListAnswer (All OldClock) old_clock_in db [] (map clock_seen (option_to_list clock))
@@ -1033,6 +1169,9 @@ carried f db after ids clock shaped versions clocks it = record {
       (versions_carried db (old_shape f db shaped) ids versions)
       ∙ ap (λ o. content_with f (old_versions_in (db 5)) o db) (clock_carried db clock clocks);
   moved = it.moved;
+  staying = it.staying;
+  read = it.read;
+  present = set_carried after db f _ clock it.content;
 }
 
 -- The rows read before are those that are migrated.

@@ -17,11 +17,11 @@ use Rattle.model.specs.Content.{empty_content}
 use Rattle.model.specs.Windows.{Windows}
 use Rattle.settle.specs.declared.store.StoreFault.{StoreFault}
 use Rattle.settle.specs.declared.store.StoreFault.TheVariants as told
-use Rattle.sql_rows.specs.Content.{content_in}
+use Rattle.sql_rows.specs.Content.{block_entry, broadcast_entry, carrier_entry, code_entry, content_in, lrn_entry, next_entry, wait_entry}
 use Rattle.sql_store.specs.Faults.{opening_fault_of}
 use Rattle.sql_store.specs.Opened.{IsRefusedAs, IsTakenAs, WasOpened}
 use Rattle.sql_store.specs.Refusal.{IsLeftClean, IsLeftUsable}
-use Rattle.sql_store.specs.Whole.{IsWhole}
+use Rattle.sql_store.specs.Whole.{EachReads, IsBegunOrEmpty, IsWhole}
 use Rattle.sql_store.specs.declared.file_fault.FileFault.{FileFault}
 use Rattle.sql_store.specs.declared.file_fault.FileFault.TheVariants.{WindowsDiffer}
 use Rattle.sql_store.specs.declared.refused.Refused.{Refused}
@@ -182,8 +182,9 @@ module _ (w : Windows) (db now : Trees) where
     new = λ _. empty;
     found = λ ours. absurd (let same = as_many db no_schema the_schema sound ours in
         omega (arith, same));
+    begun = λ ours none. empty;
     moved = λ f old. absurd (never f (as_many db no_schema (schema_of f) sound old));
-    whole = λ _. whole;
+    whole = whole;
     schema = no_schema;
     sound = sound;
     known = of_none refl;
@@ -193,13 +194,15 @@ module _ (w : Windows) (db now : Trees) where
       never First same = omega (arith, same)
       never Modify same = omega (arith, same)
 
-  pub taken_found : IsSound the_schema db → now ≡ db → IsWhole now → IsTakenAs w db now
-  taken_found sound same whole = record {
+  pub taken_found : IsSound the_schema db → now ≡ db → IsWhole now → IsBegunOrEmpty now
+      → IsTakenAs w db now
+  taken_found sound same whole begun = record {
     new = λ none. absurd (let same = as_many db the_schema no_schema sound none in
         omega (arith, same));
-    found = λ _. ap content_in same;
+    found = λ _. same;
+    begun = λ _. begun;
     moved = λ f old. absurd (never f (as_many db the_schema (schema_of f) sound old));
-    whole = λ _. whole;
+    whole = whole;
     schema = the_schema;
     sound = sound;
     known = of_ours refl;
@@ -209,14 +212,43 @@ module _ (w : Windows) (db now : Trees) where
       never First same = omega (arith, same)
       never Modify same = omega (arith, same)
 
+  -- Every row of a migrated database is readable.
+  migrated_whole : (f : SchemaVersion) → IsMovedFrom f w db now → IsWhole now
+  migrated_whole f it =
+      let over = it.carried.over in
+      let same = over.staying in
+      let registry = it.staying.registry in
+      let sent = it.staying.sent in
+      record {
+        registry = record {
+          carriers = subst (EachReads carrier_entry) (sym same.carriers) registry.carriers;
+          lrns = subst (EachReads lrn_entry) (sym same.lrns) registry.lrns;
+          codes = subst (EachReads code_entry) (sym same.codes) registry.codes;
+          blocks = subst (EachReads block_entry) (sym same.blocks) registry.blocks;
+        };
+        versions = record {
+          versions = over.read.versions;
+          broadcasts = subst (EachReads broadcast_entry) (sym same.broadcasts) sent.broadcasts;
+          waits = subst (EachReads wait_entry) (sym same.waits) sent.waits;
+          clock = over.read.clock;
+        };
+        added = record {
+          nexts = subst (EachReads next_entry) (sym same.nexts) sent.nexts;
+          sets = over.read.sets;
+        };
+        moved = over.moved;
+        present = over.present;
+      }
+
   pub taken_moved : (f : SchemaVersion) → IsSound (schema_of f) db → IsMovedFrom f w db now
       → IsTakenAs w db now
   taken_moved f sound it = record {
     new = λ none. absurd (no_table f (as_many db (schema_of f) no_schema sound none));
     found = λ ours. absurd (not_ours f (as_many db (schema_of f) the_schema sound ours));
+    begun = λ ours. absurd (not_ours f (as_many db (schema_of f) the_schema sound ours));
     moved = λ g old. subst (λ h. IsMovedFrom h w db now)
         (same_form f g (as_many db (schema_of f) (schema_of g) sound old)) it;
-    whole = λ never. absurd (never f sound);
+    whole = migrated_whole f it;
     schema = schema_of f;
     sound = sound;
     known = of_earlier f refl;

@@ -1,5 +1,5 @@
 -- The rows of a database that have all been read.
-use Rattle.std.proofs.Common.{◌≡◌, ℕ, List, [], ◌∷◌, map, filter, Bool, true, false, Option, Some, inl, inr, refl, sym, ap, subst, ◌∙◌, true≢false}
+use Rattle.std.proofs.Common.{◌≡◌, ℕ, List, [], ◌∷◌, map, filter, Bool, true, false, Option, Some, None, inl, inr, refl, sym, ap, subst, ◌∙◌, true≢false}
 use Rattle.std.specs.FinMap.{FinMap, empty, get, get-empty, same_map, nat_cmp-IsAntisymmetric}
 use Rattle.std.specs.Cmp.{nat_cmp_total}
 use Rattle.std.specs.List.{list_all}
@@ -10,8 +10,10 @@ use Rattle.sqlite.specs.Program.{overlay}
 use Rattle.sqlite.specs.Query.{IsAnswer}
 use Rattle.sqlite.specs.Tree.{Trees}
 use Rattle.sqlite_rules.specs.Lists.{Has}
-use Rattle.sqlite_rules.proofs.ListLemmas.{has_kept}
-use Rattle.std.specs.Prelude.{option_and_then, option_map}
+use Rattle.sqlite_rules.proofs.ListLemmas.{has_filtered, has_kept}
+use Rattle.sqlite_rules.proofs.TableLemmas.{put_has}
+use Rattle.sqlite.specs.Effect.{Database}
+use Rattle.std.specs.Prelude.{option_map}
 use Rattle.model.specs.Content.{ClockRow, VersionRow, empty_content}
 use Rattle.numbers.specs.Routings.{Routing}
 use Rattle.sql_rows.specs.Over.{over}
@@ -21,14 +23,15 @@ use Rattle.sql_rows.specs.Content.{block_row_in, block_shown, broadcast_entry, b
 use Rattle.sql_rows.specs.Found.{AreRead, IsListAnswer}
 use Rattle.sql_rows.specs.declared.statement.Query.TheVariants.{All}
 use Rattle.sql_store.specs.Migration.{AreMovedRead}
-use Rattle.sql_rows.specs.Statements.{query_of, shown_by}
+use Rattle.sql_rows.specs.Statements.{query_of, shown_by, tree_of}
+use Rattle.sql_rows.specs.Written.{Replaced, cast_rows}
 use Rattle.sql_rows.specs.Versions.{rerouted, old_shown_of, old_version_entry, old_version_in, shown_of, version_entry, version_in}
 use Rattle.sql_rows.specs.declared.statement.Table.{Table}
 use Rattle.sql_rows.specs.declared.statement.Table.TheVariants.{Carrier, Lrn, Code, Block, Version, Broadcast, Wait, Clock, NextRouting, WindowSet, OldVersion, OldClock}
 use Rattle.sql_rows.proofs.DueLemmas.{has_permuted}
 use Rattle.sql_rows.proofs.Listed.{has_mapped}
 use Rattle.sql_rows.proofs.QueryLemmas.{plain_answer}
-use Rattle.sql_store.specs.Whole.{AreAddedBlank, AreRegistryRead, AreVersionsBlank, EachReads, IsMoved, IsRead, IsRegistryBlank, ReadsAdded, ReadsAll, ReadsRegistry, ReadsVersions}
+use Rattle.sql_store.specs.Whole.{HasPresentSet, AreAddedBlank, AreRegistryRead, AreVersionsBlank, EachReads, IsMoved, IsRead, IsRegistryBlank, ReadsAdded, ReadsAll, ReadsRegistry, ReadsVersions}
 use Rattle.sql_rows.proofs.RowLemmas.{same_first, same_rest}
 
 -- ---- one table
@@ -255,23 +258,43 @@ blank_is_empty db registry versions added =
     )
     (ap (λ m. record empty_content {
       versions = m;
-      clock = option_and_then (with_windows empty) (get (empty {X = StoredClock} {R = nat_cmp}) 0);
+      clock = option_map (with_windows empty) (get (empty {X = StoredClock} {R = nat_cmp}) 0);
     }) (none_over (nexts_in []))
-    ∙ ap (λ o. record empty_content { clock = option_and_then (with_windows empty) o })
+    ∙ ap (λ o. record empty_content { clock = option_map (with_windows empty) o })
     (get-empty {X = StoredClock} nat_cmp 0))
 
 pub all_told : (db : Trees) (a b c : Bool) → ReadsRegistry db a → ReadsVersions db b
-    → ReadsAdded db c → IsMoved db → ReadsAll db (every (a ∷ b ∷ c ∷ []))
-all_told db a b c registry versions added moved = record {
+    → ReadsAdded db c → IsMoved db → HasPresentSet db
+    → ((content_in db).clock ≡ None → every (a ∷ b ∷ c ∷ []) ≡ true)
+    → ReadsAll db (every (a ∷ b ∷ c ∷ []))
+all_told db a b c registry versions added moved present unbegun = record {
   whole = record {
     registry = registry.read;
     versions = versions.read;
     added = added.read;
     moved = moved;
+    present = present;
   };
-  none = λ all.
-      let first = every_first a (b ∷ c ∷ []) all in
-      let second = every_first b (c ∷ []) first.1 in
-      blank_is_empty db (registry.none first.0) (versions.none second.0)
-      (added.none (every_first c [] second.1).0);
+  begun = λ none. empty (unbegun none);
+  none = empty;
 }
+  where
+    empty : every (a ∷ b ∷ c ∷ []) ≡ true → content_in db ≡ empty_content
+    empty all =
+        let first = every_first a (b ∷ c ∷ []) all in
+        let second = every_first b (c ∷ []) first.1 in
+        blank_is_empty db (registry.none first.0) (versions.none second.0)
+        (added.none (every_first c [] second.1).0)
+
+-- A row that was put is readable, and so are the rows that were there.
+pub reads_replaced : {X : Type 0} (t : Table) (entry : Row → Option X) (key params row : Row)
+    (x : X) → entry row ≡ Some x → (old new : Database)
+    → ((mid : Trees) → cast_rows t params mid ≡ row ∷ []) → Replaced t key params old new
+    → EachReads entry (old.trees (tree_of t)) → EachReads entry (new.trees (tree_of t))
+reads_replaced t entry key params row x reads old new news r each q at =
+    let a = r.added row (news r.mid.trees) in
+    elim (put_has row (r.mid.trees (tree_of t)) q (subst (λ rows. Has rows q) a.rows at)) [
+      | inl same ↦ (x, ap entry same ∙ reads)
+      | inr was ↦ each q (has_filtered _ (old.trees (tree_of t)) q (subst (λ rows. Has rows q)
+          r.removed.rows was)).0
+    ]

@@ -1,8 +1,8 @@
 -- A content with rows written and deleted.
-use Rattle.std.specs.Prelude.{◌≡◌, ◌||◌, Bool, IsTrue, ℕ, List, [], ◌∷◌, Option, Some, None, is_some, option_map}
+use Rattle.std.specs.Prelude.{◌≡◌, ◌==◌, ◌||◌, Bool, IsTrue, ℕ, List, [], ◌∷◌, Option, Some, None, if◌then◌else◌, is_some, option_map}
 use Rattle.std.specs.FinMap.{insert, remove}
 use Rattle.numbers.specs.Subjects.{Subject}
-use Rattle.model.specs.Content.{Content, BlockRow, VersionRow, BroadcastRow, BroadcastKey, WaitKey}
+use Rattle.model.specs.Content.{Content, BlockRow, ClockRow as ClockRowModel, VersionRow, BroadcastRow, BroadcastKey, WaitKey}
 use Rattle.model.specs.Windows.{Windows}
 use Rattle.numbers.specs.Abstraction.{subject_of}
 use Rattle.settle.specs.declared.changes.Changes.{Changes}
@@ -28,15 +28,28 @@ with_code k v c = record c { codes = insert c.codes k v }
 abbrev pub with_block : ℕ → BlockRow → Content → Content
 with_block k v c = record c { blocks = insert c.blocks k v }
 
--- The content with this clock's row; the row is stored with the number of its windows only.
+-- The content with this clock's row. The row is stored with the number of its windows only.
 abbrev pub with_clock : StoredClock → Content → Content
-with_clock v c = record c { clock = with_windows c.sets v }
+with_clock v c = record c { clock = Some (with_windows c.sets v) }
 
 -- The content with this set of windows as the present one.
 abbrev pub with_set : StoredClock → Windows → Content → Content
 with_set v w c = record c {
   sets = insert c.sets v.present w;
   clock = Some (clock_row v.minute v.next_id v.present w);
+}
+
+-- The clock's row once this set of windows was written: with its windows, if the row names it.
+abbrev pub rewindowed : ℕ → Windows → ClockRowModel → ClockRowModel
+rewindowed number w r =
+    clock_row r.minute r.next_id r.present.number
+    (if number == r.present.number then w else r.present.windows)
+
+-- The content with this set of windows, which the clock's row does not name.
+abbrev pub with_set_alone : ℕ → Windows → Content → Content
+with_set_alone number w c = record c {
+  sets = insert c.sets number w;
+  clock = option_map (rewindowed number w) c.clock;
 }
 
 abbrev pub with_version : ℕ → VersionRow → Content → Content
@@ -74,7 +87,7 @@ abbrev pub replaced : List (ℕ × VersionRow) → Content → Content
 replaced ps c = all_made (λ p. with_version p.0 p.1) ps (all_made (λ p. without_version p.0) ps c)
 
 -- The content with the clock moved and a set of windows written, given the clock's row before. A
--- set without a clock's row is never written.
+-- set without a clock's row is written alone.
 abbrev pub clock_made : Option ClockMove → Option WindowSet → Option ClockRow → Content → Content
 clock_made None None row c = c
 clock_made (Some m) None None c = c
@@ -84,7 +97,7 @@ clock_made (Some m) (Some s) row c =
     with_set (stored_clock m.minute.number m.next_id s.number) (windows_of s.windows) c
 clock_made None (Some s) (Some row) c =
     with_set (stored_clock row.minute.number row.next_id s.number) (windows_of s.windows) c
-clock_made None (Some s) None c = record c { sets = insert c.sets s.number (windows_of s.windows) }
+clock_made None (Some s) None c = with_set_alone s.number (windows_of s.windows) c
 
 -- The content with the optional single rows of a batch written.
 abbrev pub singles : Changes → Option ClockRow → Content → Content

@@ -15,7 +15,7 @@ use Rattle.sqlite_trees.specs.declared.store.Shape.TheVariants.{Table as AsTable
 use Rattle.model.specs.Content.{ClockRow, VersionRow}
 use Rattle.model.specs.Windows.{Windows}
 use Rattle.sql_rows.specs.Clocks.{old_clock_of}
-use Rattle.sql_rows.specs.Content.{broadcast_entry, content_in, next_entry, old_clock_entry, versions_in, wait_entry}
+use Rattle.sql_rows.specs.Content.{broadcast_entry, clock_entry, content_in, next_entry, old_clock_entry, set_entry, versions_in, wait_entry}
 use Rattle.sql_rows.specs.OldSchemas.{content_with, next_rows, old_clock, old_content_in, old_versions_in}
 use Rattle.sql_rows.specs.Found.{IsListAnswer}
 use Rattle.sql_rows.specs.declared.statement.Query.TheVariants.{All}
@@ -30,7 +30,7 @@ use Rattle.sql_rows.specs.declared.migration.SchemaVersion.TheVariants.{Modify}
 use Rattle.sql_rows.specs.declared.statement.Table.TheVariants.{OldVersion as OldTable, Version}
 use Rattle.sql_rows.specs.declared.version_row.OldVersion.{OldVersion}
 use Rattle.sql_store.specs.Store.{HasStoreTables, IsSame, HasCommittedNothing, Wrote}
-use Rattle.sql_store.specs.Whole.{AreRegistryRead, EachReads, IsMoved}
+use Rattle.sql_store.specs.Whole.{AreRegistryRead, EachReads, HasPresentSet, IsMoved}
 
 -- Holds if each table of the schema has ascending rowids.
 abbrev pub AreOldShaped : SchemaVersion → Trees → Type 0
@@ -46,11 +46,30 @@ pub record HasSchemaVersion (f : SchemaVersion) (s : State) : Type 0 where
 
 -- ---- the contract
 
--- Holds if the new content is the old one with its windows as set 1, and the tables of the earlier
--- schema are empty.
+-- Holds if the tables that are not migrated have the rows that they had, readable or not.
+pub record HasStayingRows (f : SchemaVersion) (old new : Trees) : Type 0 where
+  pub carriers : new 0 ≡ old 0
+  pub lrns : new 2 ≡ old 2
+  pub codes : new 3 ≡ old 3
+  pub blocks : new 4 ≡ old 4
+  pub broadcasts : new 8 ≡ old 8
+  pub waits : new 10 ≡ old 10
+  pub nexts : new 16 ≡ next_rows f old
+
+-- Holds if the rows that were migrated are readable.
+pub record AreNewRowsRead (db : Trees) : Type 0 where
+  pub versions : EachReads version_entry (db 18)
+  pub sets : EachReads set_entry (db 17)
+  pub clock : EachReads clock_entry (db 21)
+
+-- Holds if the new content is the old one with its windows as set 1, the tables of the earlier
+-- schema are empty, the others keep their rows, and each new row is readable.
 pub record IsCarriedOver (f : SchemaVersion) (old new : Trees) : Type 0 where
   pub content : content_in new ≡ old_content_in f old
   pub moved : IsMoved new
+  pub staying : HasStayingRows f old new
+  pub read : AreNewRowsRead new
+  pub present : HasPresentSet new
 
 -- ---- the rows read before anything is written
 
@@ -192,6 +211,7 @@ pub record ArePutBut (left whole : List ℕ) (old new : Database) : Type 0 where
   pub shaped : AreShaped old.trees → AreShaped new.trees
   pub versions : AreShaped old.trees → all_old old.trees left (versions_in (new.trees 18))
       ≡ all_old old.trees whole (versions_in (old.trees 18))
+  pub read : EachReads version_entry (old.trees 18) → EachReads version_entry (new.trees 18)
   pub frame : IsFrame Version old.trees new.trees
 
 -- Holds if the version with this id was deleted from the table of earlier schemas.
@@ -210,6 +230,8 @@ pub record AreRowsCopied (ids : List ℕ) (clock : Option OldClock)
   pub schema : new.schema ≡ the_schema
   pub shaped : AreShaped new.trees
   pub moved : IsMoved new.trees
+  pub staying : HasStayingRows Modify old.trees new.trees
+  pub read : old.trees 17 ≡ [] → old.trees 18 ≡ [] → old.trees 21 ≡ [] → AreNewRowsRead new.trees
   pub content : old.trees 17 ≡ [] → old.trees 18 ≡ [] → old.trees 21 ≡ []
       → content_in new.trees ≡ content_with Modify (all_old old.trees ids empty)
       (option_map old_clock_of clock) old.trees
@@ -220,6 +242,8 @@ pub record IsMigrated (f : SchemaVersion) (ids : List ℕ) (clock : Option OldCl
   pub schema : new.schema ≡ the_schema
   pub shaped : AreShaped new.trees
   pub moved : IsMoved new.trees
+  pub staying : HasStayingRows f old.trees new.trees
+  pub read : AreNewRowsRead new.trees
   pub content : content_in new.trees ≡ content_with f (all_old old.trees ids empty)
       (option_map old_clock_of clock) old.trees
 
@@ -229,3 +253,5 @@ pub record AreTreesMigrated (f : SchemaVersion) (ids : List ℕ) (clock : Option
   pub content : content_in new ≡ content_with f (all_old old ids empty)
       (option_map old_clock_of clock) old
   pub moved : IsMoved new
+  pub staying : HasStayingRows f old new
+  pub read : AreNewRowsRead new

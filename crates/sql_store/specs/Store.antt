@@ -1,5 +1,5 @@
 -- The invariant of the store's connection, and what its calls leave.
-use Rattle.std.specs.Prelude.{◌≡◌, ◌⊎◌, ℕ, pos, [], ◌∷◌, Option, Some, None, false, true, Bool, IsTrue, refl, not}
+use Rattle.std.specs.Prelude.{◌≡◌, ◌≢◌, ◌⊎◌, ℕ, pos, [], ◌∷◌, Option, Some, None, false, true, Bool, IsTrue, refl, not}
 use Rattle.std.proofs.Common.{sym, ap, ◌∙◌, true≢false}
 use Rattle.sqlite.specs.Store.{Ghosts}
 use Rattle.sqlite.specs.Schema.{Schema}
@@ -17,9 +17,12 @@ use Rattle.sqlite.specs.Held.{Held, state}
 use Rattle.model.specs.Content.{Content}
 use Rattle.sql_rows.specs.Tables.{the_schema}
 use Rattle.sql_rows.specs.Shaped.{AreShaped}
-use Rattle.sql_rows.specs.Content.{content_in, next_entry, next_params, stored}
+use Rattle.sql_rows.specs.Content.{clock_entry, content_in, next_entry, next_params, set_entry, stored}
 use Rattle.sql_rows.specs.Written.{Removed, Replaced}
-use Rattle.sql_rows.specs.declared.statement.Table.TheVariants.{NextRouting}
+use Rattle.sql_rows.specs.Statements.{tree_of}
+use Rattle.sql_rows.specs.declared.statement.Table.{Table}
+use Rattle.sql_rows.specs.declared.statement.Table.TheVariants.{Clock, NextRouting, WindowSet}
+use Rattle.sql_store.specs.Whole.{EachReads}
 use Rattle.numbers.specs.Routings.{Routing}
 use Rattle.sqlite.specs.declared.types.Value.TheVariants.{Int}
 
@@ -126,6 +129,14 @@ abbrev pub IsNextPut : ℕ → Option Routing → Database → Database → Type
 IsNextPut id None old new = Removed NextRouting (Int (pos id) ∷ []) old new
 IsNextPut id (Some r) old new = Replaced NextRouting (Int (pos id) ∷ []) (next_params id r) old new
     × (next_entry (stored (next_params id r)) ≡ Some (id, r))
+
+-- Holds if only the tables of the sets of windows and of the clock changed, and their rows are
+-- readable if they were.
+pub record IsSetPut (old new : Database) : Type 0 where
+  pub others : (t : Table) → tree_of t ≢ tree_of WindowSet → tree_of t ≢ tree_of Clock
+      → new.trees (tree_of t) ≡ old.trees (tree_of t)
+  pub sets : EachReads set_entry (old.trees 17) → EachReads set_entry (new.trees 17)
+  pub clock : EachReads clock_entry (old.trees 21) → EachReads clock_entry (new.trees 21)
 
 -- Holds if a call in a transaction changes the content so, unless it fails.
 pub record AppliesInTransaction (old new : State) (done : Bool) (change : Content

@@ -1,10 +1,12 @@
 -- A database whose rows have all been read once.
-use Rattle.std.specs.Prelude.{◌≡◌, Bool, true, List, [], Option, Some}
+use Rattle.std.specs.Prelude.{◌≡◌, Bool, true, List, [], Option, Some, None, IsSome}
+use Rattle.std.specs.FinMap.{get}
 use Rattle.sqlite.specs.Order.{Row}
 use Rattle.sqlite.specs.Tree.{Trees}
 use Rattle.sqlite_rules.specs.Lists.{Has}
 use Rattle.model.specs.Content.{empty_content}
-use Rattle.sql_rows.specs.Content.{block_entry, broadcast_entry, carrier_entry, clock_entry, content_in, lrn_entry, next_entry, set_entry, code_entry, wait_entry}
+use Rattle.sql_rows.specs.Clocks.{StoredClock}
+use Rattle.sql_rows.specs.Content.{block_entry, broadcast_entry, carrier_entry, clock_entry, clocks_in, content_in, lrn_entry, next_entry, set_entry, sets_in, code_entry, wait_entry}
 use Rattle.sql_rows.specs.Found.{IsListAnswer}
 use Rattle.sql_rows.specs.Versions.{version_entry}
 use Rattle.sql_rows.specs.declared.statement.Query.TheVariants.{All}
@@ -72,13 +74,25 @@ pub record ReadsAdded (db : Trees) (blank : Bool) : Type 0 where
   pub read : AreAddedRead db
   pub none : blank ≡ true → AreAddedBlank db
 
--- Holds if no row of a database is left out of its content.
+-- Holds if the set of windows that the clock's row names is there.
+abbrev pub HasPresentSet : Trees → Type 0
+HasPresentSet db = (c : StoredClock) → get (clocks_in (db 21)) 0 ≡ Some c
+    → IsSome (get (sets_in (db 17)) c.present)
+
+-- Holds if no row of a database is left out of its content, and the present set of windows is
+-- there.
 pub record IsWhole (db : Trees) : Type 0 where
   pub registry : AreRegistryRead db
   pub versions : AreVersionsRead db
   pub added : AreAddedRead db
   pub moved : IsMoved db
+  pub present : HasPresentSet db
+
+-- Holds if a content without the clock's row is empty: no rows are old ones of a lost clock.
+abbrev pub IsBegunOrEmpty : Trees → Type 0
+IsBegunOrEmpty db = (content_in db).clock ≡ None → content_in db ≡ empty_content
 
 pub record ReadsAll (db : Trees) (blank : Bool) : Type 0 where
   pub whole : IsWhole db
+  pub begun : IsBegunOrEmpty db
   pub none : blank ≡ true → content_in db ≡ empty_content

@@ -11,7 +11,7 @@ use crate::database::Database;
 use crate::lookups::clock;
 use crate::rows::{
     delete_broadcast, delete_version, delete_wait, put_block, put_broadcast, put_carrier,
-    put_clock, put_code, put_lrn, put_set, put_version, put_wait,
+    put_clock, put_code, put_lrn, put_set, put_set_alone, put_version, put_wait,
 };
 use delivery::Broadcast;
 use numbers::{BlockId, CodeId, Lrn, Spid, Subject};
@@ -167,7 +167,7 @@ fn donate<S: Alter>(
 }
 
 // Writes the clock's row. `row` is the row before: a clock move keeps its windows, and new windows
-// keep its minute and its next id.
+// keep its minute and its next id. Without a row, new windows are written alone.
 fn set_clock<S: Alter>(
     tx: &mut Transaction<'_, S>,
     moved: Option<ClockMove>,
@@ -207,7 +207,7 @@ fn set_clock<S: Alter>(
             },
             &set.windows,
         ),
-        (None, Some(_), None) => Err(Fault::Device),
+        (None, Some(set), None) => put_set_alone(tx, set),
     }
 }
 

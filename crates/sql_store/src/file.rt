@@ -38,7 +38,7 @@ pub type UnopenedAt<S> = Unopened<FileStore<FileFrom<S>>, Option<Leftover<FileFr
 
 impl<S: Start> SqlStore<FileStore<FileFrom<S>>> {
     /// Opens the file at `path` as a store, or creates it. A new file is an empty store. A file
-    /// with the present schema keeps its content. A file with an earlier schema is migrated in one
+    /// with the present schema keeps every row. A file with an earlier schema is migrated in one
     /// transaction if it was created with these windows. `start` says what is assumed of the file,
     /// and of a write that a crash interrupts, as in `sqlite`. Checks the database once, and reads
     /// each row once.
@@ -46,8 +46,8 @@ impl<S: Start> SqlStore<FileStore<FileFrom<S>>> {
     /// # Errors
     ///
     /// - `WindowsDiffer` if the file has an earlier schema and was created with other windows.
-    /// - `Storage` if the file is no database, has other tables or a row that cannot be read, or
-    ///   the device failed.
+    /// - `Storage` if the file is no database, has other tables, a row that cannot be read, or no
+    ///   present set of windows, or the device failed.
     /// - `NoMemory` if an allocation fails.
     ///
     /// A refused database with tables is returned unchanged.

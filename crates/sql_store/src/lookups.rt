@@ -1,5 +1,5 @@
 //! Reads rows by their keys.
-ghost use Rattle.std.specs.Prelude.{◌≡◌, false, IsTrue, IfOk, is_ok, is_some, option_map};
+ghost use Rattle.std.specs.Prelude.{◌≡◌, false, IsTrue, IfOk, OnOk, is_ok, is_some, option_map};
 ghost use Rattle.std.specs.FinMap.{get};
 ghost use Rattle.sqlite.specs.Held.{state};
 ghost use Rattle.sqlite.specs.State.{HasCleanDisk};
@@ -14,6 +14,7 @@ ghost use Rattle.sql_store.specs.Found.{IsVersionFound};
 ghost use Rattle.settle.specs.Abstraction.{spid_of, lrn_of, code_of, block_of, block_row_of, clock_row_of, broadcast_row_of, broadcast_key_of};
 ghost use Rattle.settle.specs.Reads.{IsInForce, IsOpen, IsLeastDue};
 ghost use Rattle.sql_store.specs.Store.{HasStoreTables, HasQueried, content_at};
+ghost use Rattle.sql_store.specs.Whole.{HasPresentSet};
 
 use crate::database::Database;
 use crate::select::find;
@@ -106,11 +107,14 @@ fn stored_clock<S: Alter>(db: &mut Database<S>) -> Result<Option<StoredClock>, F
     Ok(found.map(|(_, row)| row))
 }
 
-/// Returns the clock's row, if it has been written, with the windows of the set that it names.
+/// Returns the clock's row, if it has been written, with the windows of the set that it names. A set
+/// that is missing is a fault of the device.
 pub(crate) fn clock<S: Alter>(db: &mut Database<S>) -> Result<Option<ClockRow>, Fault>
     ensures value { IsTrue (state S.Store db.new.conn).is_open
         → IfOk result (λ o. option_map clock_row_of o ≡ (content_at (state S.Store
         db.old.conn)).clock) }
+    ensures present { IsTrue (state S.Store db.new.conn).is_open
+        → OnOk result (HasPresentSet (state S.Store db.old.conn).now.trees) }
     ensures queried { HasQueried (state S.Store db.old.conn) (state S.Store db.new.conn) (is_ok result) }
 {
     let stored = stored_clock(db)?;

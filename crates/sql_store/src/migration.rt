@@ -15,7 +15,7 @@ ghost use Rattle.sql_store.specs.Changes.{if_some, with_set};
 ghost use Rattle.sql_rows.specs.Content.{stored_clock};
 ghost use Rattle.version.specs.Abstraction.{windows_of};
 ghost use Rattle.sql_store.specs.Migration.{MigratesInTransaction, AreIdsOf, ArePutBut, HasIds, AreStayingRead, IsBarePut, IsBegun, IsBegunAs, IsCarried, AreRowsCopied, AreTablesCreated, IsIndexed, IsMovedFrom, HasSchemaVersion, IsOldPut, IsOldDeleted, IsMigrated, AreTreesMigrated, IsSentRead, AreOldRowsDeleted, HasMigrated, HasTheseWindows, HasDifferentWindows};
-ghost use Rattle.sql_store.specs.Store.{HasQueried, AppliesInTransaction, WritesInTransaction};
+ghost use Rattle.sql_store.specs.Store.{HasQueried, IsSetPut, AppliesInTransaction, WritesInTransaction};
 ghost use Rattle.sql_store.specs.Whole.{AreRegistryRead, IsRead};
 
 use crate::change::{replace, take};
@@ -148,6 +148,8 @@ fn put_first_set<S: Alter>(
         (state S.Store tx.new.conn.now) (is_ok result)
         (if_some (λ c. with_set (stored_clock c.minute.number c.next_id 1) (windows_of c.windows))
         clock) }
+    ensures others { WritesInTransaction (state S.Store tx.old.conn.now)
+        (state S.Store tx.new.conn.now) (is_ok result) IsSetPut }
 {
     match clock {
         Some(clock) => put_set(

@@ -12,10 +12,10 @@ ghost use Rattle.sql_rows.specs.Faults.{fault_of, store_fault_of};
 ghost use Rattle.sql_rows.specs.Tables.{no_schema, the_schema};
 ghost use Rattle.sql_rows.specs.Migration.{schema_of};
 ghost use Rattle.sql_store.specs.Migration.{IsMovedFrom, HasDifferentWindows};
-ghost use Rattle.sql_store.specs.Opened.{HadOtherWindows, IsRefusedAs, IsTakenAs, IsCrashStateOfOpen, WasOpened};
+ghost use Rattle.sql_store.specs.Opened.{HadOtherWindows, HasSameRows, IsRefusedAs, IsTakenAs, IsCrashStateOfOpen, WasOpened};
 ghost use Rattle.sql_store.specs.Refusal.{IsLeftClean, IsLeftUsable, may_leave_of, trees_of};
 ghost use Rattle.version.specs.Abstraction.{windows_of};
-ghost use Rattle.sql_store.specs.Whole.{IsWhole, ReadsAll};
+ghost use Rattle.sql_store.specs.Whole.{IsBegunOrEmpty, IsWhole, ReadsAll};
 
 use crate::SqlStore;
 use crate::database::Database;
@@ -248,6 +248,8 @@ impl<S: Alter + Drop> SqlStore<S> {
             → (state S.Store s.db.conn).now.trees ≡ (state S.Store conn).now.trees) }
         ensures whole { IfOk result (λ s. HasCleanDisk (state S.Store s.db.conn)
             → IsWhole (state S.Store s.db.conn).now.trees) }
+        ensures begun { IfOk result (λ s. HasCleanDisk (state S.Store s.db.conn)
+            → IsBegunOrEmpty (state S.Store s.db.conn).now.trees) }
         ensures none { IfOk result (λ s. s.failures ≡ 0) }
         ensures honest { IfOk result (λ s. HasCleanDisk (state S.Store s.db.conn)
             → HasCleanDisk (state S.Store conn)) }
@@ -309,13 +311,14 @@ impl<S: Alter + Drop> SqlStore<S> {
 
     /// Takes a connection as a store, after rolling back what is not committed and checking the
     /// database again. A database without tables becomes an empty store. One with the present
-    /// schema is taken after each row has been read. One with an earlier schema that was created
+    /// schema keeps every row, after each has been read. One with an earlier schema that was created
     /// with these windows is migrated in one transaction.
     ///
     /// # Errors
     ///
     /// - `WindowsDiffer` if the database has an earlier schema and was created with other windows.
-    /// - `Storage` if it has other tables or a row that cannot be read, or the device failed.
+    /// - `Storage` if it has other tables, a row that cannot be read, or no present set of windows,
+    ///   or the device failed.
     /// - `NoMemory` if an allocation fails.
     ///
     /// What is returned with the fault is as the last commit left it.
@@ -340,7 +343,7 @@ impl<S: Alter + Drop> SqlStore<S> {
         // created.
         ensures kept { IfErr result (λ e. ¬ IsSound no_schema (state S.Store conn).committed.trees
             → IsLeftUsable S.Store e.1
-            → trees_of S.Store e.1 ≡ (state S.Store conn).committed.trees) }
+            → HasSameRows (state S.Store conn).committed.trees (trees_of S.Store e.1)) }
         // A crash leaves what it might leave before, or the whole migrated database.
         ensures crash { IfErr result (λ e. ¬ IsSound no_schema (state S.Store conn).committed.trees
             → IsLeftClean S.Store e.1 → (db : Trees) → may_leave_of S.Store e.1 db

@@ -3,12 +3,12 @@ ghost use Rattle.std.specs.Prelude.{◌≡◌, ◌<◌, Some, None, is_ok};
 ghost use Rattle.sqlite.specs.Held.{state};
 ghost use Rattle.numbers.specs.Abstraction.{routing_of, subject_of};
 ghost use Rattle.settle.specs.Abstraction.{spid_of, lrn_of, code_of, block_of, block_row_of, broadcast_row_of, broadcast_key_of, wait_key_of};
-ghost use Rattle.sql_store.specs.Store.{IsNextPut, AppliesInTransaction, WritesInTransaction};
+ghost use Rattle.sql_store.specs.Store.{IsNextPut, IsSetPut, AppliesInTransaction, WritesInTransaction};
 ghost use Rattle.model.specs.Abstraction.{status_of};
 ghost use Rattle.version.specs.Abstraction.{windows_of};
 ghost use Rattle.sql_rows.specs.Clocks.{clock_of};
 ghost use Rattle.sql_rows.specs.Versions.{next_of};
-ghost use Rattle.sql_store.specs.Changes.{with_carrier, with_lrn, with_code, with_block, with_clock, with_set, with_version, without_version, with_broadcast, without_broadcast, with_wait, without_wait};
+ghost use Rattle.sql_store.specs.Changes.{with_carrier, with_lrn, with_code, with_block, with_clock, with_set, with_set_alone, with_version, without_version, with_broadcast, without_broadcast, with_wait, without_wait};
 
 use crate::change::{replace, take};
 use delivery::Broadcast;
@@ -103,6 +103,24 @@ pub(crate) fn put_clock<S: Alter>(
     Ok(())
 }
 
+/// Writes a set of windows, and leaves the clock's row.
+pub(crate) fn put_set_alone<S: Alter>(
+    tx: &mut Transaction<'_, S>,
+    set: WindowSet,
+) -> Result<(), Fault>
+    ensures same_reference { tx.new.conn.ghost_name ≡ tx.old.conn.ghost_name }
+    ensures applies { AppliesInTransaction (state S.Store tx.old.conn.now)
+        (state S.Store tx.new.conn.now)
+        (is_ok result) (with_set_alone set.number (windows_of set.windows)) }
+{
+    if !is_set_number(set.number) {
+        return Err(Fault::Device);
+    }
+    let key = number(u64::from(set.number));
+    replace(tx, Table::WindowSet, &[key], &set_params(&set))?;
+    Ok(())
+}
+
 /// Writes a set of windows, and the clock's row with its number, which makes it the present set.
 pub(crate) fn put_set<S: Alter>(
     tx: &mut Transaction<'_, S>,
@@ -113,6 +131,8 @@ pub(crate) fn put_set<S: Alter>(
     ensures applies { AppliesInTransaction (state S.Store tx.old.conn.now)
         (state S.Store tx.new.conn.now)
         (is_ok result) (with_set (clock_of row.now) (windows_of windows.now)) }
+    ensures others { WritesInTransaction (state S.Store tx.old.conn.now)
+        (state S.Store tx.new.conn.now) (is_ok result) IsSetPut }
 {
     if row.next_id >= 9_223_372_036_854_775_808 || !is_set_number(row.present) {
         return Err(Fault::Device);

@@ -1,11 +1,12 @@
 //! Reads all rows of a database once.
-ghost use Rattle.std.specs.Prelude.{◌≡◌, false, IsTrue, IfOk, OnOk, is_ok};
+ghost use Rattle.std.specs.Prelude.{◌≡◌, true, false, None, IsTrue, IfOk, OnOk, is_ok};
 ghost use Rattle.std.specs.List.{list_all};
 ghost use Rattle.sqlite.specs.Held.{state};
-ghost use Rattle.sql_store.specs.Store.{HasStoreTables, HasQueried};
-ghost use Rattle.sql_store.specs.Whole.{IsMoved, IsRead, ReadsAdded, ReadsAll, ReadsRegistry, ReadsVersions};
+ghost use Rattle.sql_store.specs.Store.{HasStoreTables, HasQueried, content_at};
+ghost use Rattle.sql_store.specs.Whole.{HasPresentSet, IsMoved, IsRead, ReadsAdded, ReadsAll, ReadsRegistry, ReadsVersions};
 
 use crate::database::Database;
+use crate::lookups;
 use crate::through::read_table;
 use delivery::Broadcast;
 use numbers::{BlockId, CodeId, Lrn, Routing, Spid, Subject};
@@ -81,8 +82,25 @@ fn see_moved<S: Alter>(db: &mut Database<S>) -> Result<(), Fault>
     Ok(())
 }
 
+// Checks that the clock's row and its set of windows are there, the row only if there are rows.
+fn see_clock<S: Alter>(db: &mut Database<S>, is_blank: bool) -> Result<(), Fault>
+    ensures begun { IsTrue (state S.Store db.new.conn).is_open
+        → OnOk result ((content_at (state S.Store db.old.conn)).clock ≡ None
+        → is_blank ≡ true) }
+    ensures present { IsTrue (state S.Store db.new.conn).is_open
+        → OnOk result (HasPresentSet (state S.Store db.old.conn).now.trees) }
+    ensures queried { HasQueried (state S.Store db.old.conn) (state S.Store db.new.conn) (is_ok result) }
+{
+    let clock = lookups::clock(db)?;
+    if clock.is_none() && !is_blank {
+        return Err(Fault::Device);
+    }
+    Ok(())
+}
+
 /// Reads every row once. Returns whether the database has no row. A row that cannot be read is a
-/// fault of the device, and so is a row in a table of an earlier schema.
+/// fault of the device, and so are a row in a table of an earlier schema, a clock's row whose set of
+/// windows is missing, and any row without a clock's row.
 pub(crate) fn read_all<S: Alter>(db: &mut Database<S>) -> Result<bool, Fault>
     ensures value { IsTrue (state S.Store db.new.conn).is_open
         → IfOk result (ReadsAll (state S.Store db.old.conn).now.trees) }
@@ -92,5 +110,7 @@ pub(crate) fn read_all<S: Alter>(db: &mut Database<S>) -> Result<bool, Fault>
     let versions = read_versions(db)?;
     let added = read_added(db)?;
     see_moved(db)?;
-    Ok(are_blank(&[registry, versions, added]))
+    let is_blank = are_blank(&[registry, versions, added]);
+    see_clock(db, is_blank)?;
+    Ok(is_blank)
 }

@@ -135,6 +135,22 @@ fn a_value_of_no_type_is_refused(rt: HostRuntime) {
     );
 }
 
+// The clock's row is missing, or the set of windows that it names.
+static WITHOUT_CLOCK: [&str; 4] = [
+    "UPDATE window_set SET number = 2",
+    "UPDATE clock2 SET present = 2",
+    "DELETE FROM window_set",
+    "DELETE FROM clock2",
+];
+
+#[test]
+fn a_file_without_its_clock_is_refused(rt: HostRuntime) {
+    assert_eq!(rt;
+        first_wrong_statement(rt.alloc(), &WITHOUT_CLOCK, Some(FileFault::Storage)),
+        None
+    );
+}
+
 // The last values that are of their column's type.
 static LAST_VALUES: [&str; 9] = [
     "UPDATE carrier SET spid = 'ZZ99' WHERE spid = 'AAAA'",

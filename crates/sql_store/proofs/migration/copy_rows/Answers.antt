@@ -6,20 +6,20 @@ use Rattle.sql_rows.specs.declared.keyed.OldClock.{OldClock}
 use Rattle.sql_rows.specs.declared.migration.OldTable.TheVariants as former
 use Rattle.std.specs.Prelude.{ℕ, List, Option}
 use Rattle.sql_store.specs.Migration.{MigratesInTransaction, ArePutBut, AreRowsCopied}
-use Rattle.sql_store.specs.Store.{IsInTransaction, AppliesInTransaction, WritesInTransaction}
+use Rattle.sql_store.specs.Store.{IsInTransaction, IsSetPut, AppliesInTransaction, WritesInTransaction}
 use Rattle.sql_store.proofs.CallLemmas.{writes_nothing}
-use Rattle.sql_store.proofs.MigrationLemmas.{Both, IsChangedBy, alters_as, cleared_shaped, does_stop, does_then, filled, first_set, from_makes, from_writes, to_writes}
+use Rattle.sql_store.proofs.MigrationLemmas.{Both, IsChangedBy, alters_as, IsFirstSetPut, cleared_shaped, does_stop, does_then, filled, first_set, from_first_set, from_makes, from_writes, to_writes}
 use Rattle.sql_store.proofs.migration.copy_rows.Goals as goal
 
 module _ (xs : List ℕ) (clock : Option OldClock) where
   one : (a b d : State) → WritesInTransaction a b true (ArePutBut [] xs)
-      → AppliesInTransaction b d true (first_set clock)
+      → AppliesInTransaction b d true (first_set clock) → WritesInTransaction b d true IsSetPut
       → MigratesInTransaction IsInTransaction a d true
-      (Both (ArePutBut [] xs) (IsChangedBy (first_set clock)))
-  one a b d put made =
+      (Both (ArePutBut [] xs) (IsFirstSetPut clock))
+  one a b d put made set =
       does_then a b d IsInTransaction IsInTransaction (ArePutBut [] xs)
-      (IsChangedBy (first_set clock)) true
-      (from_writes a b true (ArePutBut [] xs) put) (from_makes b d true (first_set clock) made)
+      (IsFirstSetPut clock) true
+      (from_writes a b true (ArePutBut [] xs) put) (from_first_set b d true clock made set)
       (λ inside w. record {
         is_open = w.is_open;
         inside = w.inside;
@@ -29,20 +29,20 @@ module _ (xs : List ℕ) (clock : Option OldClock) where
 
   two : (a d e : State)
       → MigratesInTransaction IsInTransaction a d true
-      (Both (ArePutBut [] xs) (IsChangedBy (first_set clock)))
+      (Both (ArePutBut [] xs) (IsFirstSetPut clock))
       → WritesInTransaction d e true (IsCleared former.Version)
       → MigratesInTransaction IsInTransaction a e true
-      (Both (Both (ArePutBut [] xs) (IsChangedBy (first_set clock)))
+      (Both (Both (ArePutBut [] xs) (IsFirstSetPut clock))
       (IsCleared former.Version))
   two a d e put cleared =
       does_then a d e IsInTransaction IsInTransaction
-      (Both (ArePutBut [] xs) (IsChangedBy (first_set clock)))
+      (Both (ArePutBut [] xs) (IsFirstSetPut clock))
       (IsCleared former.Version) true put (from_writes d e true (IsCleared former.Version) cleared)
       (λ inside w. record {
         is_open = w.is_open;
         inside = w.inside;
-        schema = w.did.2.0;
-        shaped = w.did.2.1;
+        schema = w.did.2.0.0;
+        shaped = w.did.2.0.1;
       })
 
 pub returns-in_err-put_each-clause-writes : goal.returns-in_err-put_each-clause-writes
@@ -75,12 +75,13 @@ returns-in_err-clear_versions-clause-writes g c =
     let e = state g.S.Store c.clear_versions.new.tx.conn.now in
     let fails : is_ok c.from_residual-in_err-clear_versions.result ≡ false = search rules in
     let Filled = AreRowsCopied c.args.ids.now c.args.clock in
-    let One = Both (ArePutBut [] c.args.ids.now) (IsChangedBy (first_set c.args.clock)) in
+    let One = Both (ArePutBut [] c.args.ids.now) (IsFirstSetPut c.args.clock) in
     subst (λ x. WritesInTransaction a e x Filled) (sym fails)
     (to_writes a e false Filled (does_stop a d e IsInTransaction IsInTransaction One
     (IsCleared former.Version)
     Filled (one c.args.ids.now c.args.clock a b d c.in_ok-put_each.ensures.writes
-    c.in_ok-put_first_set.ensures.applies)
+    c.in_ok-put_first_set.ensures.applies
+    c.in_ok-put_first_set.ensures.others)
     (from_writes d e false (IsCleared former.Version) c.in_err-clear_versions.ensures.writes)))
 
 pub returns-in_err-clear-clause-writes : goal.returns-in_err-clear-clause-writes
@@ -94,14 +95,15 @@ returns-in_err-clear-clause-writes g c =
     let clock = c.args.clock in
     let fails : is_ok c.from_residual-in_err-clear.result ≡ false = search rules in
     let Filled = AreRowsCopied xs clock in
-    let Two = Both (Both (ArePutBut [] xs) (IsChangedBy (first_set clock)))
+    let Two = Both (Both (ArePutBut [] xs) (IsFirstSetPut clock))
     (IsCleared former.Version) in
     subst (λ x. WritesInTransaction a f x Filled) (sym fails)
     (to_writes a f false Filled (does_stop a e f IsInTransaction IsInTransaction Two
     (IsCleared former.Clock)
     Filled
     (two xs clock a d e (one xs clock a b d c.in_ok-put_each.ensures.writes
-    c.in_ok-put_first_set.ensures.applies) c.in_ok-clear_versions.ensures.writes)
+    c.in_ok-put_first_set.ensures.applies
+    c.in_ok-put_first_set.ensures.others) c.in_ok-clear_versions.ensures.writes)
     (from_writes e f false (IsCleared former.Clock) c.in_err-clear.ensures.writes)))
 
 pub returns-clause-writes : goal.returns-clause-writes
@@ -113,18 +115,19 @@ returns-clause-writes g c =
     let f = state g.S.Store c.clear.new.tx.conn.now in
     let xs = c.args.ids.now in
     let clock = c.args.clock in
-    let Two = Both (Both (ArePutBut [] xs) (IsChangedBy (first_set clock)))
+    let Two = Both (Both (ArePutBut [] xs) (IsFirstSetPut clock))
     (IsCleared former.Version) in
     to_writes a f true (AreRowsCopied xs clock) (alters_as a f IsInTransaction IsInTransaction true
     (Both Two (IsCleared former.Clock)) (AreRowsCopied xs clock)
     (does_then a e f IsInTransaction IsInTransaction Two (IsCleared former.Clock) true
     (two xs clock a d e (one xs clock a b d c.in_ok-put_each.ensures.writes
-    c.in_ok-put_first_set.ensures.applies) c.in_ok-clear_versions.ensures.writes)
+    c.in_ok-put_first_set.ensures.applies
+    c.in_ok-put_first_set.ensures.others) c.in_ok-clear_versions.ensures.writes)
     (from_writes e f true (IsCleared former.Clock) c.in_ok-clear.ensures.writes)
     (λ inside w. let cleared = w.did.2 in record {
       is_open = w.is_open;
       inside = w.inside;
       schema = cleared.schema;
-      shaped = cleared_shaped former.Version w.did.0 e.now w.did.2 w.did.1.2.1;
+      shaped = cleared_shaped former.Version w.did.0 e.now w.did.2 w.did.1.2.0.1;
     }))
     (λ inside. inside) (λ inside it. filled xs clock a.now f.now inside.shaped it))

@@ -63,6 +63,7 @@ returns-in-Ok-found-clause-taken g c = λ clean.
     let was = c.requires.opened (c.in-Ok-found.ensures.honest clean) in
     taken_found _ _ _ (sound_as s was the_schema c.in-Ok-found.ensures.ours)
     (c.in-Ok-found.ensures.now clean) (c.in-Ok-found.ensures.whole clean)
+    (c.in-Ok-found.ensures.begun clean)
 
 pub returns-in-Err-found-clause-refused : goal.returns-in-Err-found-clause-refused
 returns-in-Err-found-clause-refused g c = λ clean.
