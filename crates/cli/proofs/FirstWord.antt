@@ -111,7 +111,7 @@ rows_are_named program name after told rows (sub.Audit spid) h found =
 pub no_line : (program name : Text) (after : List Text) (rows : List Row)
     → subcommand_of npacd_app (program ∷ name ∷ after) ≡ Some (name, rows)
     → IsNoLineOf name rows → IsNoLine (program ∷ name ∷ after)
-no_line program name after rows found none line takes is =
+no_line program name after rows found none line is =
     let same = is.words_are in
     let name_is : is.name ≡ name = sym (second_same same) in
     let after_is : is.after ≡ after = sym (rest_same same) in

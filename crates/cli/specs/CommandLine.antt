@@ -4,7 +4,7 @@ use Rattle.clap.specs.declared.builder.value_parser.ValueParser.TheVariants.{Uns
 use Rattle.http_messages.specs.Fields.{number_of}
 use Rattle.clap.specs.Walk.{answers_to, rows_after}
 use Rattle.clap.specs.Simple.{built, label_of}
-use Rattle.clap.specs.Takes.{takes}
+use Rattle.clap.specs.Faults.{fault_of}
 use Rattle.clap.specs.Words.{App, Row, Rule, Text, first_of, new_app, new_rule, with_rule, with_subcommand}
 use Rattle.cli.specs.declared.parse.Subcommand.{Subcommand}
 use Rattle.cli.specs.declared.parse.Subcommand.TheVariants as sub
@@ -102,9 +102,15 @@ rows_named name words =
     option_map (λ s. rows_after s.rules [] words) (find (λ s. answers_to name (label_of s))
     (built npacd_app).subs)
 
--- Holds if the words are this command line: the first after the program's name is the subcommand,
--- and its rule reads the values from the words after it.
+-- Holds if `clap` finds no fault in the words: no unknown option, no value out of its range,
+-- nothing missing, and nothing that asks for help.
+abbrev pub IsAccepted : List Text → Type 0
+IsAccepted words = fault_of npacd_app words ≡ []
+
+-- Holds if the words are this command line: `clap` accepts them, the first after the program's name
+-- is the subcommand, and its rule reads the values from the words after it.
 pub record IsLine (words : List Text) (line : CommandLine) : Type 0 where
+  pub accepted : IsAccepted words
   pub program : Text
   pub name : Text
   pub after : List Text
@@ -113,9 +119,9 @@ pub record IsLine (words : List Text) (line : CommandLine) : Type 0 where
   pub rows_are : rows_named name after ≡ Some rows
   pub line_is : IsLineOf name rows line
 
--- Holds if the words are no command line that `clap` accepts.
+-- Holds if the words are no command line.
 abbrev pub IsNoLine : List Text → Type 0
-IsNoLine words = (line : CommandLine) → takes npacd_app words ≡ true → ¬ (IsLine words line)
+IsNoLine words = (line : CommandLine) → ¬ (IsLine words line)
 
 -- Holds if the second word is `name`.
 abbrev pub HasSecond : List Text → Text → Type 0

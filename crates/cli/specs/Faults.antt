@@ -1,13 +1,18 @@
 -- The faults of a command line: their names on standard error, and their exit statuses.
-use Rattle.std.specs.Prelude.{ℕ, List, codes}
+use Rattle.std.specs.Prelude.{◌⊎◌, ℕ, List, codes, ⊤, IsSome}
 use Rattle.windows.specs.File.{name_of}
 use Rattle.windows.specs.declared.window.WindowFault.TheVariants as windows
 use Rattle.http_messages.specs.Faults.{message_name}
 use Rattle.register.specs.declared.register.OpenFault.TheVariants as opening
+use Rattle.sql_store.specs.declared.file_fault.FileFault.{FileFault}
+use Rattle.sql_store.specs.declared.file_fault.FileFault.TheVariants as file
 use Rattle.bulk.specs.Faults.{kind_name}
 use Rattle.bulk.specs.declared.fault.FaultKind.TheVariants as kind
 use Rattle.cli.specs.declared.fault.Fault.{Fault}
 use Rattle.cli.specs.declared.fault.Fault.TheVariants as fault
+use Rattle.cli.specs.declared.parse.CommandLine.{CommandLine}
+use Rattle.cli.specs.declared.parse.Subcommand.{Subcommand}
+use Rattle.cli.specs.declared.parse.Subcommand.TheVariants as sub
 
 abbrev pub fault_name : Fault → List ℕ
 fault_name (fault.Windows refused) = name_of refused
@@ -44,3 +49,83 @@ exit_status fault.Listen = 3
 exit_status fault.Read = 3
 exit_status fault.Write = 3
 exit_status fault.NoMemory = 3
+
+-- The fault for a database file that could not be opened.
+abbrev pub fault_of_opening : FileFault → Fault
+fault_of_opening file.WindowsDiffer = fault.Open opening.WindowsDiffer
+fault_of_opening file.Storage = fault.Open opening.Storage
+fault_of_opening file.NoMemory = fault.Open opening.NoMemory
+
+-- Holds for the faults of reading a file.
+abbrev pub IsOfReading : Fault → Type 0
+IsOfReading fault.Read = ⊤
+IsOfReading fault.NoMemory = ⊤
+IsOfReading other = ⊥
+
+-- Holds for the faults of a windows file.
+abbrev pub IsOfWindows : Fault → Type 0
+IsOfWindows (fault.Windows refused) = ⊤
+IsOfWindows other = IsOfReading other
+
+-- Holds for the faults of serving messages.
+abbrev pub IsOfServing : Fault → Type 0
+IsOfServing (fault.Message refused) = ⊤
+IsOfServing fault.Read = ⊤
+IsOfServing fault.Write = ⊤
+IsOfServing fault.NoMemory = ⊤
+IsOfServing other = ⊥
+
+-- Holds for the faults of opening a register.
+abbrev pub IsOfOpening : Fault → Type 0
+IsOfOpening (fault.Open refused) = ⊤
+IsOfOpening other = ⊥
+
+-- Holds for the faults of opening a register and serving messages to it.
+abbrev pub IsOfFeeding : Fault → Type 0
+IsOfFeeding (fault.Open refused) = ⊤
+IsOfFeeding other = IsOfServing other
+
+-- Holds for those of a new register in memory: its device never fails, and it has no other windows.
+abbrev pub IsOfNewFeeding : Fault → Type 0
+IsOfNewFeeding (fault.Open opening.NoMemory) = ⊤
+IsOfNewFeeding (fault.Open opening.WindowsDiffer) = ⊥
+IsOfNewFeeding (fault.Open opening.Storage) = ⊥
+IsOfNewFeeding other = IsOfServing other
+
+-- Holds for the faults of a file of commands, an export or an audit.
+abbrev pub IsOfFile : Fault → Type 0
+IsOfFile (fault.File refused) = ⊤
+IsOfFile other = ⊥
+
+-- Holds for the faults of listening to a port.
+abbrev pub IsOfListening : Fault → Type 0
+IsOfListening fault.Listen = ⊤
+IsOfListening fault.Write = ⊤
+IsOfListening fault.NoMemory = ⊤
+IsOfListening other = ⊥
+
+-- Holds for the faults of a subcommand over an open register.
+abbrev pub IsOfSubcommand : Subcommand → Fault → Type 0
+IsOfSubcommand sub.Feed refused = IsOfServing refused
+IsOfSubcommand (sub.Serve port connections) refused = IsOfListening refused
+IsOfSubcommand sub.Bulk refused = IsOfFile refused
+IsOfSubcommand sub.Export refused = IsOfFile refused
+IsOfSubcommand (sub.Audit spid) refused = IsOfFile refused
+
+-- Holds if executing this command line may end with this fault: one of the windows file, of opening
+-- the register, of the file of `--feed`, or of the subcommand. Only a file has other windows, and a
+-- device that fails as it is opened.
+abbrev pub MayEnd : CommandLine → Fault → Type 0
+MayEnd line (fault.Windows refused) = ⊤
+MayEnd line (fault.Open opening.NoMemory) = ⊤
+MayEnd line (fault.Open opening.WindowsDiffer) = IsSome line.db
+MayEnd line (fault.Open opening.Storage) = IsSome line.db
+MayEnd line fault.Read = ⊤
+MayEnd line fault.NoMemory = ⊤
+MayEnd line other =
+    (IsSome line.feed × IsOfServing other) ⊎ IsOfSubcommand line.subcommand other
+
+-- Holds if executing this command line over a file may end with this fault.
+abbrev pub MayEndOverFile : CommandLine → Fault → Type 0
+MayEndOverFile line (fault.Open refused) = ⊤
+MayEndOverFile line other = MayEnd line other

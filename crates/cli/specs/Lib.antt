@@ -1,4 +1,6 @@
 pub mod CommandLine
 pub mod Feeding
 pub mod Faults
+pub mod Listening
 pub mod Reporting
+pub mod WindowsFile

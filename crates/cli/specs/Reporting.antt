@@ -1,12 +1,13 @@
 -- The report of the program as it ends, and its exit status.
-use Rattle.std.specs.Prelude.{◌≡◌, ◌⊎◌, ℕ, List, [], ◌∷◌, ◌++◌, codes, Option, Result, Ok, Err}
+use Rattle.std.specs.Prelude.{◌≡◌, ◌≢◌, ◌⊎◌, ℕ, List, [], ◌∷◌, ◌++◌, codes, Option, Result, Ok, Err}
 use Rattle.std.specs.Io.KnownBytes.{Appends, Keeps}
 use Rattle.http_messages.specs.Sending.{AppendsPrefix}
 use Rattle.clap.specs.Faults.{fault_of}
 use Rattle.clap.specs.Kinds.{IsAmong}
+use Rattle.clap.specs.declared.error.kind.ErrorKind.{ErrorKind}
 use Rattle.clap.specs.declared.error.kind.ErrorKind.TheVariants as kind
-use Rattle.cli.specs.CommandLine.{IsLine, IsNoLine, npacd_app}
-use Rattle.cli.specs.Faults.{exit_status, fault_name}
+use Rattle.cli.specs.CommandLine.{IsAccepted, IsLine, IsNoLine, npacd_app}
+use Rattle.cli.specs.Faults.{MayEnd, exit_status, fault_name}
 use Rattle.cli.specs.declared.fault.Fault.{Fault}
 use Rattle.cli.specs.declared.fault.Fault.TheVariants as fault
 use Rattle.cli.specs.declared.parse.CommandLine.{CommandLine}
@@ -63,10 +64,20 @@ abbrev pub AsksForHelp : List (List ℕ) → Type 0
 AsksForHelp words = IsAmong kind.DisplayHelp (fault_of npacd_app words)
     ⊎ IsAmong kind.DisplayVersion (fault_of npacd_app words)
 
--- Holds if a fault of this status was reported in full.
-abbrev pub HasReported : ℕ → (had has : Option (List ℕ)) → Type 0
-HasReported status had has = (refused : Fault) × (exit_status refused ≡ status)
-    × Appends had has (line_of (fault_name refused))
+-- Holds if `clap` refuses the words, and not only to show help or the version.
+abbrev pub IsRefused : List (List ℕ) → Type 0
+IsRefused words = (why : ErrorKind) × IsAmong why (fault_of npacd_app words)
+    × (why ≢ kind.DisplayHelp) × (why ≢ kind.DisplayVersion)
+
+-- Holds if `clap` accepts the words, and yet they are no command line: `clap` takes a sign before a
+-- number.
+abbrev pub HasBadNumber : List (List ℕ) → Type 0
+HasBadNumber words = IsAccepted words × IsNoLine words
+
+-- Holds if the text explains what is wrong with the words. What `clap` writes is not known.
+abbrev pub ExplainsMistake : (words : List (List ℕ)) → (text : List ℕ) → Type 0
+ExplainsMistake words text = IsRefused words
+    ⊎ (HasBadNumber words × (text ≡ codes "error: a number is written in digits\n"))
 
 -- Holds if the words are a command line, which was executed, or ask for help, and nothing was
 -- reported.
@@ -74,25 +85,27 @@ abbrev pub EndsWell : (words : List (List ℕ)) → (had has : Option (List ℕ)
 EndsWell words had has status =
     (status ≡ 0) × (((line : CommandLine) × IsLine words line) ⊎ AsksForHelp words) × Keeps had has
 
--- Holds if the words are a command line, and a file or a message was refused.
-abbrev pub EndsRefused : (words : List (List ℕ)) → (had has : Option (List ℕ)) → (status : ℕ)
-    → Type 0
-EndsRefused words had has status = (status ≡ 1) × ((line : CommandLine) × IsLine words line)
-    × HasReported 1 had has
+-- Holds if the words are a command line that may end with this fault; if they ask for help, which
+-- could not be written; or if an allocation failed.
+abbrev pub MayEndWith : (words : List (List ℕ)) → Fault → Type 0
+MayEndWith words refused = ((line : CommandLine) × IsLine words line × MayEnd line refused)
+    ⊎ (AsksForHelp words × (refused ≡ fault.Write)) ⊎ (refused ≡ fault.NoMemory)
 
--- Holds if the words are no command line, and some text reports that.
+-- Holds if such a fault was reported: its line with its own status, or only a prefix of the line
+-- with status 3.
+abbrev pub EndsFailed : (words : List (List ℕ)) → (had has : Option (List ℕ)) → (status : ℕ)
+    → Type 0
+EndsFailed words had has status =
+    (refused : Fault) × MayEndWith words refused × ReportsFault refused had has status
+
+-- Holds if the words are a mistake, and a text that explains it was reported: the text with status
+-- 2, or only a prefix of it with status 3.
 abbrev pub EndsMistaken : (words : List (List ℕ)) → (had has : Option (List ℕ)) → (status : ℕ)
     → Type 0
-EndsMistaken words had has status = (status ≡ 2) × IsNoLine words
-    × ((text : List ℕ) × Appends had has text)
-
--- Holds if the machine failed and that was reported; or if only a prefix of a report could be
--- written.
-abbrev pub EndsFailed : (had has : Option (List ℕ)) → (status : ℕ) → Type 0
-EndsFailed had has status =
-    (status ≡ 3) × (HasReported 3 had has ⊎ ((text : List ℕ) × AppendsPrefix had has text))
+EndsMistaken words had has status =
+    (text : List ℕ) × ExplainsMistake words text × ReportsMistake text had has status
 
 -- Holds if the program ends so, by what it reported on the errors.
 abbrev pub Ends : (words : List (List ℕ)) → (had has : Option (List ℕ)) → (status : ℕ) → Type 0
-Ends words had has status = EndsWell words had has status ⊎ EndsRefused words had has status
-    ⊎ EndsMistaken words had has status ⊎ EndsFailed had has status
+Ends words had has status = EndsWell words had has status ⊎ EndsFailed words had has status
+    ⊎ EndsMistaken words had has status

@@ -1,5 +1,6 @@
 //! Reads the words of the program's command line.
-ghost use Rattle.std.specs.Prelude.{IfErr};
+ghost use Rattle.std.specs.Prelude.{◌≡◌, IfErr, codes, string_bytes};
+ghost use Rattle.std.specs.IoError.{error_kind};
 ghost use Rattle.cli.specs.Reporting.{IsMistake};
 
 use crate::parse::{Usage, mistake, no_memory};
@@ -10,7 +11,10 @@ use std::{env, io};
 
 // Returns the usage error for words that could not be read.
 fn no_words(alloc: Global, error: &io::Error) -> Usage
-    ensures { IsMistake result.status }
+    ensures status { IsMistake result.status }
+    ensures text { result.status ≡ 2
+        → string_bytes result.text ≡ codes "error: an argument is not UTF-8\n" }
+    ensures memory { error_kind error.now ≡ ErrorKind.OutOfMemory → result.status ≡ 3 }
 {
     match error.kind() {
         ErrorKind::OutOfMemory => no_memory(alloc),
@@ -25,7 +29,9 @@ fn no_words(alloc: Global, error: &io::Error) -> Usage
 /// A text for the user with exit status 2 if a word is not UTF-8; exit status 3 if an allocation
 /// fails.
 pub fn words_of<T: Env + AllocGlobal>(rt: &T) -> Result<Vec<String>, Usage>
-    ensures { IfErr result (λ usage. IsMistake usage.status) }
+    ensures status { IfErr result (λ usage. IsMistake usage.status) }
+    ensures text { IfErr result (λ usage. usage.status ≡ 2
+        → string_bytes usage.text ≡ codes "error: an argument is not UTF-8\n") }
 {
     let words = match env::args(rt) {
         Ok(words) => words,

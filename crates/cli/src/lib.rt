@@ -14,6 +14,6 @@ mod running;
 
 pub use arguments::words_of;
 pub use fault::Fault;
-pub use listening::{MachineMinutes, minute_of, serve_connections, serve_next};
+pub use listening::{MachineMinutes, listen, minute_of, serve_connections, serve_next};
 pub use reporting::report_usage;
 pub use running::{feed, feed_at, run};

@@ -1,17 +1,19 @@
 //! Serves connections to a port of this machine.
-ghost use Rattle.std.specs.Prelude.{◌≡◌, ◌<◌, ◌≤◌, ◌/◌, ◌^◌, ◌↔◌, IfSome, IsSome};
+ghost use Rattle.std.specs.Prelude.{◌≡◌, ◌<◌, ◌≤◌, ◌/◌, ◌^◌, ◌↔◌, IfErr, IfOk, IfSome, IsSome, string_bytes};
 ghost use Rattle.std.specs.Duration.{as_nanos};
 ghost use Rattle.model.specs.State.{State};
 ghost use Rattle.register.specs.Refinement.{Refines};
 ghost use Rattle.api.specs.Serving.{RefinesReachable};
+ghost use Rattle.cli.specs.Listening.{ReportsListening, listening_line};
 
 use crate::fault::Fault;
 use crate::running::BUFFER_SIZE;
 use api::{Options, Served, Ticks, serve};
+use http_messages::send_all;
 use numbers::Minute;
 use register::Register;
 use settle::Store;
-use std::alloc::Global;
+use std::alloc::{AllocError, Global};
 use std::io::{BufWriter, Read, Write};
 use std::net::{Ipv4Addr, Net, OpenListener, OpenStream, TcpListener};
 use std::time::{Clock, Duration};
@@ -43,9 +45,35 @@ impl<T: Clock> Ticks for MachineMinutes<'_, T> {
     }
 }
 
-// Opens a listener at a port of 127.0.0.1.
-fn listener_at<T: Net>(rt: &T, port: u16) -> Result<T::Listener, Fault> {
-    TcpListener::bind(rt, (Ipv4Addr::LOCALHOST, port)).map_err(|_| Fault::Listen)
+// Opens a listener at a port of 127.0.0.1. No clause knows the address that is bound.
+fn listener_at<T: Net>(rt: &T, port: u16) -> Result<T::Listener, Fault>
+    ensures { IfErr result (λ fault. fault ≡ Fault.Listen) }
+{
+    match TcpListener::bind(rt, (Ipv4Addr::LOCALHOST, port)) {
+        Ok(listener) => Ok(listener),
+        Err(_) => Err(Fault::Listen),
+    }
+}
+
+// Returns the line for an open port.
+fn listening_line(alloc: Global, port: u16) -> Result<String, AllocError>
+    ensures { IfOk result (λ line. string_bytes line ≡ listening_line port) }
+{
+    format!(in alloc; "listening on 127.0.0.1:{port}\n")
+}
+
+// Writes the line for an open port, and flushes.
+fn report_listening<W: Write>(alloc: Global, port: u16, writer: &mut W) -> Result<(), Fault>
+    ensures { ReportsListening port (W.contents writer.old) (W.contents writer.new) result }
+{
+    let line = match listening_line(alloc, port) {
+        Ok(line) => line,
+        Err(_) => return Err(Fault::NoMemory),
+    };
+    match send_all(writer, line.as_bytes(), true) {
+        Ok(()) => Ok(()),
+        Err(_) => Err(Fault::Write),
+    }
 }
 
 // Serves the messages of `reader`, and writes their answers to `writer` through a buffer.
@@ -139,19 +167,38 @@ where
     }
 }
 
-/// Listens at a port of 127.0.0.1, reports that to `writer`, and serves connections.
+/// Listens at a port of 127.0.0.1, writes the line `listening on 127.0.0.1:PORT` to `writer`, and
+/// then serves connections, as `serve_connections` does.
+///
+/// The content afterwards refines a state that the machine can reach. Not proved: the address that
+/// is bound, and that the line is flushed before the first connection is accepted.
+///
+/// # Errors
+///
+/// No connection was accepted, and the register is as it was.
+/// - `Listen` if the port cannot be opened. Nothing is written.
+/// - `NoMemory` if an allocation fails. Nothing is written.
+/// - `Write` if the writer fails. A prefix of the line may be written.
 pub fn listen<T: AllocGlobal + Net + Clock, S: Store, W: Write>(
     rt: &T,
     register: &mut Register<S>,
     port: u16,
     connections: Option<u16>,
     writer: &mut W,
-) -> Result<(), Fault> {
-    let listener = listener_at(rt, port)?;
-    let reported = writeln!(writer, "listening on 127.0.0.1:{port}");
-    if reported.is_err() || writer.flush().is_err() {
-        return Err(Fault::Write);
-    }
+) -> Result<(), Fault>
+    ensures reports { ReportsListening port (W.contents writer.old) (W.contents writer.new) result }
+    ensures untouched { IfErr result (λ _. register.new ≡ register.old) }
+    ensures state { S.IsUsable register.new.store → (st : State)
+        → Refines (S.content register.old.store) st
+        → RefinesReachable st (S.content register.new.store) }
+    ensures usable { S.IsUsable register.new.store → S.IsUsable register.old.store }
+    ensures rises { S.failed register.old.store ≤ S.failed register.new.store }
+{
+    let listener = match listener_at(rt, port) {
+        Ok(listener) => listener,
+        Err(_) => return Err(Fault::Listen),
+    };
+    report_listening(rt.alloc(), port, writer)?;
     let mut ticks = MachineMinutes { clock: rt };
     serve_connections(rt.alloc(), &listener, register, &mut ticks, connections);
     Ok(())

@@ -1,9 +1,9 @@
 //! Parses command lines.
-ghost use Rattle.std.specs.Prelude.{◌≡◌, ◌≢◌, ◌⊎◌, IfErr, IfOk, IsTrue, map};
+ghost use Rattle.std.specs.Prelude.{◌≡◌, ◌≢◌, ◌↔◌, ◌⊎◌, IfErr, IfOk, IsTrue, map, string_bytes};
 ghost use Rattle.clap.specs.Values.{kind_of};
 ghost use Rattle.clap.specs.declared.error.kind.ErrorKind.TheVariants.{DisplayHelp, DisplayVersion, OutOfMemory as NoRoom};
 ghost use Rattle.cli.specs.CommandLine.{IsLine, IsNoLine, HasSecond};
-ghost use Rattle.cli.specs.Reporting.{AsksForHelp, IsMistake, IsUsage};
+ghost use Rattle.cli.specs.Reporting.{AsksForHelp, ExplainsMistake, IsMistake, IsUsage};
 
 use crate::command::npacd;
 use crate::options::line_of;
@@ -66,7 +66,8 @@ pub fn no_memory(alloc: Global) -> Usage
 
 /// Returns the usage for a mistake that `clap` does not detect, with its text.
 pub fn mistake(alloc: Global, why: &str) -> Usage
-    ensures { IsMistake result.status }
+    ensures status { IsMistake result.status }
+    ensures text { result.status ≡ 2 → string_bytes result.text ≡ why.now }
 {
     let mut text = String::new(alloc);
     match text.push_str(why) {
@@ -80,6 +81,8 @@ fn usage_of(alloc: Global, error: &Error) -> Usage
     ensures memory { kind_of error.now ≡ NoRoom → result.status ≡ 3 }
     ensures help { result.status ≡ 0
         → (kind_of error.now ≡ DisplayHelp) ⊎ (kind_of error.now ≡ DisplayVersion) }
+    ensures mistake { result.status ≡ 2
+        → (kind_of error.now ≢ DisplayHelp) × (kind_of error.now ≢ DisplayVersion) }
 {
     if error.kind() == ErrorKind::OutOfMemory {
         return no_memory(alloc);
@@ -96,7 +99,7 @@ fn usage_of(alloc: Global, error: &Error) -> Usage
 // Returns whether the word after the program's name is `name`. That holds for a subcommand that
 // `clap` found.
 fn is_second<S: AsStr>(words: &[S], name: &str) -> bool
-    ensures { IsTrue result → HasSecond (map S.text words.now) name.now }
+    ensures { IsTrue result ↔ HasSecond (map S.text words.now) name.now }
 {
     match words {
         [_, second, ..] => second.as_str() == name,
@@ -108,13 +111,17 @@ fn is_second<S: AsStr>(words: &[S], name: &str) -> bool
 ///
 /// # Errors
 ///
-/// A text for the user with an exit status: 0 for help, 2 for a mistake in the words, 3 if an
-/// allocation failed.
+/// A text for the user with an exit status:
+/// - 0 if the words ask for help or for the version;
+/// - 2 if `clap` refuses them, with its text, or if a number is not written in digits;
+/// - 3 if an allocation failed.
 pub fn parse<'a, S: AsStr>(alloc: Global, words: &'a [S]) -> Result<CommandLine<'a>, Usage>
     ensures line { IfOk result (IsLine (map S.text words.entry.now)) }
     ensures status { IfErr result (λ usage. IsUsage usage.status) }
     ensures help { IfErr result (λ usage. usage.status ≡ 0
         → AsksForHelp (map S.text words.entry.now)) }
+    ensures mistake { IfErr result (λ usage. usage.status ≡ 2
+        → ExplainsMistake (map S.text words.entry.now) (string_bytes usage.text)) }
     ensures refused { IfErr result (λ usage. usage.status ≢ 3
         → IsNoLine (map S.text words.entry.now)) }
 {

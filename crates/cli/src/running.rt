@@ -1,16 +1,20 @@
 //! Executes command lines.
-ghost use Rattle.std.specs.Prelude.{◌≡◌, ◌≤◌, [], Err, IfErr, IfOk, IfSome, IsOk, IsTrue, OnOk, map};
+ghost use Rattle.std.specs.Prelude.{◌≡◌, ◌≢◌, ◌≤◌, [], Err, IfErr, IfOk, IfSome, IsOk, IsTrue, OnOk, map};
 ghost use Rattle.model.specs.Content.{empty_content};
 ghost use Rattle.sqlite.specs.Files.{file_state};
 ghost use Rattle.sqlite.specs.State.{HasCleanDisk};
 ghost use Rattle.sqlite.specs.WalFiles.{image_at};
+ghost use Rattle.std.specs.IoError.{error_kind};
 ghost use Rattle.std.specs.Io.Buffered.{writer_buffer, writer_contents, writer_inner};
 ghost use Rattle.model.specs.State.{first_state};
 ghost use Rattle.model.specs.Windows.{Windows as WindowsModel};
 ghost use Rattle.version.specs.Abstraction.{windows_of};
 ghost use Rattle.register.specs.Refinement.{Refines};
 ghost use Rattle.cli.specs.Feeding.{Feeds, io_of_feed, outcome_of};
+ghost use Rattle.cli.specs.Faults.{IsOfFeeding, IsOfNewFeeding, IsOfReading, IsOfServing, IsOfWindows, MayEnd, MayEndOverFile, fault_of_opening};
 ghost use Rattle.cli.specs.Reporting.{Ends};
+ghost use Rattle.cli.specs.declared.parse.CommandLine.{CommandLine as CommandLineImpl};
+ghost use Rattle.cli.specs.WindowsFile.{DefinesWindows, IsFaultOfBytes};
 
 use crate::fault::Fault;
 use crate::listening::listen;
@@ -35,24 +39,45 @@ use store::MemoryStore;
 use windows::{WindowFault, Windows};
 
 // Returns the fault for a file that could not be read.
-fn read_fault(error: io::Error) -> Fault {
+fn read_fault(error: io::Error) -> Fault
+    ensures memory { error_kind error ≡ ErrorKind.OutOfMemory → result ≡ Fault.NoMemory }
+    ensures read { error_kind error ≢ ErrorKind.OutOfMemory → result ≡ Fault.Read }
+    ensures only { IsOfReading result }
+{
     match error.kind() {
         ErrorKind::OutOfMemory => Fault::NoMemory,
         _ => Fault::Read,
     }
 }
 
-fn windows_at<T: Files + AllocGlobal>(rt: &T, path: &str) -> Result<Windows, Fault> {
-    let bytes = fs::read(rt, path).map_err(read_fault)?;
-    match str::from_utf8(bytes.as_slice()) {
-        Ok(text) => Windows::from_toml(rt.alloc(), text).map_err(Fault::Windows),
-        Err(_) => Err(Fault::Windows(WindowFault::Syntax)),
+// Returns the windows that these bytes of a file define.
+fn windows_in(alloc: Global, bytes: &[u8]) -> Result<Windows, Fault>
+    ensures ok { IfOk result (DefinesWindows bytes.now) }
+    ensures fault { IfErr result (IsFaultOfBytes bytes.now) }
+{
+    let Ok(text) = str::from_utf8(bytes) else {
+        return Err(Fault::Windows(WindowFault::Syntax));
+    };
+    match Windows::from_toml(alloc, text) {
+        Ok(windows) => Ok(windows),
+        Err(fault) => Err(Fault::Windows(fault)),
+    }
+}
+
+// Returns the windows of the file at `path`. No clause knows the bytes that a file has.
+fn windows_at<T: Files + AllocGlobal>(rt: &T, path: &str) -> Result<Windows, Fault>
+    ensures { IfErr result IsOfWindows }
+{
+    match fs::read(rt, path) {
+        Ok(bytes) => windows_in(rt.alloc(), bytes.as_slice()),
+        Err(error) => Err(read_fault(error)),
     }
 }
 
 // Returns how serving ended. A refused message is the program's fault.
 fn serving_outcome(served: Result<Served, api::Fault>) -> Result<(), Fault>
-    ensures { result ≡ outcome_of served }
+    ensures outcome { result ≡ outcome_of served }
+    ensures fault { IfErr result IsOfServing }
 {
     match served {
         Ok(served) => match served.end {
@@ -87,6 +112,7 @@ fn feed_to<S: Store, R: Read, W: Write + Drop>(
         (λ input. Feeds w (io_of_feed input (R.remaining reader.new)
         (writer_contents W.contents writer.old) (W.contents (writer_inner writer.new)))
         (writer_buffer writer.new) result) }
+    ensures fault { IfErr result IsOfServing }
 {
     let options = Options { clock_route: true };
     let served = serve(alloc, register, &mut NoTicks, &options, reader, writer);
@@ -112,6 +138,9 @@ fn feed_over<S: Store, R: Read, W: Write + Drop>(
         Feeds (windows_of windows.now) (io_of_feed input (R.remaining reader.new)
         (writer_contents W.contents writer.old) (W.contents (writer_inner writer.new)))
         (writer_buffer writer.new) result.1) }
+    ensures fault { IfErr result.1 IsOfFeeding }
+    ensures new { S.IsUsable result.0 → S.failed result.0 ≡ 0 → S.content store ≡ empty_content
+        → IfErr result.1 IsOfNewFeeding }
 {
     match Register::open(alloc, store, windows) {
         Ok(register) => {
@@ -139,10 +168,11 @@ pub fn feed<R: Read, W: Write + Drop>(
     reader: &mut R,
     writer: &mut BufWriter<W>,
 ) -> Result<(), Fault>
-    ensures { IfSome (R.remaining reader.old) (λ input.
+    ensures feeds { IfSome (R.remaining reader.old) (λ input.
         Feeds (windows_of windows.now) (io_of_feed input (R.remaining reader.new)
         (writer_contents W.contents writer.old) (W.contents (writer_inner writer.new)))
         (writer_buffer writer.new) result) }
+    ensures fault { IfErr result IsOfNewFeeding }
 {
     let store = MemoryStore::new(alloc);
     let (_store, outcome) = feed_over(alloc, store, windows, reader, writer);
@@ -167,12 +197,13 @@ pub fn feed_at<S: Start, R: Read, W: Write + Drop>(
     reader: &mut R,
     writer: &mut BufWriter<W>,
 ) -> Result<(StoreAt<S>, Result<(), Fault>), (FileFault, UnopenedAt<S>)>
-    ensures { IfOk result (λ r. HasCleanDisk (file_state r.0.db.conn)
+    ensures feeds { IfOk result (λ r. HasCleanDisk (file_state r.0.db.conn)
         → IsTrue (file_state r.0.db.conn).is_open → r.0.failures ≡ 0
         → (image_at S.Start).db ≡ [] → IfSome (R.remaining reader.old) (λ input.
         Feeds (windows_of windows.now) (io_of_feed input (R.remaining reader.new)
         (writer_contents W.contents writer.old) (W.contents (writer_inner writer.new)))
         (writer_buffer writer.new) r.1)) }
+    ensures fault { IfOk result (λ r. IfErr r.1 IsOfFeeding) }
 {
     let store = SqlStore::at(rt, path, start, windows)?;
     Ok(feed_over(rt.alloc(), store, windows, reader, writer))
@@ -184,7 +215,9 @@ fn feed_buffered<R: Read, W: Write>(
     windows: &Windows,
     reader: &mut R,
     writer: &mut W,
-) -> Result<(), Fault> {
+) -> Result<(), Fault>
+    ensures { IfErr result IsOfNewFeeding }
+{
     let Ok(mut buffered) = BufWriter::with_capacity(alloc, BUFFER_SIZE, writer) else {
         return Err(Fault::NoMemory);
     };
@@ -199,7 +232,9 @@ fn feed_buffered_to<S: Store, R: Read, W: Write>(
     register: &mut Register<S>,
     reader: &mut R,
     writer: &mut W,
-) -> Result<(), Fault> {
+) -> Result<(), Fault>
+    ensures { IfErr result IsOfServing }
+{
     let Ok(mut buffered) = BufWriter::with_capacity(alloc, BUFFER_SIZE, writer) else {
         return Err(Fault::NoMemory);
     };
@@ -215,13 +250,19 @@ fn feed_buffered_at<R: Read, W: Write>(
     windows: &Windows,
     reader: &mut R,
     writer: &mut W,
-) -> Result<(StoreAt<Unknown>, Result<(), Fault>), Fault> {
+) -> Result<(StoreAt<Unknown>, Result<(), Fault>), Fault>
+    ensures fed { IfOk result (λ r. IfErr r.1 IsOfFeeding) }
+    ensures unopened { IfErr result IsOfFeeding }
+{
     let Ok(mut buffered) = BufWriter::with_capacity(rt.alloc(), BUFFER_SIZE, writer) else {
         return Err(Fault::NoMemory);
     };
     let fed = feed_at(rt, path, Unknown, windows, reader, &mut buffered);
     let (_writer, _unwritten) = buffered.into_parts();
-    fed.map_err(open_fault)
+    match fed {
+        Ok(fed) => Ok(fed),
+        Err(refused) => Err(open_fault(refused)),
+    }
 }
 
 // Serves the messages of a file, and discards the answers.
@@ -229,8 +270,13 @@ fn feed_file<T: Files + AllocGlobal, S: Store>(
     rt: &T,
     register: &mut Register<S>,
     path: &str,
-) -> Result<(), Fault> {
-    let mut file = File::open(rt, path).map_err(read_fault)?;
+) -> Result<(), Fault>
+    ensures { IfErr result IsOfServing }
+{
+    let mut file = match File::open(rt, path) {
+        Ok(file) => file,
+        Err(error) => return Err(read_fault(error)),
+    };
     let file_options = Options { clock_route: true };
     let mut sink = io::sink();
     serving_outcome(serve(
@@ -261,7 +307,9 @@ fn run_on<T: Files + AllocGlobal + Net + Clock, S: Store, R: Read, W: Write>(
     line: &CommandLine<'_>,
     reader: &mut R,
     writer: &mut W,
-) -> Result<(), Fault> {
+) -> Result<(), Fault>
+    ensures { IfErr result (MayEnd line.now) }
+{
     let alloc = rt.alloc();
     if let Some(path) = line.feed {
         feed_file(rt, register, path)?;
@@ -286,7 +334,11 @@ fn run_over<T: Files + AllocGlobal + Net + Clock, S: Store, R: Read, W: Write>(
     line: &CommandLine<'_>,
     reader: &mut R,
     writer: &mut W,
-) -> (S, Result<(), Fault>) {
+) -> (S, Result<(), Fault>)
+    ensures fault { IfErr result.1 (MayEndOverFile line.now) }
+    ensures new { S.IsUsable result.0 → S.failed result.0 ≡ 0 → S.content store ≡ empty_content
+        → IfErr result.1 (MayEnd line.now) }
+{
     match Register::open(rt.alloc(), store, windows) {
         Ok(register) => {
             let mut register = register;
@@ -298,13 +350,50 @@ fn run_over<T: Files + AllocGlobal + Net + Clock, S: Store, R: Read, W: Write>(
 }
 
 // Returns the fault for a file that could not be opened, and closes what is open of it.
-fn open_fault(refused: (FileFault, UnopenedAt<Unknown>)) -> Fault {
+fn open_fault(refused: (FileFault, UnopenedAt<Unknown>)) -> Fault
+    ensures { result ≡ fault_of_opening refused.0 }
+{
     let (fault, _left) = refused;
     Fault::Open(match fault {
         FileFault::WindowsDiffer => OpenFault::WindowsDiffer,
         FileFault::Storage => OpenFault::Storage,
         FileFault::NoMemory => OpenFault::NoMemory,
     })
+}
+
+// Opens the file of `--db`, and executes a command line over it. Returns the open store, and how
+// the command line ended.
+fn run_open<R: Read, W: Write>(
+    rt: &HostRuntime,
+    path: &str,
+    windows: &Windows,
+    line: &CommandLine<'_>,
+    reader: &mut R,
+    writer: &mut W,
+) -> Result<(StoreAt<Unknown>, Result<(), Fault>), Fault>
+    ensures ended { IfOk result (λ r. IfErr r.1 (MayEndOverFile line.now)) }
+    ensures unopened { IfErr result (MayEndOverFile line.now) }
+{
+    match (line.subcommand, line.feed) {
+        (Subcommand::Feed, None) => feed_buffered_at(rt, path, windows, reader, writer),
+        _ => {
+            let store = SqlStore::at(rt, path, Unknown, windows).map_err(open_fault)?;
+            Ok(run_over(rt, store, windows, line, reader, writer))
+        }
+    }
+}
+
+// Closes the file of `--db`.
+fn close(store: StoreAt<Unknown>) -> Result<(), Fault>
+    ensures { (line : CommandLineImpl) → IfErr result (MayEndOverFile line) }
+{
+    match store.close_files() {
+        Ok(_files) => Ok(()),
+        Err((fault, left)) => {
+            drop(left.close());
+            Err(Fault::Open(OpenFault::from(fault)))
+        }
+    }
 }
 
 // Executes a command line over the file of `--db`, and closes it.
@@ -315,23 +404,28 @@ fn run_at<R: Read, W: Write>(
     line: &CommandLine<'_>,
     reader: &mut R,
     writer: &mut W,
-) -> Result<(), Fault> {
-    let (store, outcome) = match (line.subcommand, line.feed) {
-        (Subcommand::Feed, None) => feed_buffered_at(rt, path, windows, reader, writer)?,
-        _ => {
-            let store = SqlStore::at(rt, path, Unknown, windows).map_err(open_fault)?;
-            run_over(rt, store, windows, line, reader, writer)
-        }
-    };
-    let closed = store.close_files();
+) -> Result<(), Fault>
+    ensures { IfErr result (MayEndOverFile line.now) }
+{
+    let (store, outcome) = run_open(rt, path, windows, line, reader, writer)?;
+    let closed = close(store);
     outcome?;
-    match closed {
-        Ok(_files) => Ok(()),
-        Err((fault, left)) => {
-            drop(left.close());
-            Err(Fault::Open(OpenFault::from(fault)))
-        }
-    }
+    closed
+}
+
+// Executes a command line over a new register in memory.
+fn run_in_memory<R: Read, W: Write>(
+    rt: &HostRuntime,
+    windows: &Windows,
+    line: &CommandLine<'_>,
+    reader: &mut R,
+    writer: &mut W,
+) -> Result<(), Fault>
+    ensures { IfErr result (MayEnd line.now) }
+{
+    let store = MemoryStore::new(rt.alloc());
+    let (_store, outcome) = run_over(rt, store, windows, line, reader, writer);
+    outcome
 }
 
 // Executes a command line. A plain `feed` calls the function whose contract states its answers.
@@ -340,16 +434,14 @@ fn run_line<R: Read, W: Write>(
     line: &CommandLine<'_>,
     reader: &mut R,
     writer: &mut W,
-) -> Result<(), Fault> {
+) -> Result<(), Fault>
+    ensures { IfErr result (MayEnd line.now) }
+{
     let windows = windows_at(rt, line.windows)?;
     match (line.subcommand, line.feed, line.db) {
         (_, _, Some(path)) => run_at(rt, path, &windows, line, reader, writer),
         (Subcommand::Feed, None, None) => feed_buffered(rt.alloc(), &windows, reader, writer),
-        _ => {
-            let store = MemoryStore::new(rt.alloc());
-            let (_store, outcome) = run_over(rt, store, &windows, line, reader, writer);
-            outcome
-        }
+        _ => run_in_memory(rt, &windows, line, reader, writer),
     }
 }
 

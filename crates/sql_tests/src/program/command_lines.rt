@@ -17,7 +17,8 @@ pub const NO_OUTPUT: Option<&str> = Some("");
 
 const BROADCAST: &str = "broadcast = 15\n";
 
-const REGISTERED: &str = "HTTP/1.1 200 OK\r\ncontent-type: application/json\r\n\
+/// The response to the message that registers the carrier AAAA.
+pub const REGISTERED: &str = "HTTP/1.1 200 OK\r\ncontent-type: application/json\r\n\
     content-length: 25\r\n\r\n{\"rows\":[],\"spid\":\"AAAA\"}";
 
 const TAKEN: &str = "HTTP/1.1 409 Conflict\r\ncontent-type: application/json\r\n\
@@ -27,6 +28,15 @@ const REGISTERED_AND_CUT: &str = "HTTP/1.1 200 OK\r\ncontent-type: application/j
     content-length: 25\r\n\r\n{\"rows\":[],\"spid\":\"AAAA\"}HTTP/1.1 400 Bad Request\r\n\
     content-type: application/json\r\ncontent-length: 32\r\n\r\n\
     {\"error\":\"cut_body\",\"number\":46}";
+
+const BAD_HEAD: &str = "HTTP/1.1 400 Bad Request\r\ncontent-type: application/json\r\n\
+    content-length: 32\r\n\r\n{\"error\":\"bad_head\",\"number\":45}";
+
+// The head of a message whose body has one byte too many.
+const LARGE: &str = "POST /carriers HTTP/1.1\r\nx-spid: NPAC\r\ncontent-length: 1048577\r\n\r\n";
+
+const TOO_LARGE: &str = "HTTP/1.1 413 Payload Too Large\r\ncontent-type: application/json\r\n\
+    content-length: 33\r\n\r\n{\"error\":\"too_large\",\"number\":44}";
 
 const FIRST_AND_CUT: &str = "POST /carriers HTTP/1.1\r\nx-spid: NPAC\r\n\
     content-length: 15\r\n\r\n{\"spid\":\"AAAA\"}POST /carriers HTTP/1.1\r\n\
@@ -103,7 +113,7 @@ static HELP: [LineCase<'static>; 3] = [
 
 // Faults; the first in this order is reported: of the windows file, then of the file of messages,
 // then of the input.
-static FAULTS: [LineCase<'static>; 8] = [
+static FAULTS: [LineCase<'static>; 10] = [
     (
         "npacd feed --windows narrow.toml",
         FIRST,
@@ -159,6 +169,59 @@ static FAULTS: [LineCase<'static>; 8] = [
         1,
         None,
         Some("npacd: cut_body\n"),
+    ),
+    (
+        "npacd feed --windows good.toml",
+        "GARBAGE\r\n\r\n",
+        1,
+        Some(BAD_HEAD),
+        Some("npacd: bad_head\n"),
+    ),
+    (
+        "npacd feed --windows good.toml",
+        LARGE,
+        1,
+        Some(TOO_LARGE),
+        Some("npacd: too_large\n"),
+    ),
+];
+
+// Each other fault of a windows file. The first two are no TOML and no UTF-8.
+static WINDOWS_FAULTS: [LineCase<'static>; 5] = [
+    (
+        "npacd feed --windows cut.http",
+        FIRST,
+        1,
+        NO_OUTPUT,
+        Some("npacd: syntax\n"),
+    ),
+    (
+        "npacd serve --windows latin.toml --port 1",
+        "",
+        1,
+        NO_OUTPUT,
+        Some("npacd: syntax\n"),
+    ),
+    (
+        "npacd bulk --windows tenth.toml",
+        "",
+        1,
+        NO_OUTPUT,
+        Some("npacd: unknown_key\n"),
+    ),
+    (
+        "npacd export --windows fraction.toml",
+        "",
+        1,
+        NO_OUTPUT,
+        Some("npacd: not_whole\n"),
+    ),
+    (
+        "npacd audit --windows zero.toml --spid AAAA",
+        "",
+        1,
+        NO_OUTPUT,
+        Some("npacd: out_of_range\n"),
     ),
 ];
 
@@ -266,6 +329,21 @@ pub fn first_wrong_line<'a>(rt: &HostRuntime, rows: &'a [LineCase<'a>]) -> Optio
     None
 }
 
+// Writes the windows files that are refused.
+fn make_refused_files<T: Files + AllocGlobal>(rt: &T) -> io::Result<()> {
+    let alloc = rt.alloc();
+    let mut latin = Vec::new(alloc);
+    latin.extend_from_slice(WINDOWS.as_bytes())?;
+    latin.extend_from_slice(b"# caf\xe9\n")?;
+    fs::write(rt, "latin.toml", latin.as_slice())?;
+    let tenth = format!(in alloc; "{WINDOWS}tenth = 15\n")?;
+    fs::write(rt, "tenth.toml", tenth)?;
+    let fraction = WINDOWS.replace(alloc, BROADCAST, "broadcast = 15.0\n")?;
+    fs::write(rt, "fraction.toml", fraction)?;
+    let zero = WINDOWS.replace(alloc, BROADCAST, "broadcast = 0\n")?;
+    fs::write(rt, "zero.toml", zero)
+}
+
 // Writes the files of the rows to the directory of the test's own files.
 fn make_files<T: Files + AllocGlobal + Env>(rt: &T) -> io::Result<()> {
     env::set_current_dir(rt, env::temp_dir(rt)?)?;
@@ -285,6 +363,8 @@ fn command_lines_are_executed(rt: HostRuntime) {
     assert_eq!(rt; first_wrong_line(&rt, &MISTAKES), None);
     assert_eq!(rt; first_wrong_line(&rt, &HELP), None);
     assert_eq!(rt; first_wrong_line(&rt, &FAULTS), None);
+    assert!(rt; make_refused_files(&rt).is_ok());
+    assert_eq!(rt; first_wrong_line(&rt, &WINDOWS_FAULTS), None);
     assert_eq!(rt; first_wrong_line(&rt, &FED), None);
     assert_eq!(rt; first_wrong_line(&rt, &STORED), None);
     assert_eq!(rt; is_port_taken(&rt), Some(true));

@@ -22,8 +22,8 @@ const CARRIERS: &str = "POST /carriers HTTP/1.1\r\nx-spid: NPAC\r\ncontent-lengt
 const CLOCK: &str = "POST /clock HTTP/1.1\r\nx-spid: NPAC\r\ncontent-length: 14\r\n\r\n\
     {\"minute\":100}";
 
-// The message that sets the windows of `wide.toml`.
-const WIDE: &str = "POST /windows HTTP/1.1\r\nx-spid: NPAC\r\ncontent-length: 217\r\n\r\n\
+/// The message that sets the windows of `wide.toml`.
+pub const WIDE: &str = "POST /windows HTTP/1.1\r\nx-spid: NPAC\r\ncontent-length: 217\r\n\r\n\
     {\"broadcast\":16,\"cancellation_final\":60,\"cancellation_initial\":60,\
     \"conflict_expiration\":1000,\"conflict_resolution\":120,\"conflict_restriction\":30,\
     \"final_concurrence\":60,\"initial_concurrence\":60,\"pending_retention\":500}";
@@ -422,13 +422,16 @@ impl Write for FailingStream {
 }
 
 // Lines over an input that cannot be read.
-static UNREAD: [&str; 2] = [
+static UNREAD: [&str; 3] = [
+    "npacd feed --windows good.toml",
     "npacd bulk --windows good.toml",
     "npacd audit --windows good.toml --feed carriers.http --spid AAAA",
 ];
 
 // Lines, with their input, whose output cannot be written.
-static UNWRITTEN: [(&str, &str); 3] = [
+static UNWRITTEN: [(&str, &str); 5] = [
+    ("npacd --help", ""),
+    ("npacd feed --windows good.toml", LAST),
     ("npacd bulk --windows good.toml", ACTIVATES),
     ("npacd export --windows good.toml", ""),
     (

@@ -1,6 +1,6 @@
-use Rattle.std.proofs.Common.{◌≡◌, ℕ, true, arith, inl, inr, map, List, Option, Some, None, option_map, refl, sym, ◌∙◌, ap, subst}
+use Rattle.std.proofs.Common.{◌≡◌, ℕ, true, arith, inl, inr, map, List, [], Option, Some, None, option_map, refl, sym, ◌∙◌, ap, subst}
 use Rattle.clap.specs.Words.{App, Row, Text, is_simple, found_of, rows_of, subcommand_of, subcommand_rows}
-use Rattle.std.specs.Prelude.{Box, ◌⊎◌}
+use Rattle.std.specs.Prelude.{Box, ◌≢◌, ◌⊎◌}
 use Rattle.std.specs.Box.{box_value}
 use Rattle.clap.specs.declared.parser.matches.SubCommand.{SubCommand}
 use Rattle.clap.specs.declared.parser.matches.ArgMatches.TheViews.{out-ArgMatches, out-SubCommand}
@@ -10,14 +10,18 @@ use Rattle.clap.specs.Kinds.{HasKind, IsAmong, Kinds}
 use Rattle.clap.specs.Values.{kind_of}
 use Rattle.clap.specs.declared.error.Error.{Error}
 use Rattle.clap.specs.declared.error.kind.ErrorKind.TheVariants as kind
-use Rattle.clap.specs.Takes.{takes}
 use Rattle.cli.specs.CommandLine.{IsNoLine, npacd_app}
+use Rattle.cli.specs.Reporting.{IsRefused}
 use Rattle.cli.proofs.FirstWord.{no_line, rows_are_named}
 use Rattle.cli.proofs.parse.parse.Goals as goal
 
 simple : is_simple npacd_app ≡ true
 unfolding clap_on_literals
 simple = refl
+
+free : is_simple_and_free npacd_app ≡ true
+unfolding clap_on_literals
+free = refl
 
 abbrev Pair : Type 0
 Pair = Text × List Row
@@ -41,7 +45,7 @@ pub returns-in-Ok-line_of-clause-line : goal.returns-in-Ok-line_of-clause-line
 returns-in-Ok-line_of-clause-line g c =
     let e = c.in-Ok.ensures in
     let words = map g.S.AsStr.text c.args.words.now in
-    let second = c.if-is_second.ensures refl in
+    let second = c.if-is_second.ensures.0 refl in
     let shown = named words (out-ArgMatches c.in-Ok-try_get_matches_from.matches).subcommand
     c.in-Some.name.now (rows_of (found_of c.in-Some.found.now))
     ((c.in-Ok-try_get_matches_from.ensures.matches (ap is_simple e ∙ simple)).1
@@ -50,6 +54,8 @@ returns-in-Ok-line_of-clause-line g c =
     λ ws. subcommand_of npacd_app ws
     ≡ Some (c.in-Some.name.now, rows_of (found_of c.in-Some.found.now)) in
     record {
+      accepted = subst (λ (a : App). fault_of a words ≡ []) e
+          (c.in-Ok-try_get_matches_from.ensures.kinds (ap is_simple_and_free e ∙ free));
       program = second.0;
       name = c.in-Some.name.now;
       after = second.1;
@@ -66,7 +72,7 @@ pub returns-in-Some-clause-refused : goal.returns-in-Some-clause-refused
 returns-in-Some-clause-refused g c =
     let e = c.in-Ok.ensures in
     let words = map g.S.AsStr.text c.args.words.now in
-    let second = c.if-is_second.ensures refl in
+    let second = c.if-is_second.ensures.0 refl in
     let shown = named words (out-ArgMatches c.in-Ok-try_get_matches_from.matches).subcommand
     c.in-Some.name.now (rows_of (found_of c.in-Some.found.now))
     ((c.in-Ok-try_get_matches_from.ensures.matches (ap is_simple e ∙ simple)).1
@@ -78,16 +84,63 @@ returns-in-Some-clause-refused g c =
     (subst P second.2 shown) c.in-Err-line_of.ensures.none in
     λ status line. subst IsNoLine (sym second.2) none line
 
-pub returns-in-Err-try_get_matches_from-clause-refused : goal.returns-in-Err-try_get_matches_from-clause-refused
-returns-in-Err-try_get_matches_from-clause-refused g c =
+pub returns-in-Some-clause-mistake : goal.returns-in-Some-clause-mistake
+returns-in-Some-clause-mistake g c =
+    let e = c.in-Ok.ensures in
     let words = map g.S.AsStr.text c.args.words.now in
-    λ status line passes is.
-    status (c.usage_of.ensures.memory (c.in-Err-try_get_matches_from.ensures.passes
-    (ap (λ (a : App). takes a words) c.in-Ok.ensures ∙ passes)))
+    let second = c.if-is_second.ensures.0 refl in
+    let shown = named words (out-ArgMatches c.in-Ok-try_get_matches_from.matches).subcommand
+    c.in-Some.name.now (rows_of (found_of c.in-Some.found.now))
+    ((c.in-Ok-try_get_matches_from.ensures.matches (ap is_simple e ∙ simple)).1
+    ∙ ap (λ (a : App). subcommand_of a words) e) c.in-Some.ensures.name c.in-Some.ensures.rows in
+    let P : List Text → Type 0 =
+    λ ws. subcommand_of npacd_app ws
+    ≡ Some (c.in-Some.name.now, rows_of (found_of c.in-Some.found.now)) in
+    let none = no_line second.0 c.in-Some.name.now second.1 (rows_of (found_of c.in-Some.found.now))
+    (subst P second.2 shown) c.in-Err-line_of.ensures.none in
+    let accepted = subst (λ (a : App). fault_of a words ≡ []) e
+    (c.in-Ok-try_get_matches_from.ensures.kinds (ap is_simple_and_free e ∙ free)) in
+    λ two. inr (
+      (accepted, λ line. subst IsNoLine (sym second.2) none line),
+      c.mistake.ensures.text two,
+    )
 
-free : is_simple_and_free npacd_app ≡ true
-unfolding clap_on_literals
-free = refl
+-- Words in which `clap` finds a fault are no command line.
+faulty : (words : List Text) (error : Error) (status : ℕ) → status ≢ 3
+    → (kind_of error ≡ kind.OutOfMemory → status ≡ 3) → HasKind (fault_of npacd_app words) error
+    → IsNoLine words
+faulty words error status other memory (inl none) line is = other (memory none)
+faulty words error status other memory (inr among) line is =
+    subst (λ (kinds : Kinds). IsAmong (kind_of error) kinds) is.accepted among
+
+pub returns-in-Err-try_get_matches_from-clause-refused : goal.returns-in-Err-try_get_matches_from-clause-refused
+returns-in-Err-try_get_matches_from-clause-refused g c = λ status line.
+    let words = map g.S.AsStr.text c.args.words.now in
+    let error = c.in-Err-try_get_matches_from.error in
+    let has = c.in-Err-try_get_matches_from.ensures.kinds (ap is_simple_and_free c.in-Ok.ensures
+    ∙ free) in
+    faulty words error c.usage_of.result.status status c.usage_of.ensures.memory
+    (subst (λ (a : App). HasKind (fault_of a words) error) c.in-Ok.ensures has) line
+
+-- A usage of status 2 implies that `clap` refuses the words.
+refuses : (words : List Text) (error : Error) (status : ℕ) → status ≡ 2
+    → (kind_of error ≡ kind.OutOfMemory → status ≡ 3)
+    → (kind_of error ≢ kind.DisplayHelp) × (kind_of error ≢ kind.DisplayVersion)
+    → HasKind (fault_of npacd_app words) error → IsRefused words
+refuses words error status two memory other (inl none) = let three = memory none in
+    absurd (omega (arith, two, three))
+refuses words error status two memory other (inr among) =
+    (kind_of error, among, other.0, other.1)
+
+pub returns-in-Err-try_get_matches_from-clause-mistake : goal.returns-in-Err-try_get_matches_from-clause-mistake
+returns-in-Err-try_get_matches_from-clause-mistake g c = λ two.
+    let words = map g.S.AsStr.text c.args.words.now in
+    let error = c.in-Err-try_get_matches_from.error in
+    let has = c.in-Err-try_get_matches_from.ensures.kinds (ap is_simple_and_free c.in-Ok.ensures
+    ∙ free) in
+    inl (refuses words error c.usage_of.result.status two c.usage_of.ensures.memory
+    (c.usage_of.ensures.mistake two)
+    (subst (λ (a : App). HasKind (fault_of a words) error) c.in-Ok.ensures has))
 
 -- A usage of status 0 implies that the words ask for help, by the rule of `clap`.
 asks : (kinds : Kinds) (error : Error) (status : ℕ) → status ≡ 0 → (kind_of error ≡ kind.OutOfMemory

@@ -1,15 +1,16 @@
 use Rattle.std.proofs.Common.{map}
+use Rattle.std.specs.Prelude.{string_bytes}
 use Rattle.cli.proofs.Endings.{outcome_ends, usage_ends}
 use Rattle.cli.proofs.running.run.Goals as goal
 
 pub returns-in-Ok : goal.returns-in-Ok
 returns-in-Ok g c =
     outcome_ends (map g.S.AsStr.text c.args.words.now) _ _ c.report_outcome.result c.in-Ok.line
-    c.in-Ok.ensures.line c.run_line.result c.report_outcome.ensures
+    c.in-Ok.ensures.line c.run_line.result c.run_line.ensures c.report_outcome.ensures
 
 pub returns-in-Err : goal.returns-in-Err
 returns-in-Err g c =
     usage_ends (map g.S.AsStr.text c.args.words.now) _ _ c.report_usage.result c.in-Err.usage.status
-    _
+    (string_bytes c.in-Err.usage.text)
     _ _
-    c.in-Err.ensures.status c.in-Err.ensures.help c.in-Err.ensures.refused c.report_usage.ensures
+    c.in-Err.ensures.status c.in-Err.ensures.help c.in-Err.ensures.mistake c.report_usage.ensures
