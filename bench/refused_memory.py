@@ -1,16 +1,19 @@
-"""Tests two streams and a dozen stories with each of their allocations refused in turn.
+"""Tests two streams and the worked stories with each of their allocations refused in turn.
 
-    bench/run refused-memory [FILE]      (default all, otherwise the messages of FILE; needs the built program and gcc)
+    bench/run refused-memory [FILE]      (default all, otherwise the messages of FILE; needs gcc, the built program, and
+                                          the built tests: cd crates/memory_tests && rt test)
 
 The streams are the first port, and a registration beside open broadcasts; the stories use every call. The message
 whose allocation was refused is answered with `no_memory`, and when it is sent again, as if nothing had happened. Or the
-program ends with `no_memory`, and all responses before are right.
+program ends with `no_memory`, and all responses before are right. Then come the tests of `bench/run refused-files`.
 """
 import io
 import sys
 from collections import Counter
+from concurrent.futures import ThreadPoolExecutor
 from pathlib import Path
 
+import refused_files
 import stories
 
 from lib.measure import folder
@@ -22,12 +25,23 @@ from lib.refusing import Refusing
 NO_MEMORY = b'{"error":"no_memory","number":30}'
 FIRST_PORT = "examples/first-port.http"
 
-# a dozen stories that meet every call of the interface, each with an answer of 200
+# the worked stories, and what meets every call of the interface with an answer of 200
 STORIES = (
-    "cancellation-acknowledged", "carrier", "conflict-removed-by-the-old-provider", "first-port", "held-by-the-donor",
-    "modified", "modified-newcomer", "newcomer-of-a-block", "numbers", "planned-disconnect-of-nobody-jump",
-    "two-refusals-cancellation-acknowledge", "windows-of-restriction",
+    "cancellation-acknowledged", "carrier", "carrier-codes", "clock-back", "conflict-at-the-last-minute",
+    "conflict-removed-by-the-new-provider", "conflict-removed-by-the-old-provider", "conflict-too-late", "contaminated",
+    "due-minute", "failed-second-port", "failed-second-port-jump", "faulty-queries", "first-port", "held-block",
+    "held-block-jump", "held-by-the-donor", "hundred-carriers", "long-queries", "modified", "modified-newcomer",
+    "newcomer-after-the-end", "newcomer-before-the-end", "newcomer-of-a-block", "no-acknowledgement", "numbers",
+    "old-provider-cancels", "old-provider-cancels-jump", "planned-disconnect-of-nobody",
+    "planned-disconnect-of-nobody-jump", "ported-again", "ported-again-jump", "queries", "refusals", "released-block",
+    "released-block-jump", "retention", "silent-new-provider", "silent-new-provider-jump", "silent-old-provider",
+    "some-acknowledgements", "three-creates", "two-refusals-cancellation-acknowledge", "uris", "windows-of-restriction",
 )
+# the story whose first message is cut, and how the program ends after that
+CUT, CUT_END = "cut-message", (1, b"npacd: cut_body\n")
+WHOLE_END = (0, b"")
+# how many runs at once
+WORKERS = 3
 # the last part of the paths that end with one
 LAST = {"numbers": "{tn}", "versions": "{id}", "downloads": "{n}"}
 
@@ -36,7 +50,7 @@ def parts_of(text):
     return list(parts(io.BytesIO(text)))
 
 
-def outcome(refusing, messages, answers, place):
+def outcome(refusing, messages, answers, place, end=WHOLE_END):
     """What became of the run in which this allocation was refused, or None where that is wrong."""
     def served(asked):
         ran = refusing.run(command_line("feed"), place, input=b"".join(asked), capture_output=True)
@@ -48,7 +62,7 @@ def outcome(refusing, messages, answers, place):
     if first.returncode == 3:
         told = first.stderr == b"npacd: no_memory\n" and heard == answers[:len(heard)]
         return "ended" if told else None
-    if first.returncode != 0:
+    if (first.returncode, first.stderr) != end:
         return None
     turn = next((turn for turn, answer in enumerate(heard) if answer.endswith(NO_MEMORY)), None)
     if turn is None:
@@ -56,7 +70,7 @@ def outcome(refusing, messages, answers, place):
     # the same once more, and the message that met it is sent a second time
     again, heard_again = served(messages[:turn + 1] + messages[turn:])
     wanted = answers[:turn] + [heard[turn]] + answers[turn:]
-    return "sent again" if again.returncode == 0 and heard_again == wanted else None
+    return "sent again" if (again.returncode, again.stderr) == end and heard_again == wanted else None
 
 
 def beside_open_broadcasts(count):
@@ -87,6 +101,13 @@ def told_of(name):
     return [row.asked for row in rows], [row.answers[0] for row in rows]
 
 
+def cut_message():
+    """The message of the story that is cut, and its answer."""
+    row, end = stories.rows_of(CUT, stories.names_of_all(), True)[:2]
+    assert end.how == "cut_body"
+    return [row.asked.encode()], [text.encode() for text in row.answers]
+
+
 def met_by_all():
     """The calls that are met with an answer of 200."""
     pairs = [pair for name in STORIES for pair in zip(*told_of(name))]
@@ -98,18 +119,19 @@ def calls():
         return {line.strip().rstrip(":") for line in file if line.startswith("  /")}
 
 
-def refuse_in_turn(refusing, name, messages, answers=None):
+def refuse_in_turn(refusing, name, messages, answers=None, end=WHOLE_END):
     """Refuses each allocation that the messages take, prints what became of it, and tells how many there were."""
     whole, places = refusing.counted(command_line("feed"), input=b"".join(messages), capture_output=True)
     heard = parts_of(whole.stdout)
-    assert whole.returncode == 0 and len(heard) == len(messages), whole.stderr
+    assert (whole.returncode, whole.stderr) == end and len(heard) == len(messages), whole.stderr
     assert answers is None or heard == answers
-    outcomes = Counter()
-    for place in range(1, places + 1):
-        became = outcome(refusing, messages, heard, place)
-        if became is None:
-            sys.exit(f"allocation {place}: wrong")
-        outcomes[became] += 1
+    with ThreadPoolExecutor(WORKERS) as pool:
+        found = pool.map(lambda place: outcome(refusing, messages, heard, place, end), range(1, places + 1))
+        outcomes = Counter()
+        for place, became in enumerate(found, 1):
+            if became is None:
+                sys.exit(f"{name}allocation {place}: wrong")
+            outcomes[became] += 1
     became = ", ".join(f"{many} {became}" for became, many in outcomes.items())
     print(f"{name}{len(messages)} messages, {places} allocations, each refused in turn: {became}", flush=True)
     return places
@@ -119,9 +141,10 @@ def refuse_stories(refusing):
     assert met_by_all() == calls(), met_by_all() ^ calls()
     places = 0
     for name in STORIES:
-        messages, answers = ([text.encode() for text in texts] for texts in told_of(name))
+        messages, answers = ([stories.encoded(text) for text in texts] for texts in told_of(name))
         places += refuse_in_turn(refusing, f"{name}: ", messages, answers)
-    print(f"{len(STORIES)} stories, {len(calls())} calls, {places} allocations")
+    places += refuse_in_turn(refusing, f"{CUT}: ", *cut_message(), CUT_END)
+    print(f"{len(STORIES) + 1} stories, {len(calls())} calls, {places} allocations")
 
 
 def main(words):
@@ -131,3 +154,4 @@ def main(words):
         if not words:
             refuse_in_turn(refusing, "", [text.encode() for text in beside_open_broadcasts(12)])
             refuse_stories(refusing)
+            refused_files.refuse_tests(refusing)

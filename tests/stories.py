@@ -44,8 +44,11 @@ PHRASES = {
     503: "Service Unavailable",
 }
 ENDS = {"input", "closed", "bad_head", "too_large", "cut_body"}
-# The byte between the connections of a story.
+# How a file of commands, an export or an audit ends.
+ENDS |= {"written", "bad_header", "bad_file", "unknown_carrier"}
+# The byte between the connections of a story, and the one that begins a file in place of a connection.
 BREAK = "\x1e"
+FILE = "\x1d"
 
 
 class Mistake(Exception):
@@ -57,6 +60,15 @@ class Row:
     where: str
     asked: str
     answers: list[str] = field(default_factory=list)
+
+    @property
+    def is_file(self) -> bool:
+        return self.asked.startswith(FILE)
+
+    @property
+    def count(self) -> int:
+        """How many messages are answered, or how many rows a file writes after its header."""
+        return max(0, "".join(self.answers).count("\n") - 1) if self.is_file else len(self.answers)
 
 
 @dataclass
@@ -79,6 +91,11 @@ class Piece:
 
     where: str
     text: str
+
+
+def encoded(text: str) -> bytes:
+    """Returns the bytes of a text, in which `\\udc80` to `\\udcff` are the bytes 80 to FF, which are no UTF-8."""
+    return text.encode(errors="surrogateescape")
 
 
 def between(low: str, high: str) -> list[str]:
@@ -149,13 +166,15 @@ def texts_of(text: str, names: Names) -> str:
 def asked(caller: str, path: str, body: str) -> str:
     if not body:
         return f"GET {path} HTTP/1.1\r\nx-spid: {caller}\r\n\r\n"
-    length = len(body.encode())
+    length = len(encoded(body))
     return f"POST {path} HTTP/1.1\r\nx-spid: {caller}\r\ncontent-length: {length}\r\n\r\n{body}"
 
 
 def answer(text: str, names: Names) -> str:
-    """Returns an answer from a status and a body, or from a status, a refusal's name and its number."""
+    """Returns an answer: a status and a body, or a status, a refusal's name and its number, or what a file writes."""
     status, _, rest = text.partition(" ")
+    if status == "writes":
+        return texts_of(rest, names)
     if refused := re.fullmatch(r"(\w+) (\d+)", rest):
         body = f'{{"error":"{refused[1]}","number":{refused[2]}}}'
     else:
@@ -217,6 +236,12 @@ def let(line: str, names: Names) -> None:
         names.fields[name] = fields_of(rest.split(), names)
 
 
+def file_of(word: str, rest: str, names: Names) -> str:
+    """Returns what stands for a file in place of a connection: a line that says what is done, and its bytes."""
+    carrier, _, texts = rest.partition(" ") if word == "audit" else ("", "", rest)
+    return f"{FILE}{word} {carrier}\n{texts_of(texts, names)}"
+
+
 def add(where: str, line: str, rows: list[Row | End], names: Names, is_whole: bool) -> None:
     """Adds a line to the rows."""
     word, _, rest = line.partition(" ")
@@ -233,6 +258,8 @@ def add(where: str, line: str, rows: list[Row | End], names: Names, is_whole: bo
         rows += rows_of(rest, names, False)
     elif word == "raw":
         rows.append(Row(where, texts_of(rest, names)))
+    elif word in ("bulk", "export", "audit"):
+        rows.append(Row(where, file_of(word, rest, names)))
     elif word == "ends" and rest in ENDS:
         rows.append(End(where, rest))
     elif said := re.fullmatch(r"([A-Z0-9]{4}) (/\S*) ?(.*)", line):
@@ -270,18 +297,26 @@ def example(name: str) -> dict[Path, bytes]:
     return {EXAMPLES / f"{name}.{kind}": text.encode() for kind, text in texts.items()}
 
 
+def ended(rows: list[Row | End]) -> list[Row | End]:
+    """Returns the rows, with an end after each connection and each file."""
+    made: list[Row | End] = []
+    for row, after in itertools.zip_longest(rows, rows[1:]):
+        made.append(row)
+        if isinstance(row, Row) and not isinstance(after, End) and (after is None or row.is_file or after.is_file):
+            made.append(End(row.where, "written" if row.is_file else "input"))
+    return made
+
+
 def told(name: str) -> tuple[str, list[Piece]]:
     """Returns the messages of a story, and the pieces of its expected output."""
-    rows = rows_of(name, names_of_all(), True)
-    if not isinstance(rows[-1], End):
-        rows.append(End(f"{name}.story", "input"))
+    rows = ended(rows_of(name, names_of_all(), True))
     stream, count = "", 0
     pieces = [Piece(f"{name}.story", f"story {name}\n")]
     for row in rows:
         if isinstance(row, Row):
             stream += row.asked
             pieces += [Piece(row.where, text) for text in row.answers]
-            count += len(row.answers)
+            count += row.count
         else:
             stream += BREAK
             pieces.append(Piece(row.where, f"\n{count} answered, {row.how}\n"))
@@ -296,7 +331,7 @@ def made() -> tuple[dict[Path, bytes], list[Piece]]:
     names = sorted(path.stem for path in STORIES.glob("*.story"))
     for name in names:
         stream, pieces = told(name)
-        files[CRATE / "data" / name] = stream.encode()
+        files[CRATE / "data" / name] = encoded(stream)
         all_pieces += pieces
     for name in SHOWN:
         files.update(example(name))

@@ -93,3 +93,21 @@ NPAC /subscriptionVersionActivate raw "{\"id\":01}"
      400 bad_request 41
 NPAC /subscriptionVersionActivate raw "{\"id\":}"
      400 bad_request 41
+
+# Bytes that are no UTF-8: one alone, a sequence cut, one of two bytes for a letter of one, a surrogate, and a key.
+NPAC /carriers raw "{\"spid\":\"MM\udcffM\"}"
+     400 bad_request 41
+NPAC /carriers raw "{\"spid\":\"MMM\udcc3\"}"
+     400 bad_request 41
+NPAC /carriers raw "{\"spid\":\"MMM\udcc1\udc8d\"}"
+     400 bad_request 41
+NPAC /carriers raw "{\"spid\":\"M\udced\udca0\udc80\",\"spid\":\"MMMM\"}"
+     400 bad_request 41
+NPAC /carriers raw "{\"spid\udc80\":\"MMMM\"}"
+     400 bad_request 41
+FFFF /query raw "{\"uri\":\"tel:+12025331234;a=\udcff\"}"
+     400 bad_request 41
+FFFF /query raw "\udcef\udcbb\udcbf{\"uri\":\"tel:+12025331234\"}"
+     400 bad_request 41
+NPAC /carriers spid=MMMM
+     200 rows=[] spid=MMMM

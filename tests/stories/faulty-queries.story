@@ -36,6 +36,10 @@ AAAA /query uri=tel:+
      400 bad_number 32
 AAAA /query uri=tel:+-
      400 bad_number 32
+AAAA /query uri=tel:-
+     400 bad_number 32
+AAAA /query uri=tel:+-.()
+     400 bad_number 32
 AAAA /query uri=tel:()
      400 bad_number 32
 AAAA /query {"uri":"tel:+1 2"}
@@ -44,6 +48,8 @@ AAAA /query uri=tel:;npdi
      400 bad_number 32
 AAAA /query uri=tel:*#aF
      400 local_number 35
+AAAA /query uri=tel:abc
+     400 local_number 35
 AAAA /query uri=tel:7042;phone-context=example.com
      400 local_number 35
 AAAA /query uri=tel:863-1234;phone-context=+1-914-555
@@ -51,6 +57,8 @@ AAAA /query uri=tel:863-1234;phone-context=+1-914-555
 AAAA /query uri=tel:+12025331234;
      400 bad_parameter 33
 AAAA /query uri=tel:+12025331234;=1
+     400 bad_parameter 33
+AAAA /query uri=tel:+12025331234;rn=
      400 bad_parameter 33
 AAAA /query uri=tel:+12025331234;npdi=1
      400 bad_parameter 33

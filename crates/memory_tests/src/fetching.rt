@@ -11,8 +11,8 @@ use store::MemoryStore;
 
 type MemoryRegister = Register<MemoryStore>;
 
-// Returns whether the register serves these rows, `count` messages.
-fn are_exchanges_served(
+/// Returns whether the register serves these rows, `count` messages.
+pub fn are_exchanges_served(
     alloc: Global,
     register: &mut MemoryRegister,
     exchanges: &[Exchange<'_>],

@@ -2,6 +2,8 @@
 #![tactic(auto)]
 
 #[cfg(test)]
+mod allocation_failures;
+#[cfg(test)]
 mod blocks;
 #[cfg(test)]
 mod commands;
@@ -35,6 +37,8 @@ mod many_broadcasts;
 mod mirror_tests;
 #[cfg(test)]
 mod model_tests;
+#[cfg(test)]
+mod newcomer_copy;
 #[cfg(test)]
 mod numbers_tests;
 #[cfg(test)]

@@ -5,6 +5,7 @@ use crate::files::{FileBytes, run_in};
 use crate::messages::Request;
 use crate::migrations::execute_all;
 use crate::operations::{SingleRequest, StoreOpening, WITHOUT_CHECKPOINTS};
+use crate::protective_number::{BLOCK_IS_HELD, NUMBER_FAILS, NUMBER_IS_SENT_AGAIN};
 use std::alloc::{AllocError, Global};
 
 // Only the statements are here: `tests/migrated_files.py` reads them from this file, and executes them
@@ -85,6 +86,45 @@ static FAILED: [&str; 10] = [
     "INSERT INTO wait VALUES ('BBBB', 40, 4, 1, 2025337)",
     "INSERT INTO wait VALUES ('CCCC', 40, 4, 1, 2025337)",
     "INSERT INTO clock VALUES (0, 40, 5, 60, 60, 30, 120, 1000, 60, 60, 500, 15)",
+];
+
+// The rows after 16 messages of the story `held-block`: a block is donated with two numbers in use.
+// All have acknowledged the first, nobody the second, which is being sent until 15.
+static SECOND_SENDING: [&str; 8] = [
+    "INSERT INTO block VALUES (2025337, 'BBBB', NULL)",
+    "INSERT INTO version VALUES (1, 2025337001, 'BBBB', 'BBBB', 0, 2025330000, NULL, NULL, NULL, \
+     'active', 'none', 5, 1, NULL, 0, 1, NULL, NULL, 2025337001, -2)",
+    "INSERT INTO version VALUES (2, 2025337002, 'BBBB', 'BBBB', 0, 2025330000, NULL, NULL, NULL, \
+     'sending', 'create', 0, 1, NULL, 0, 1, NULL, 15, -3, 2025337002)",
+    "INSERT INTO broadcast VALUES (2, 1, 0, 2025337002, 'create', 2025330000, NULL, 1, 0)",
+    "INSERT INTO wait VALUES ('AAAA', 0, 2, 1, 2025337002)",
+    "INSERT INTO wait VALUES ('BBBB', 0, 2, 1, 2025337002)",
+    "INSERT INTO wait VALUES ('CCCC', 0, 2, 1, 2025337002)",
+    "INSERT INTO clock VALUES (0, 14, 3, 60, 60, 30, 120, 1000, 60, 60, 500, 15)",
+];
+
+// The rows after 25 messages: the second number has failed at 15, is withdrawn from all queues, and
+// is the block's open port.
+static SECOND_FAILED: [&str; 4] = [
+    "INSERT INTO block VALUES (2025337, 'BBBB', NULL)",
+    "INSERT INTO version VALUES (1, 2025337001, 'BBBB', 'BBBB', 0, 2025330000, NULL, NULL, NULL, \
+     'active', 'none', 5, 1, NULL, 0, 1, NULL, NULL, 2025337001, -2)",
+    "INSERT INTO version VALUES (2, 2025337002, 'BBBB', 'BBBB', 0, 2025330000, NULL, NULL, NULL, \
+     'failed', 'none', 15, 1, NULL, 0, 1, NULL, NULL, -3, 2025337002)",
+    "INSERT INTO clock VALUES (0, 20, 3, 60, 60, 30, 120, 1000, 60, 60, 500, 15)",
+];
+
+// The rows after 28 messages: it is sent again, and one carrier has acknowledged that.
+static SECOND_SENT_AGAIN: [&str; 7] = [
+    "INSERT INTO block VALUES (2025337, 'BBBB', NULL)",
+    "INSERT INTO version VALUES (1, 2025337001, 'BBBB', 'BBBB', 0, 2025330000, NULL, NULL, NULL, \
+     'active', 'none', 5, 1, NULL, 0, 1, NULL, NULL, 2025337001, -2)",
+    "INSERT INTO version VALUES (2, 2025337002, 'BBBB', 'BBBB', 0, 2025330000, NULL, NULL, NULL, \
+     'sending', 'create', 20, 2, NULL, 0, 1, NULL, 35, -3, 2025337002)",
+    "INSERT INTO broadcast VALUES (2, 2, 20, 2025337002, 'create', 2025330000, NULL, 1, 1)",
+    "INSERT INTO wait VALUES ('BBBB', 20, 2, 2, 2025337002)",
+    "INSERT INTO wait VALUES ('CCCC', 20, 2, 2, 2025337002)",
+    "INSERT INTO clock VALUES (0, 21, 3, 60, 60, 30, 120, 1000, 60, 60, 500, 15)",
 ];
 
 // The rows after 14 messages of `failed-block-jump`: the block is being sent, and two of its
@@ -205,6 +245,32 @@ fn a_block_that_failed_continues(rt: HostRuntime) {
 fn numbers_that_partly_failed_continue(rt: HostRuntime) {
     assert_eq!(rt;
         first_wrong_request(rt.alloc(), &PARTLY_FAILED, &[JUMPED_OVER]),
+        None
+    );
+}
+
+#[test]
+fn a_protective_number_that_is_sent_continues(rt: HostRuntime) {
+    let parts = [NUMBER_FAILS, NUMBER_IS_SENT_AGAIN, BLOCK_IS_HELD];
+    assert_eq!(rt;
+        first_wrong_request(rt.alloc(), &SECOND_SENDING, &parts),
+        None
+    );
+}
+
+#[test]
+fn a_protective_number_that_failed_continues(rt: HostRuntime) {
+    let parts = [NUMBER_IS_SENT_AGAIN, BLOCK_IS_HELD];
+    assert_eq!(rt;
+        first_wrong_request(rt.alloc(), &SECOND_FAILED, &parts),
+        None
+    );
+}
+
+#[test]
+fn a_protective_number_that_is_sent_again_continues(rt: HostRuntime) {
+    assert_eq!(rt;
+        first_wrong_request(rt.alloc(), &SECOND_SENT_AGAIN, &[BLOCK_IS_HELD]),
         None
     );
 }

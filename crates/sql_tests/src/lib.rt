@@ -21,6 +21,8 @@ mod operations;
 #[cfg(test)]
 mod program;
 #[cfg(test)]
+mod protective_number;
+#[cfg(test)]
 mod refused_files;
 #[cfg(test)]
 mod rows;
@@ -28,3 +30,5 @@ mod rows;
 mod scenarios;
 #[cfg(test)]
 mod settling;
+#[cfg(test)]
+mod window_sets;

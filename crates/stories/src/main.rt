@@ -1,12 +1,14 @@
 //! Plays the stories in the files that the command line names, and prints the responses.
 //!
 //! Serves each file to a new register in memory, whole and byte by byte, and to one over a
-//! database. Plays each message by message too, with messages that are cut and with stores that
-//! fail. Prints what is answered differently than it should be.
+//! database, and prints failures of either store. Plays each message by message too, with messages
+//! that are cut and with stores that fail, unless it runs files of commands. Prints what is answered
+//! differently than it should be.
 //!
 //! With `--each` before the files, cuts each message and fails each call, and prints how many there
 //! are; without it skips some, for the time of the gate. A file has the bytes of one connection, or
-//! of several with a byte 30 between them. The windows are those of `w.toml`.
+//! of several with a byte 30 between them; after a byte 29 it has a file in place of a connection.
+//! The windows are those of `w.toml`.
 #![tactic(auto)]
 
 mod cuts;
@@ -152,6 +154,9 @@ fn print_messages<T: AllocGlobal + Print>(
     played: &PlayedStory,
     thoroughness: Thoroughness,
 ) -> Result<(), Fault> {
+    if played.has_file() {
+        return Ok(());
+    }
     print_cuts(rt, windows, name, played, thoroughness)?;
     let Some(calls) = find_store_calls(rt.alloc(), windows, played)? else {
         let mut out = io::writer(rt);
@@ -172,14 +177,17 @@ fn print_story<T: Files + AllocGlobal + Print>(
     thoroughness: Thoroughness,
 ) -> Result<(), Fault> {
     let story = fs::read(rt, name)?;
-    let output = play(rt.alloc(), windows, &story, usize::MAX)?;
-    let again = play(rt.alloc(), windows, &story, 1)?;
+    let (output, failures) = play(rt.alloc(), windows, &story, usize::MAX)?;
+    let (again, more_failures) = play(rt.alloc(), windows, &story, 1)?;
     let mut out = io::writer(rt);
     writeln!(out, "story {name}")?;
     out.write_all(&output)?;
     if again != output {
         writeln!(out, "story {name}, byte by byte")?;
         out.write_all(&again)?;
+    }
+    if failures > 0 || more_failures > 0 {
+        writeln!(out, "story {name}, failures of memory")?;
     }
     print_stored(rt, windows, name, &story, &output)?;
     let played = PlayedStory::of(rt.alloc(), windows, &story)?;

@@ -1,6 +1,6 @@
 //! A story, message by message.
 use crate::fault::Fault;
-use crate::story::{BREAK, Pieces, new_register, serve_connection, write_end};
+use crate::story::{BREAK, FILE, Pieces, new_register, serve_connection, write_end};
 use register::Register;
 use settle::Store;
 use std::alloc::Global;
@@ -153,6 +153,11 @@ impl PlayedStory {
     /// Returns how many messages there are.
     pub fn len(&self) -> usize {
         self.messages.len()
+    }
+
+    /// Returns whether a file takes the place of a connection.
+    pub fn has_file(&self) -> bool {
+        self.requests.contains(&FILE)
     }
 
     /// Returns how many bytes the messages have.
