@@ -1,4 +1,4 @@
--- Runs that end with `storage` or `no_memory`, of which only the lines are known.
+-- Runs that end with `storage` or `no_memory`: only their lines are known.
 use Rattle.std.proofs.Common.{◌≡◌, ℕ, List, [], ◌++◌, Option, Result, Ok, Err, inl, inr, refl, ap, sym, subst, ◌∙◌, arith, append_assoc, length-append}
 use Rattle.std.specs.Prelude.{◌⊎◌}
 use Rattle.std.specs.List.{concat}

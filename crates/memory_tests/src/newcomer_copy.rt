@@ -1,5 +1,4 @@
-//! Tests the copy of a carrier that registers in the minute in which a broadcast closes, and a minute
-//! before.
+//! Tests the copy of a carrier that registers as a broadcast closes, and a minute before.
 use crate::commands::routing;
 use crate::fetching::are_exchanges_served;
 use crate::fixture::{Exchange, FIRST_PORT, new_register};

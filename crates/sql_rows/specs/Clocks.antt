@@ -33,7 +33,6 @@ old_clock_of c = clock_row c.minute.number c.next_id 1 (windows_of c.windows)
 abbrev pub windows_named : FinMap nat_cmp Windows → ℕ → Windows
 windows_named sets number = unwrap_or (get sets number) no_windows
 
--- The row with the windows of its set. If the set is missing, no look-up can return the row, nor
--- that there is none.
+-- The row with the windows of its set. If the set is missing, every look-up fails.
 abbrev pub with_windows : FinMap nat_cmp Windows → StoredClock → ClockRow
 with_windows sets c = clock_row c.minute c.next_id c.present (windows_named sets c.present)

@@ -219,8 +219,8 @@ sets_in rows = content_of nat_cmp set_entry rows
 abbrev pub clocks_in : List Row → FinMap nat_cmp StoredClock
 clocks_in rows = content_of nat_cmp clock_entry rows
 
--- The clock's row in its table, with the windows of its set. There is none only if its table has
--- none, so a file whose set is missing is not a new one.
+-- The clock's row in its table, with the windows of its set. A file whose set is missing still has
+-- the row, so it is not a new one.
 abbrev pub clock_from : FinMap nat_cmp Windows → FinMap nat_cmp StoredClock → Option ClockRow
 clock_from sets clocks = option_map (with_windows sets) (get clocks 0)
 

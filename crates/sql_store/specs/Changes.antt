@@ -86,8 +86,8 @@ if_some change (Some x) c = change x c
 abbrev pub replaced : List (ℕ × VersionRow) → Content → Content
 replaced ps c = all_made (λ p. with_version p.0 p.1) ps (all_made (λ p. without_version p.0) ps c)
 
--- The content with the clock moved and a set of windows written, given the clock's row before. A
--- set without a clock's row is written alone.
+-- The content with the clock moved and a set of windows written, given the clock's row before.
+-- Without that row, only the set is written.
 abbrev pub clock_made : Option ClockMove → Option WindowSet → Option ClockRow → Content → Content
 clock_made None None row c = c
 clock_made (Some m) None None c = c

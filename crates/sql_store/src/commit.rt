@@ -167,7 +167,7 @@ fn donate<S: Alter>(
 }
 
 // Writes the clock's row. `row` is the row before: a clock move keeps its windows, and new windows
-// keep its minute and its next id. Without a row, new windows are written alone.
+// keep its minute and its next id. Without a row, only the new windows are written.
 fn set_clock<S: Alter>(
     tx: &mut Transaction<'_, S>,
     moved: Option<ClockMove>,

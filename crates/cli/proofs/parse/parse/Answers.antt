@@ -105,7 +105,7 @@ returns-in-Some-clause-mistake g c =
       c.mistake.ensures.text two,
     )
 
--- Words in which `clap` finds a fault are no command line.
+-- Words that `clap` refuses are no command line.
 faulty : (words : List Text) (error : Error) (status : ℕ) → status ≢ 3
     → (kind_of error ≡ kind.OutOfMemory → status ≡ 3) → HasKind (fault_of npacd_app words) error
     → IsNoLine words
