@@ -1,19 +1,17 @@
 -- The progress of a run, and the input left.
-use Rattle.std.proofs.Common.{◌≡◌, ℕ, ◌+◌, ◌≤◌, List, [], ◌∷◌, ◌++◌, take, length, vec_len, Option, Some, None, Ok, Bool, true, false, cond, refl, sym, ap, ◌∙◌, subst, inl, inr, arith, append-nil, length-append}
+use Rattle.std.proofs.Common.{◌≡◌, ℕ, ◌+◌, ◌≤◌, List, [], ◌∷◌, ◌++◌, take, length, Option, Some, None, Bool, true, false, cond, refl, sym, ap, ◌∙◌, subst, inl, inr, arith, append-nil, length-append}
 use Rattle.std.specs.Prelude.{IfSome}
 use Rattle.std.specs.Io.KnownBytes.{Appends, IsAtEnd, prepend_known}
 use Rattle.std.proofs.KnownBytes.{Appends-nil, Appends-trans}
-use Rattle.std.proofs.lemmas.Grind.{flat_map-append, common_steps}
+use Rattle.std.proofs.lemmas.Grind.{flat_map-append}
 use Rattle.std.proofs.lemmas.List.{map-append}
 use Rattle.model.specs.Content.{Content}
 use Rattle.model.specs.State.{State}
 use Rattle.register.specs.Refinement.{Refines}
 use Rattle.http_messages.specs.Parsing.{IsNextMessage, ParsesAs, EndOfInput, WholeMessage}
-use Rattle.http_messages.specs.ReadBuffer.{buffered_bytes, remaining_input}
-use Rattle.http_messages.specs.Reading.{HasNoWholeMessage, IsRead, IsReadAhead, IsReadTo}
+use Rattle.http_messages.specs.Reading.{HasNoWholeMessage, IsReadAhead, IsReadTo}
 use Rattle.http_messages.specs.Sending.{AppendsPrefix}
 use Rattle.http_messages.specs.declared.fault.MessageFault.{MessageFault}
-use Rattle.http_messages.specs.declared.read_buffer.ReadBuffer.{ReadBuffer}
 use Rattle.http_messages.specs.declared.message.NextMessage.{NextMessage}
 use Rattle.http_messages.specs.declared.message.Request.{Request}
 use Rattle.api.specs.Run.{Exchange, Run, responses, ticks_of}
@@ -49,6 +47,24 @@ Progress offered from to old new all left had has ticks_before ticks_after k =
     × IfSome all (λ input. Going offered from to st new input left had has ticks_before
     ticks_after k)
 
+-- Holds if no more was read than the response to this needs. `left` was left of the input before,
+-- and `left'` is afterwards.
+abbrev pub ReadsFor : (left left' unread : Option (List ℕ)) → NextMessage → Type 0
+ReadsFor left left' unread (NextMessage.Message request) =
+    (rest : List ℕ) → left' ≡ Some rest → IsReadAhead rest unread
+ReadsFor left left' unread (NextMessage.Refused fault) =
+    IfSome left (λ rest. IsReadTo fault rest unread)
+
+-- Holds if serving ended so. `left` was left of the input before the last response, and `left'` is
+-- afterwards.
+abbrev pub HasEnded : End → (offered : Bool) → (from to : ℕ) → State → Content → IoTrace → (k : ℕ)
+    → (left left' : Option (List ℕ)) → Type 0
+HasEnded Input offered from to st new trace k left left' = ⊥
+HasEnded Closed offered from to st new trace k left left' =
+    (closed : AfterClose offered from to st new trace k) × (left' ≡ Some closed.rest_after)
+HasEnded (Refused fault) offered from to st new trace k left left' =
+    (refusal : AfterRefusal fault offered from to st new trace k) × (left ≡ Some refusal.rest)
+
 pub known : (all : Option (List ℕ)) (P Q : List ℕ → Type 0) → ((input : List ℕ) → P input → Q input)
     → IfSome all P → IfSome all Q
 known None P Q f p = tt
@@ -58,18 +74,10 @@ pub at_rest : (left : Option (List ℕ)) (rest : List ℕ) (P : List ℕ → Typ
     → IfSome left P → P rest
 at_rest left rest P e p = subst (λ l. IfSome l P) e p
 
--- The buffer holds at most its size.
-pub buffered_ahead : (buffer : ReadBuffer) (unread : Option (List ℕ)) (rest : List ℕ)
-    → vec_len buffer.bytes ≡ 8192 → remaining_input buffer unread ≡ Some rest
-    → IsReadAhead rest unread
-buffered_ahead buffer unread rest size e =
-    let short : length (buffered_bytes buffer) ≤ length buffer.bytes.items =
-    grind (arith, common_steps) in
-    record {
-      read = buffered_bytes buffer;
-      short = omega (arith, short, buffer.bytes.ok.0, size);
-      all = e;
-    }
+-- What was read and not consumed is buffered.
+pub buffered_ahead : (buffered : List ℕ) (unread : Option (List ℕ)) (rest : List ℕ)
+    → length buffered ≤ 8192 → prepend_known buffered unread ≡ Some rest → IsReadAhead rest unread
+buffered_ahead buffered unread rest short e = record { read = buffered; short = short; all = e }
 
 -- ---- the supplied minutes
 
@@ -181,17 +189,13 @@ closed_of : (b : Bool) (end : End) → cond b (Some Closed) None ≡ Some end
 closed_of true end e = (refl, cc)
 closed_of false end e = cc
 
-some_inj : (a b : End) → Some a ≡ Some b → a ≡ b
+pub some_inj : (a b : End) → Some a ≡ Some b → a ≡ b
 some_inj a b e = cc
 
--- `Responds` holds for another reading of the same body.
-pub responds_on : (offered : Bool) (ticks_before ticks_after : Option (List (Option ℕ)))
-    (from to : ℕ)
-    (next : NextMessage) (body body' text : List ℕ) (old new : Content) → body ≡ body'
-    → Responds offered ticks_before ticks_after from to next body text old new
-    → Responds offered ticks_before ticks_after from to next body' text old new
-responds_on offered ticks_before ticks_after from to next body body' text old new same responds =
-    subst (λ b. Responds offered ticks_before ticks_after from to next b text old new) same responds
+pub not_refused : (b : Bool) (fault : MessageFault)
+    → cond b (Some Closed) None ≡ Some (Refused fault) → ⊥
+not_refused true fault e = cc
+not_refused false fault e = cc
 
 module _ (offered : Bool) (from between : ℕ) (old mid : Content)
     (all left had has : Option (List ℕ)) (ticks_before remaining_ticks : Option (List (Option ℕ)))
@@ -199,7 +203,7 @@ module _ (offered : Bool) (from between : ℕ) (old mid : Content)
     (progress : Progress offered from between old mid all left had has ticks_before remaining_ticks
     k) where
   -- The trace if no more messages were answered.
-  abbrev trace : List ℕ → Option (List ℕ) → IoTrace
+  abbrev pub trace : List ℕ → Option (List ℕ) → IoTrace
   trace input unread = record {
     input = input;
     unread = unread;
@@ -209,7 +213,7 @@ module _ (offered : Bool) (from between : ℕ) (old mid : Content)
     written_after = has;
   }
 
-  abbrev whole_of : (st : State) (input : List ℕ) (unread : Option (List ℕ))
+  abbrev pub whole_of : (st : State) (input : List ℕ) (unread : Option (List ℕ))
       → Going offered from between st mid input left had has ticks_before remaining_ticks k
       → AfterExchanges offered from between st mid (trace input unread) k
   whole_of st input unread g = record {
@@ -222,6 +226,15 @@ module _ (offered : Bool) (from between : ℕ) (old mid : Content)
     supplied = g.supplied;
     written = g.written;
   }
+
+  -- All that was executed was answered.
+  pub whole_to : (unread : Option (List ℕ)) → (st : State) → Refines old st
+      → IfSome all (λ input. (whole : AfterExchanges offered from between st mid
+      (trace input unread) k) × (left ≡ Some whole.rest))
+  whole_to unread st s =
+      known all _ (λ input. (whole : AfterExchanges offered from between st mid
+      (trace input unread) k) × (left ≡ Some whole.rest))
+      (λ input g. (whole_of st input unread g, g.left_is)) (progress st s).1
 
   -- The input ended.
   pub ended : (unread : Option (List ℕ)) → IfSome left (λ rest. ParsesAs rest EndOfInput)
@@ -265,14 +278,9 @@ module _ (offered : Bool) (from between : ℕ) (old mid : Content)
       known all _ (λ input. FailsAt (fault.Memory k) offered from between st mid
       (trace input unread)) (λ input g. (whole_of st input unread g, inr most)) (progress st s).1
 
-  -- A message or a refusal came, and `text` answers it. `left'` is the input left, and the buffer
-  -- holds its beginning.
-  module _ (to : ℕ) (new : Content) (buffer : ReadBuffer) (unread : Option (List ℕ))
-      (size : vec_len buffer.bytes ≡ 8192) (ticks_after : Option (List (Option ℕ)))
-      (body text : List ℕ) where
-    abbrev left' : Option (List ℕ)
-    left' = remaining_input buffer unread
-
+  -- A message or a refusal came, and `text` answers it. `left'` is the input left.
+  module _ (to : ℕ) (new : Content) (left' : Option (List ℕ))
+      (ticks_after : Option (List (Option ℕ))) (body text : List ℕ) where
     abbrev Came : NextMessage → Type 0
     Came next = IfSome left (λ rest. IsNextMessage rest next body left')
 
@@ -287,9 +295,9 @@ module _ (offered : Bool) (from between : ℕ) (old mid : Content)
     state_then (NextMessage.Refused fault) responds st s =
         subst (λ (c : Content). RefinesReachable st c) (sym responds.1) (progress st s).0
 
-    module _ (has' : Option (List ℕ)) where
+    module _ (has' unread : Option (List ℕ)) where
       -- The trace after this response.
-      abbrev trace' : List ℕ → IoTrace
+      abbrev pub trace' : List ℕ → IoTrace
       trace' input = record {
         input = input;
         unread = unread;
@@ -350,148 +358,196 @@ module _ (offered : Bool) (from between : ℕ) (old mid : Content)
       close_of : (request : Request) → request.closes ≡ true → Came (NextMessage.Message request)
           → Answered (NextMessage.Message request) → Appends has has' text
           → (st : State) (input : List ℕ) → Going offered from between st mid input left had has
-          ticks_before remaining_ticks k → AfterClose offered from to st new (trace' input) (k + 1)
+          ticks_before remaining_ticks k → (closed : AfterClose offered from to st new
+          (trace' input) (k + 1)) × (left' ≡ Some closed.rest_after)
       close_of request closes comes responds sent st input g =
           let c = at_rest left g.rest (λ i. IsNextMessage i (NextMessage.Message request) body
           left') g.left_is
           comes in
           let r = responds.2 g.end g.refines in
-          let x = exchange request responds in
-          record {
-            exchanges = g.exchanges;
-            between = between;
-            mid = g.end;
-            rest = g.rest;
-            run = g.run;
-            last = x;
-            rest_after = c.0;
-            parses = c.2;
-            closes = closes;
-            end = r.0;
-            step = r.1;
-            refines = r.2;
-            count = ap (λ (n : ℕ). n + 1) g.count;
-            supplied = supplied_then ticks_before remaining_ticks ticks_after g.exchanges x
-                g.supplied responds.1;
-            read = buffered_ahead buffer unread c.0 size c.1;
-            written = Appends-trans had has has' (responses g.exchanges) text g.written sent;
-          }
+          let x = exchange request responds in (
+            record {
+              exchanges = g.exchanges;
+              between = between;
+              mid = g.end;
+              rest = g.rest;
+              run = g.run;
+              last = x;
+              rest_after = c.0;
+              parses = c.2;
+              closes = closes;
+              end = r.0;
+              step = r.1;
+              refines = r.2;
+              count = ap (λ (n : ℕ). n + 1) g.count;
+              supplied = supplied_then ticks_before remaining_ticks ticks_after g.exchanges x
+                  g.supplied responds.1;
+              written = Appends-trans had has has' (responses g.exchanges) text g.written sent;
+            },
+            c.1,
+          )
 
       refusal_of : (fault : MessageFault) → Came (NextMessage.Refused fault)
-          → IfSome left (λ rest. IsReadTo fault rest unread) → Answered (NextMessage.Refused fault)
-          → Appends has has' text
-          → (st : State) (input : List ℕ) → Going offered from between st mid input left had has
-          ticks_before remaining_ticks k → AfterRefusal fault offered from to st new (trace' input)
-          (k + 1)
-      refusal_of fault comes reads responds sent st input g = record {
-        exchanges = g.exchanges;
-        end = g.end;
-        rest = g.rest;
-        run = subst (λ (n : ℕ). Run offered from n st input g.exchanges g.end g.rest)
-            (sym responds.2) g.run;
-        refused = at_rest left g.rest (λ i. IsNextMessage i (NextMessage.Refused fault) body left')
-            g.left_is
-            comes;
-        refines = subst (λ (c : Content). Refines c g.end) (sym responds.1) g.refines;
-        count = ap (λ (n : ℕ). n + 1) g.count;
-        supplied = subst (ConsumesTicks ticks_before (ticks_of g.exchanges)) (sym responds.3)
-            g.supplied;
-        read = at_rest left g.rest (λ i. IsReadTo fault i unread) g.left_is reads;
-        written = Appends-trans had has has' (responses g.exchanges) (message_refusal_text fault)
-            g.written
-            (subst (Appends has has') responds.0 sent);
-      }
+          → Answered (NextMessage.Refused fault) → Appends has has' text
+          → (st : State) (input : List ℕ) → (g : Going offered from between st mid input left had
+          has
+          ticks_before remaining_ticks k)
+          → (refusal : AfterRefusal fault offered from to st new (trace' input) (k + 1))
+          × (left ≡ Some refusal.rest)
+      refusal_of fault comes responds sent st input g = (
+        record {
+          exchanges = g.exchanges;
+          end = g.end;
+          rest = g.rest;
+          run = subst (λ (n : ℕ). Run offered from n st input g.exchanges g.end g.rest)
+              (sym responds.2) g.run;
+          refused = at_rest left g.rest (λ i. IsNextMessage i (NextMessage.Refused fault) body
+              left')
+              g.left_is
+              comes;
+          refines = subst (λ (c : Content). Refines c g.end) (sym responds.1) g.refines;
+          count = ap (λ (n : ℕ). n + 1) g.count;
+          supplied = subst (ConsumesTicks ticks_before (ticks_of g.exchanges)) (sym responds.3)
+              g.supplied;
+          written = Appends-trans had has has' (responses g.exchanges) (message_refusal_text fault)
+              g.written
+              (subst (Appends has has') responds.0 sent);
+        },
+        g.left_is,
+      )
+
+      pub ends_with : (next : NextMessage) (end : End) → end_of next ≡ Some end → Came next
+          → Answered next → Appends has has' text → (st : State) → Refines old st
+          → IfSome all (λ input. HasEnded end offered from to st new (trace' input) (k + 1) left
+          left')
+      ends_with (NextMessage.Message request) end ends comes responds sent st s =
+          let is = closed_of request.closes end ends in
+          subst (λ (e : End). IfSome all (λ input. HasEnded e offered from to st new (trace' input)
+          (k + 1) left left')) is.1
+          (known all _ (λ input. HasEnded Closed offered from to st new (trace' input) (k + 1) left
+          left') (close_of request is.0 comes responds sent st) (progress st s).1)
+      ends_with (NextMessage.Refused fault) end ends comes responds sent st s =
+          subst (λ (e : End). IfSome all (λ input. HasEnded e offered from to st new (trace' input)
+          (k + 1) left left')) (some_inj (Refused fault) end ends)
+          (known all _ (λ input. HasEnded (Refused fault) offered from to st new (trace' input)
+          (k + 1) left left') (refusal_of fault comes responds sent st) (progress st s).1)
+
+      read_so : (next : NextMessage) (end : End) → end_of next ≡ Some end
+          → ReadsFor left left' unread next → (st : State) (input : List ℕ)
+          → HasEnded end offered from to st new (trace' input) (k + 1) left left'
+          → EndsAt end offered from to st new (trace' input) (k + 1)
+      read_so (NextMessage.Message request) Input ends reads st input has = absurd has
+      read_so (NextMessage.Message request) Closed ends reads st input has =
+          (has.0, reads has.0.rest_after has.1)
+      read_so (NextMessage.Message request) (Refused fault) ends reads st input has =
+          absurd (not_refused request.closes fault ends)
+      read_so (NextMessage.Refused fault) end ends reads st input has =
+          refused_so fault end (some_inj (Refused fault) end ends) reads st input has
+        where
+          refused_so : (fault : MessageFault) (end : End) → Refused fault ≡ end
+              → IfSome left (λ rest. IsReadTo fault rest unread) → (st : State) (input : List ℕ)
+              → HasEnded end offered from to st new (trace' input) (k + 1) left left'
+              → EndsAt end offered from to st new (trace' input) (k + 1)
+          refused_so fault end e reads st input has =
+              subst (λ (e : End). EndsAt e offered from to st new (trace' input) (k + 1)) e
+              (let h = subst (λ (e : End). HasEnded e offered from to st new (trace' input) (k + 1)
+              left left') (sym e) has in
+              (h.0, at_rest left h.0.rest (λ rest. IsReadTo fault rest unread) h.1 reads))
 
       pub finished : (next : NextMessage) (end : End) → end_of next ≡ Some end → Came next
-          → IfSome left (λ rest. IsRead (Ok (Some next)) rest unread) → Answered next
-          → Appends has has' text
+          → ReadsFor left left' unread next → Answered next → Appends has has' text
           → (st : State) → Refines old st
           → IfSome all (λ input. EndsAt end offered from to st new (trace' input) (k + 1))
-      finished (NextMessage.Message request) end ends comes reads responds sent st s =
-          let is = closed_of request.closes end ends in
-          subst (λ (e : End). IfSome all (λ input. EndsAt e offered from to st new (trace' input)
-          (k + 1))) is.1
-          (known all _ (λ input. AfterClose offered from to st new (trace' input) (k + 1))
-          (close_of request is.0 comes responds sent st) (progress st s).1)
-      finished (NextMessage.Refused fault) end ends comes reads responds sent st s =
-          subst (λ (e : End). IfSome all (λ input. EndsAt e offered from to st new (trace' input)
-          (k + 1))) (some_inj (Refused fault) end ends)
-          (known all _ (λ input. AfterRefusal fault offered from to st new (trace' input) (k + 1))
-          (refusal_of fault comes reads responds sent st) (progress st s).1)
+      finished next end ends comes reads responds sent st s =
+          known all _ (λ input. EndsAt end offered from to st new (trace' input) (k + 1))
+          (read_so next end ends reads st) (ends_with next end ends comes responds sent st s)
 
-      part_of : (next : NextMessage) → Came next
-          → IfSome left (λ rest. IsRead (Ok (Some next)) rest unread) → Answered next
-          → AppendsPrefix has has' text
+      part_of : (next : NextMessage) → Came next → ReadsFor left left' unread next → Answered next
+          → (sent : AppendsPrefix has has' text)
           → (st : State) (input : List ℕ) → Going offered from between st mid input left had has
           ticks_before remaining_ticks k
-          → AfterPartialResponse offered from to st new (trace' input) k
+          → (partial : AfterPartialResponse offered from to st new (trace' input) k)
+          × (partial.part ≡ sent.0)
       part_of (NextMessage.Message request) comes reads responds sent st input g =
           let c = at_rest left g.rest (λ i. IsNextMessage i (NextMessage.Message request) body
           left') g.left_is
           comes in
           let r = responds.2 g.end g.refines in
-          let x = exchange request responds in
-          record {
-            exchanges = g.exchanges;
-            between = between;
-            mid = g.end;
-            rest = g.rest;
-            run = g.run;
-            remaining_ticks = remaining_ticks;
-            supplied = g.supplied;
-            response = text;
-            end = r.0;
-            next = inl (
-              x,
-              c.0,
-              c.2,
-              buffered_ahead buffer unread c.0 size c.1,
-              responds.1,
-              r.1,
-              refl,
-            );
-            refines = r.2;
-            count = g.count;
-            part = sent.0;
-            written = Appends-trans had has has' (responses g.exchanges) (take sent.0 text)
-                g.written
-                sent.2;
-          }
-      part_of (NextMessage.Refused fault) comes reads responds sent st input g = record {
-        exchanges = g.exchanges;
-        between = between;
-        mid = g.end;
-        rest = g.rest;
-        run = g.run;
-        remaining_ticks = remaining_ticks;
-        supplied = g.supplied;
-        response = text;
-        end = g.end;
-        next = inr (
-          fault,
-          at_rest left g.rest (λ i. IsNextMessage i (NextMessage.Refused fault) body left')
-              g.left_is comes,
-          at_rest left g.rest (λ i. IsReadTo fault i unread) g.left_is reads,
-          responds.3,
-          responds.0,
-          refl,
-          responds.2,
-        );
-        refines = subst (λ (c : Content). Refines c g.end) (sym responds.1) g.refines;
-        count = g.count;
-        part = sent.0;
-        written = Appends-trans had has has' (responses g.exchanges) (take sent.0 text) g.written
-            sent.2;
-      }
+          let x = exchange request responds in (
+            record {
+              exchanges = g.exchanges;
+              between = between;
+              mid = g.end;
+              rest = g.rest;
+              run = g.run;
+              remaining_ticks = remaining_ticks;
+              supplied = g.supplied;
+              response = text;
+              end = r.0;
+              next = inl (
+                x,
+                c.0,
+                c.2,
+                reads c.0 c.1,
+                responds.1,
+                r.1,
+                refl,
+              );
+              refines = r.2;
+              count = g.count;
+              part = sent.0;
+              written = Appends-trans had has has' (responses g.exchanges) (take sent.0 text)
+                  g.written
+                  sent.2;
+            },
+            refl,
+          )
+      part_of (NextMessage.Refused fault) comes reads responds sent st input g = (
+        record {
+          exchanges = g.exchanges;
+          between = between;
+          mid = g.end;
+          rest = g.rest;
+          run = g.run;
+          remaining_ticks = remaining_ticks;
+          supplied = g.supplied;
+          response = text;
+          end = g.end;
+          next = inr (
+            fault,
+            at_rest left g.rest (λ i. IsNextMessage i (NextMessage.Refused fault) body left')
+                g.left_is comes,
+            at_rest left g.rest (λ i. IsReadTo fault i unread) g.left_is reads,
+            responds.3,
+            responds.0,
+            refl,
+            responds.2,
+          );
+          refines = subst (λ (c : Content). Refines c g.end) (sym responds.1) g.refines;
+          count = g.count;
+          part = sent.0;
+          written = Appends-trans had has has' (responses g.exchanges) (take sent.0 text) g.written
+              sent.2;
+        },
+        refl,
+      )
 
-      pub partly : (next : NextMessage) → Came next
-          → IfSome left (λ rest. IsRead (Ok (Some next)) rest unread) → Answered next
-          → AppendsPrefix has has' text
-          → (st : State) → Refines old st
+      -- The next response was written in part.
+      pub parted : (next : NextMessage) → Came next → ReadsFor left left' unread next
+          → Answered next → (sent : AppendsPrefix has has' text) → (st : State) → Refines old st
+          → IfSome all (λ input. (partial : AfterPartialResponse offered from to st new
+          (trace' input) k) × (partial.part ≡ sent.0))
+      parted next comes reads responds sent st s =
+          known all _ (λ input. (partial : AfterPartialResponse offered from to st new
+          (trace' input) k) × (partial.part ≡ sent.0))
+          (part_of next comes reads responds sent st) (progress st s).1
+
+      pub partly : (next : NextMessage) → Came next → ReadsFor left left' unread next
+          → Answered next → AppendsPrefix has has' text → (st : State) → Refines old st
           → IfSome all (λ input. FailsAt (fault.Write k) offered from to st new (trace' input))
       partly next comes reads responds sent st s =
           known all _ (λ input. AfterPartialResponse offered from to st new (trace' input) k)
-          (part_of next comes reads responds sent st) (progress st s).1
+          (λ input p. p.0) (parted next comes reads responds sent st s)
 
 -- The buffers could not be allocated, and nothing was read.
 pub not_begun : (offered : Bool) (n : ℕ) (c : Content) (all had : Option (List ℕ))

@@ -1,8 +1,10 @@
 mod Follows
 mod Going
+mod NextLemmas
 mod OnceLemmas
 mod PlainLemmas
 mod Risen
+mod RunLemmas
 mod StepLemmas
 mod StorageLemmas
 mod StorageRuns

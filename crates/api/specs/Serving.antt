@@ -73,7 +73,6 @@ pub record AfterClose (offered : Bool) (from to : ℕ) (st : State) (new : Conte
   pub count : length exchanges + 1 ≡ k
   pub supplied : ConsumesTicks trace.ticks_before (ticks_of (exchanges ++ last ∷ []))
       trace.ticks_after
-  pub read : IsReadAhead rest_after trace.unread
   pub written : Appends trace.written_before trace.written_after
       (responses exchanges ++ last.response)
 
@@ -89,10 +88,8 @@ pub record AfterRefusal (fault : MessageFault) (offered : Bool) (from to : ℕ) 
   pub refines : Refines new end
   pub count : length exchanges + 1 ≡ k
   pub supplied : ConsumesTicks trace.ticks_before (ticks_of exchanges) trace.ticks_after
-  pub read : IsReadTo fault rest trace.unread
   pub written : Appends trace.written_before trace.written_after
-      (responses exchanges ++ message_refusal_text
-      fault)
+      (responses exchanges ++ message_refusal_text fault)
 
 -- Holds if `response` is the response to what `rest` begins with: a message that had its step with
 -- the next tick, or a refused one.
@@ -132,14 +129,18 @@ pub record AfterPartialResponse (offered : Bool) (from to : ℕ) (st : State) (n
   pub written : Appends trace.written_before trace.written_after (responses exchanges ++ take part
       response)
 
--- Holds if serving ended so. At the end of the input, only empty lines are left.
+-- Holds if serving ended so, and no more was read than that needs. At the end of the input, only
+-- empty lines are left.
 abbrev pub EndsAt : End → (offered : Bool) → (from to : ℕ) → State → Content → IoTrace → ℕ → Type 0
 EndsAt Input offered from to st new trace k =
     (whole : AfterExchanges offered from to st new trace k)
     × ParsesAs whole.rest EndOfInput × IsAtEnd trace.unread
-EndsAt Closed offered from to st new trace k = AfterClose offered from to st new trace k
+EndsAt Closed offered from to st new trace k =
+    (closed : AfterClose offered from to st new trace k)
+    × IsReadAhead closed.rest_after trace.unread
 EndsAt (Refused fault) offered from to st new trace k =
-    AfterRefusal fault offered from to st new trace k
+    (refusal : AfterRefusal fault offered from to st new trace k)
+    × IsReadTo fault refusal.rest trace.unread
 
 -- Holds if serving failed so. `Read`: what was read of the rest is no whole message. `Memory`: at
 -- most 8,192 bytes of the rest were read, or there are more messages than can be counted. `Write`:

@@ -36,7 +36,7 @@ module _ (from to : ℕ) (st : State) (new : Content) (trace : IoTrace) (has : O
     written = Appends-kept trace.written_before trace.written_after has _ x.written kept;
   }
 
-  close_kept : (k : ℕ) → AfterClose true from to st new trace k
+  abbrev close_kept : (k : ℕ) → AfterClose true from to st new trace k
       → AfterClose true from to st new later k
   close_kept k x = record {
     exchanges = x.exchanges;
@@ -53,11 +53,11 @@ module _ (from to : ℕ) (st : State) (new : Content) (trace : IoTrace) (has : O
     refines = x.refines;
     count = x.count;
     supplied = x.supplied;
-    read = x.read;
     written = Appends-kept trace.written_before trace.written_after has _ x.written kept;
   }
 
-  refusal_kept : (fault : MessageFault) (k : ℕ) → AfterRefusal fault true from to st new trace k
+  abbrev refusal_kept : (fault : MessageFault) (k : ℕ)
+      → AfterRefusal fault true from to st new trace k
       → AfterRefusal fault true from to st new later k
   refusal_kept fault k x = record {
     exchanges = x.exchanges;
@@ -68,7 +68,6 @@ module _ (from to : ℕ) (st : State) (new : Content) (trace : IoTrace) (has : O
     refines = x.refines;
     count = x.count;
     supplied = x.supplied;
-    read = x.read;
     written = Appends-kept trace.written_before trace.written_after has _ x.written kept;
   }
 
@@ -94,8 +93,8 @@ module _ (from to : ℕ) (st : State) (new : Content) (trace : IoTrace) (has : O
   ends_kept : (end : End) (k : ℕ) → EndsAt end true from to st new trace k
       → EndsAt end true from to st new later k
   ends_kept Input k x = (whole_kept k x.0, x.1, x.2)
-  ends_kept Closed k x = close_kept k x
-  ends_kept (Refused fault) k x = refusal_kept fault k x
+  ends_kept Closed k x = (close_kept k x.0, x.1)
+  ends_kept (Refused fault) k x = (refusal_kept fault k x.0, x.1)
 
   serves_kept : (r : Result Served ServingFault) → Serves r true from to st new trace
       → Serves r true from to st new later

@@ -1,5 +1,5 @@
 -- What the bytes that have arrived begin with, by their first 8,192.
-use Rattle.std.proofs.Common.{◌≡◌, inl, ℕ, ◌+◌, ◌<◌, ◌≤◌, Bool, true, false, List, [], ◌++◌, length, take, drop, min, refl, sym, ap, ◌∙◌, subst, arith, length-append, append-nil, append_assoc}
+use Rattle.std.proofs.Common.{◌≡◌, ℕ, ◌+◌, ◌<◌, ◌≤◌, Bool, true, false, List, [], ◌++◌, length, take, drop, min, refl, sym, ap, ◌∙◌, subst, arith, length-append, append-nil, append_assoc}
 use Rattle.std.proofs.lemmas.List.{take-append-drop, drop-drop, length-drop, length-take-le}
 use Rattle.std.proofs.Math.Seq.{drop-append_seam}
 use Rattle.httparse.specs.Grammar.{RequestHead, ReadsRequest, HasNoRequest, print_request}
@@ -10,13 +10,12 @@ use Rattle.http_messages.specs.Blank.{is_blank}
 use Rattle.http_messages.specs.Fields.{body_length}
 use Rattle.http_messages.specs.Head.{HasHead, IsBad, IsBlank}
 use Rattle.http_messages.specs.Parsing.{IsCutShort, IsRequestOf, ParsesAs, RefusedMessage, RefusesHead}
-use Rattle.http_messages.specs.declared.arrived.Arrived.TheVariants.{Part, Nothing, Refused}
+use Rattle.http_messages.specs.declared.arrived.Arrived.TheVariants.{Nothing, Refused}
 use Rattle.http_messages.specs.declared.fault.MessageFault.{MessageFault}
-use Rattle.http_messages.specs.declared.fault.MessageFault.TheVariants.{BadHead}
+use Rattle.http_messages.specs.declared.fault.MessageFault.TheVariants.{BadRequest, NoPath, BadMethod, TooLarge, BadHead, CutBody}
 use Rattle.http_messages.specs.declared.message.Request.{Request}
 use Rattle.http_messages.proofs.BlankLemmas.{lines, not_lines}
-use Rattle.http_messages.proofs.MessageLemmas.{refused_here}
-use Rattle.http_messages.proofs.UniqueHeads.{full_no_head, one_head, overflow_not_lines}
+use Rattle.http_messages.proofs.UniqueHeads.{full_no_head, head_more, head_not_blank, one_head, overflow_not_lines}
 use Rattle.numbers.proofs.Small.{no_members, some_is}
 
 -- ---- bytes that begin with a head
@@ -37,11 +36,11 @@ begins_with n input len h n_is reads len_is few =
     let whole : ReadsRequest input h rest =
     subst (λ (t : List ℕ). ReadsRequest t h rest) (take-append-drop n input)
     (ReadsRequest-append (take n input) h (drop len (take n input)) (drop n input) reads) in
-    let behind : drop len input ≡ rest = ap (drop len) whole.1
+    let after_head : drop len input ≡ rest = ap (drop len) whole.1
     ∙ ap (λ k. drop k (print_request h ++ rest)) len_is ∙ drop-append_seam (print_request h) rest in
     record {
       has = record {
-        reads = subst (ReadsRequest input h) (sym behind) whole;
+        reads = subst (ReadsRequest input h) (sym after_head) whole;
         short = omega (
           arith,
           most,
@@ -54,21 +53,31 @@ begins_with n input len h n_is reads len_is few =
       fits = omega (arith, len_is, ap length whole.1, length-append (print_request h) rest);
     }
 
--- What follows the bytes follows what is behind the head.
-begins_more : (input more : List ℕ) (len : ℕ) (h : RequestHead) → BeginsWith input len h
-    → HasHead (input ++ more) h (drop len input ++ more)
-begins_more input more len h begins = record {
-  reads = ReadsRequest-append input h (drop len input) more begins.has.reads;
-  short = begins.has.short;
-  few = begins.has.few;
+refused_here : (input rest : List ℕ) (h : RequestHead) (fault : MessageFault)
+    → HasHead input h rest → RefusesHead h fault
+    → ParsesAs input (RefusedMessage fault)
+refused_here input rest h BadHead x refuses =
+    record {
+      not_blank = head_not_blank input h rest x;
+      none = λ k q y. ap body_length (one_head input k h q rest y x).0 ∙ refuses;
+    }
+refused_here input rest h TooLarge x refuses = record {
+  head = h;
+  rest = rest;
+  front = x;
+  large = refuses;
 }
+refused_here input rest h CutBody x refuses = absurd refuses
+refused_here input rest h BadRequest x refuses = absurd refuses
+refused_here input rest h NoPath x refuses = absurd refuses
+refused_here input rest h BadMethod x refuses = absurd refuses
 
 module _ (input : List ℕ) (len : ℕ) (h : RequestHead) (begins : BeginsWith input len h) where
   pub head_refused : (fault : MessageFault) → RefusesHead h fault → (more : List ℕ)
       → ParsesAs (input ++ more) (RefusedMessage fault)
   head_refused fault refuses more =
       refused_here (input ++ more) (drop len input ++ more) h fault
-      (begins_more input more len h begins) refuses
+      (head_more input h (drop len input) more begins.has) refuses
 
   module _ (request : Request) (asks : IsRequestOf h request)
       (small : request.length ≤ 1048576) where
@@ -76,7 +85,7 @@ module _ (input : List ℕ) (len : ℕ) (h : RequestHead) (begins : BeginsWith i
     whole_at fits =
         let body : List ℕ = take request.length (drop len input) in
         let rest : List ℕ = drop (len + request.length) input in
-        let behind : drop len input ≡ body ++ rest =
+        let after_head : drop len input ≡ body ++ rest =
         sym (take-append-drop request.length (drop len input))
         ∙ ap (λ (t : List ℕ). body ++ t) (drop-drop request.length len input) in
         let enough : request.length ≤ length (drop len input) =
@@ -86,7 +95,7 @@ module _ (input : List ℕ) (len : ℕ) (h : RequestHead) (begins : BeginsWith i
           fits = fits;
           parses = record {
             head = h;
-            front = subst (HasHead input h) behind begins.has;
+            front = subst (HasHead input h) after_head begins.has;
             asks = asks;
             whole = size;
             small = omega (arith, size, small);
@@ -98,7 +107,7 @@ module _ (input : List ℕ) (len : ℕ) (h : RequestHead) (begins : BeginsWith i
     body_cut short more none = record {
       head = h;
       rest = drop len input ++ more;
-      front = begins_more input more len h begins;
+      front = head_more input h (drop len input) more begins.has;
       size = request.length;
       has_size = asks.length;
       small = small;
@@ -128,7 +137,7 @@ module _ (input : List ℕ) (len : ℕ) (h : RequestHead) (begins : BeginsWith i
     pub body_wanted : WantsMore input (len + request.length)
     body_wanted more short other body rest parses =
         let heads = one_head (input ++ more) h parses.head (drop len input ++ more) (body ++ rest)
-        (begins_more input more len h begins) parses.front in
+        (head_more input h (drop len input) more begins.has) parses.front in
         let size : request.length ≡ other.length = some_is request.length other.length
         (sym asks.length ∙ ap body_length heads.0 ∙ parses.asks.length) in
         absurd (omega (
@@ -168,7 +177,7 @@ pub is_start : (n : ℕ) (input : List ℕ) → n ≡ min (length input) 8192
     → IsStart input (take n input)
 is_start n input n_is =
     let there : n ≤ length input = omega (arith, n_is) in record {
-      behind = drop n input;
+      after = drop n input;
       all = sym (take-append-drop n input);
       most = omega (arith, n_is, length-take-le n input there);
       short = λ short. no_members (drop n input)
@@ -177,8 +186,8 @@ is_start n input n_is =
 
 module _ (input start : List ℕ) (is : IsStart input start) where
   -- What follows the bytes follows the first of them.
-  beyond : (more : List ℕ) → input ++ more ≡ start ++ (is.behind ++ more)
-  beyond more = ap (λ (t : List ℕ). t ++ more) is.all ∙ append_assoc start is.behind more
+  all_of : (more : List ℕ) → input ++ more ≡ start ++ (is.after ++ more)
+  all_of more = ap (λ (t : List ℕ). t ++ more) is.all ∙ append_assoc start is.after more
 
   alone : length start < 8192 → input ≡ start
   alone short = is.all ∙ ap (λ (t : List ℕ). start ++ t) (is.short short) ∙ append-nil start
@@ -186,34 +195,12 @@ module _ (input start : List ℕ) (is : IsStart input start) where
   pub overflow_arrived : (has_ended : Bool) → RequestOverflows 64 start
       → HasArrived input has_ended (Refused BadHead)
   overflow_arrived has_ended over more may =
-      subst IsBad (sym (beyond more)) (overflow_bad start (is.behind ++ more) over)
+      subst IsBad (sym (all_of more)) (overflow_bad start (is.after ++ more) over)
 
   pub full_arrived : (has_ended : Bool) → length start ≡ 8192 → HasNoRequest start
       → HasArrived input has_ended (Refused BadHead)
   full_arrived has_ended long none more may =
-      subst IsBad (sym (beyond more)) (full_bad start (is.behind ++ more) long none)
-
-  pub part_arrived : length start < 8192 → HasNoRequest start
-      → HasArrived input false (Part (length start + 1))
-  part_arrived short none = (
-    refl,
-    inl (
-      subst HasNoRequest (sym (alone short)) none,
-      omega (arith, short, ap length (alone short)),
-      omega (arith, ap length (alone short)),
-    ),
-    λ more few request body rest parses.
-        let nothing : more ≡ [] = no_members more (omega (
-          arith,
-          few,
-          ap length (alone short),
-          length-append input more,
-        )) in
-        let same : input ++ more ≡ start = ap (λ (t : List ℕ). input ++ t) nothing
-        ∙ append-nil input ∙ alone short in
-        none parses.head (body ++ rest) (subst (λ (t : List ℕ). ReadsRequest t parses.head
-        (body ++ rest)) same parses.front.reads),
-  )
+      subst IsBad (sym (all_of more)) (full_bad start (is.after ++ more) long none)
 
   pub nothing_arrived : length start < 8192 → is_blank start ≡ true
       → HasArrived input true Nothing

@@ -1,5 +1,5 @@
 -- The buffered bytes, as reads add to them and consumers drop them.
-use Rattle.std.proofs.Common.{◌≡◌, ℕ, ◌+◌, ◌-◌, ◌≤◌, List, ◌++◌, length, take, drop, ap, ◌∙◌, sym, arith, append_assoc, append-nil, Option, Some, None, length-drop}
+use Rattle.std.proofs.Common.{◌≡◌, ℕ, ◌+◌, ◌-◌, ◌≤◌, List, ◌++◌, length, take, drop, ap, ◌∙◌, sym, arith, append_assoc, Option, Some, None, length-drop}
 use Rattle.std.specs.Io.KnownBytes.{Keeps, prepend_known}
 use Rattle.std.specs.Vec.{with_items}
 use Rattle.http_messages.specs.ReadBuffer.{ReadsAt, buffered_bytes}
@@ -7,7 +7,6 @@ use Rattle.http_messages.specs.declared.read_buffer.ReadBuffer.{ReadBuffer}
 use Rattle.std.proofs.lemmas.List.{take-append-le, drop-append-le, drop-drop, drop-take, length-take-le}
 use Rattle.std.proofs.Math.Seq.{take-append-add}
 use Rattle.std.proofs.lemmas.Grind.{common_steps}
-use Rattle.numbers.proofs.Small.{no_members}
 
 pub taken_more : (old buf post : List ℕ) (f n : ℕ) → f ≤ length old → n ≤ length buf
     → take (f + n) (take f old ++ (buf ++ post)) ≡ take f old ++ take n buf
@@ -18,10 +17,10 @@ taken_more old buf post f n h k =
     (take-append-le n buf post k)
 
 -- What a read puts after the buffered bytes, which begin at start, is buffered after them.
-pub buffered_more : (old new : List ℕ) (start filled n : ℕ) (had has : Option (List ℕ))
-    (r : ReadsAt old new filled n had has) → start ≤ filled → filled ≤ length old
+pub buffered_more : (old new : List ℕ) (start filled stop n : ℕ) (had has : Option (List ℕ))
+    (r : ReadsAt old new filled stop n had has) → start ≤ filled → filled ≤ length old
     → take (filled + n - start) (drop start new) ≡ take (filled - start) (drop start old) ++ r.more
-buffered_more old new start filled n had has r s f =
+buffered_more old new start filled stop n had has r s f =
     let after : start + (filled + n - start) ≡ filled + n = omega arith in
     let before : start + (filled - start) ≡ filled = omega arith in
     let long : start ≤ length (take filled old) = grind (arith, common_steps) in
@@ -31,26 +30,21 @@ buffered_more old new start filled n had has r s f =
     ∙ ap (λ (t : List ℕ). t ++ r.more) (ap (λ (m : ℕ). drop start (take m old)) (sym before)
     ∙ drop-take start (filled - start) old)
 
-pub more_buffered : (items old new bytes : List ℕ) (start filled n : ℕ) (had has : Option (List ℕ))
-    (r : ReadsAt old new filled n had has) → old ≡ items → start ≤ filled → filled ≤ length old
+pub more_buffered : (items old new bytes : List ℕ) (start filled stop n : ℕ)
+    (had has : Option (List ℕ)) (r : ReadsAt old new filled stop n had has) → old ≡ items
+    → start ≤ filled → filled ≤ length old
     → take (filled - start) (drop start items) ≡ bytes → take (filled + n - start) (drop start new)
     ≡ bytes ++ r.more
-more_buffered items old new bytes start filled n had has r e s f h =
-    buffered_more old new start filled n had has r s f ∙ ap (λ (t : List ℕ). t ++ r.more)
+more_buffered items old new bytes start filled stop n had has r e s f h =
+    buffered_more old new start filled stop n had has r s f ∙ ap (λ (t : List ℕ). t ++ r.more)
     (ap (λ (t : List ℕ). take (filled - start) (drop start t)) e ∙ h)
 
--- A read of no bytes leaves the buffered bytes.
-pub none_more : (old new bytes bytes' : List ℕ) (filled n : ℕ) (had has : Option (List ℕ))
-    (r : ReadsAt old new filled n had has) → bytes' ≡ bytes ++ r.more → n ≡ 0 → bytes' ≡ bytes
-none_more old new bytes bytes' filled n had has r e z =
-    e ∙ ap (λ (t : List ℕ). bytes ++ t) (no_members r.more (r.count ∙ z)) ∙ append-nil bytes
-
-pub Keeps-read : (old new bytes bytes' : List ℕ) (filled n : ℕ) (had has : Option (List ℕ))
-    (r : ReadsAt old new filled n had has) → bytes' ≡ bytes ++ r.more
+pub Keeps-read : (old new bytes bytes' : List ℕ) (filled stop n : ℕ) (had has : Option (List ℕ))
+    (r : ReadsAt old new filled stop n had has) → bytes' ≡ bytes ++ r.more
     → Keeps (prepend_known bytes had) (prepend_known bytes' has)
-Keeps-read old new bytes bytes' filled n None has r e = tt
-Keeps-read old new bytes bytes' filled n (Some xs) None r e = absurd r.read
-Keeps-read old new bytes bytes' filled n (Some xs) (Some ys) r e =
+Keeps-read old new bytes bytes' filled stop n None has r e = tt
+Keeps-read old new bytes bytes' filled stop n (Some xs) None r e = absurd r.read
+Keeps-read old new bytes bytes' filled stop n (Some xs) (Some ys) r e =
     ap (λ (t : List ℕ). t ++ ys) e ∙ append_assoc bytes r.more ys ∙ ap (λ (t : List ℕ). bytes ++ t)
     (sym r.read)
 

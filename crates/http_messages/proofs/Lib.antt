@@ -1,10 +1,9 @@
 mod Appending
 mod ArrivedLemmas
 mod BlankLemmas
-mod BodyLemmas
 mod BufferLemmas
 mod FieldLemmas
-mod MessageLemmas
+pub mod FrontLemmas
 mod NumberLemmas
 mod ParseLemmas
 mod PathLemmas

@@ -10,9 +10,6 @@ use Rattle.httparse.proofs.GrammarLemmas.{request_unique, print_request-append, 
 use Rattle.httparse.specs.Grammar.{HasNoRequest, print_blank}
 use Rattle.httparse.specs.Spans.{RequestOverflows}
 use Rattle.http_messages.specs.Head.{HasHead, IsBlank}
-use Rattle.http_messages.specs.NextHead.{HasNoHead}
-use Rattle.std.specs.Prelude.{IfSome, Option, Some, None}
-use Rattle.std.specs.Io.KnownBytes.{prepend_known}
 
 -- Of two prefixes of one list, the shorter is a prefix of the longer.
 prefix_of : (a b c d : List ℕ) → a ++ b ≡ c ++ d → length c ≤ length a → a ≡ c ++ drop (length c) a
@@ -25,6 +22,15 @@ pub one_head : (s : List ℕ) (h k : RequestHead) (r q : List ℕ) → HasHead s
     → (h ≡ k) × (r ≡ q)
 one_head s h k r q x y = request_unique s h k r q x.reads y.reads
 
+-- What follows the bytes follows what is after the head.
+pub head_more : (s : List ℕ) (h : RequestHead) (rest more : List ℕ) → HasHead s h rest
+    → HasHead (s ++ more) h (rest ++ more)
+head_more s h rest more x = record {
+  reads = ReadsRequest-append s h rest more x.reads;
+  short = x.short;
+  few = x.few;
+}
+
 -- An input begins with no head if its first 8,192 bytes begin with none.
 pub full_no_head : (buf more : List ℕ) (h : RequestHead) (rest : List ℕ) → length buf ≡ 8192
     → HasNoRequest buf → ¬ (HasHead (buf ++ more) h rest)
@@ -35,11 +41,6 @@ full_no_head buf more h rest long none x =
       prefix_of buf more (print_request h)
           rest x.reads.1 fits,
     )
-
-pub full_has_no_head : (buf : List ℕ) (r : Option (List ℕ)) → length buf ≡ 8192 → HasNoRequest buf
-    → IfSome (prepend_known buf r) HasNoHead
-full_has_no_head buf None long none = tt
-full_has_no_head buf (Some more) long none = λ h rest. full_no_head buf more h rest long none
 
 -- The shortest head after the empty lines.
 abbrev witness : List LineEnd → RequestHead

@@ -35,6 +35,13 @@ pub record WaitsForBody (bytes : List ℕ) (wanted : ℕ) : Type 0 where
   pub missing : length rest < size
   pub ends : wanted + length rest ≡ length bytes + size
 
+-- Holds if the bytes begin with a head that is refused, or with a whole message.
+pub record IsDecided (bytes : List ℕ) : Type 0 where
+  pub head : RequestHead
+  pub rest : List ℕ
+  pub front : HasHead bytes head rest
+  pub whole : (size : ℕ) → body_length head ≡ Some size → size ≤ body_limit → size ≤ length rest
+
 -- Holds if no input of fewer than `wanted` bytes that begins with these has a whole message.
 abbrev pub WantsMore : List ℕ → (wanted : ℕ) → Type 0
 WantsMore bytes wanted = (more : List ℕ) → length (bytes ++ more) < wanted
@@ -53,7 +60,7 @@ HasArrived bytes has_ended (Part wanted) = (has_ended ≡ false)
 
 -- Holds if the bytes begin with `start`, and have no more if that is fewer than 8,192 bytes.
 pub record IsStart (input start : List ℕ) : Type 0 where
-  pub behind : List ℕ
-  pub all : input ≡ start ++ behind
+  pub after : List ℕ
+  pub all : input ≡ start ++ after
   pub most : length start ≤ 8192
-  pub short : length start < 8192 → behind ≡ []
+  pub short : length start < 8192 → after ≡ []

@@ -3,7 +3,6 @@ pub mod Blank
 pub mod Parsing
 pub mod Faults
 pub mod Fields
-pub mod NextHead
 pub mod Head
 pub mod ReadBuffer
 pub mod Reading

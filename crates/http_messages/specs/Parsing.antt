@@ -1,5 +1,5 @@
 -- How an input parses: as a message, as one that is refused, or as its end.
-use Rattle.std.specs.Prelude.{◌≡◌, ℕ, ◌<◌, ◌≤◌, List, [], ◌∷◌, ◌++◌, length, codes, Option, Some, None, IfSome}
+use Rattle.std.specs.Prelude.{◌≡◌, ℕ, ◌<◌, ◌≤◌, List, [], ◌∷◌, ◌++◌, length, codes, Option, Some, None}
 use Rattle.httparse.specs.Grammar.{RequestHead}
 use Rattle.numbers.specs.Spids.{IsSpid}
 use Rattle.numbers.specs.Texts.{spid_text}
@@ -87,19 +87,6 @@ abbrev pub IsNextMessage : List ℕ → NextMessage → List ℕ → Option (Lis
 IsNextMessage input (Message request) body left = (rest : List ℕ) × (left ≡ Some rest)
     × ParsesAs input (WholeMessage request body rest)
 IsNextMessage input (Refused fault) body left = ParsesAs input (RefusedMessage fault)
-
--- Holds if this comes next in the input, or the input ends.
-abbrev pub IsNextOrEnd : List ℕ → Option NextMessage → List ℕ → Option (List ℕ) → Type 0
-IsNextOrEnd input None body left = ParsesAs input EndOfInput
-IsNextOrEnd input (Some next) body left = IsNextMessage input next body left
-
--- Holds if the message and its body were taken from the input, and left is what follows them.
--- Without a message, left is the whole input.
-abbrev pub IsTaken : (input : Option (List ℕ)) → Option Request → List ℕ → (left : Option (List ℕ))
-    → Type 0
-IsTaken input None body left = left ≡ input
-IsTaken input (Some request) body left =
-    IfSome input (λ s. IsNextMessage s (Message request) body left)
 
 -- Holds if the fields of the head are refused with this fault.
 abbrev pub RefusesHead : RequestHead → MessageFault → Type 0

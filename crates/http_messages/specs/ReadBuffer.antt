@@ -11,9 +11,11 @@ buffered_bytes h = take (h.filled - h.start) (drop h.start h.bytes.items)
 abbrev pub remaining_input : ReadBuffer → Option (List ℕ) → Option (List ℕ)
 remaining_input h remaining = prepend_known (buffered_bytes h) remaining
 
--- Holds if a read put n bytes into the buffer, from start on. It gives none only at the end.
-pub record ReadsAt (old new : List ℕ) (start n : ℕ) (had has : Option (List ℕ)) : Type 0 where
-  pub fits : start + n ≤ length old
+-- Holds if a read put n bytes into the buffer, between start and stop. It gives none only at the
+-- end of the input.
+pub record ReadsAt (old new : List ℕ) (start stop n : ℕ) (had has : Option (List ℕ)) : Type 0 where
+  pub fits : start + n ≤ stop
+  pub within : stop ≤ length old
   pub more : List ℕ
   pub count : length more ≡ n
   pub kept : take (start + n) new ≡ take start old ++ more

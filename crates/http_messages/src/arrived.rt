@@ -2,18 +2,16 @@
 ghost use Rattle.std.specs.Prelude.{◌≡◌, ℕ, List, length};
 ghost use Rattle.httparse.specs.Grammar.{HasNoRequest};
 ghost use Rattle.http_messages.specs.Arrived.{HasArrived, IsStart};
+ghost use Rattle.http_messages.specs.Blank.{is_blank};
 ghost use Rattle.http_messages.specs.Table.{table};
 
 use crate::fault::MessageFault;
 use crate::head::{HeadParse, parse_head};
 use crate::message::{Request, request_of};
-use crate::next_head::are_empty_lines;
 use crate::paths::Route;
+use crate::read_buffer::HEAD_LIMIT;
 use httparse::spans::HeaderSpan;
 use matchit::Router;
-
-// The most bytes of a head.
-const HEAD_LIMIT: usize = 8192;
 
 /// What the bytes that have arrived begin with.
 #[derive(Clone, Copy, Debug)]
@@ -26,6 +24,23 @@ pub enum Arrived {
     Nothing,
     /// A part of a message, or nothing yet. It stays so with fewer than `wanted` bytes.
     Part { wanted: usize },
+}
+
+// Returns whether the bytes are empty lines only.
+fn are_empty_lines(bytes: &[u8]) -> bool
+    ensures { result ≡ is_blank bytes.now }
+{
+    let mut after_cr = false;
+    for b in bytes {
+        if *b == b'\n' {
+            after_cr = false;
+        } else if *b == b'\r' && !after_cr {
+            after_cr = true;
+        } else {
+            return false;
+        }
+    }
+    !after_cr
 }
 
 // Returns what bytes without a whole head are.

@@ -2,12 +2,11 @@
 #![tactic(auto)]
 
 mod arrived;
-mod body;
 mod fault;
 mod head;
 mod laws;
 mod message;
-mod next_head;
+mod next;
 mod paths;
 mod read_buffer;
 mod send;
@@ -16,7 +15,8 @@ pub use arrived::{Arrived, next_arrived};
 pub use fault::MessageFault;
 pub use head::read_number;
 pub use laws::parse_is_unique;
-pub use message::{NextFault, NextMessage, Request, next_buffered, next_message};
+pub use message::{NextMessage, Request};
+pub use next::{NextFault, next_message};
 pub use paths::{BlockPath, Method, Route, VersionPath, allows_method, offered_route, router};
 pub use read_buffer::ReadBuffer;
 pub use send::send_all;

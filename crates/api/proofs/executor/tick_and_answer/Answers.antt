@@ -3,7 +3,7 @@ use Rattle.numbers.specs.declared.minute.Minute.{Minute}
 use Rattle.api.specs.Step.{IsUnavailableText}
 use Rattle.api.proofs.StepLemmas.{tick_then, tick_withheld}
 use Rattle.api.proofs.Withheld.{refused_or}
-use Rattle.api.proofs.serving.tick_and_answer.Goals as goal
+use Rattle.api.proofs.executor.tick_and_answer.Goals as goal
 
 -- The supplied minute.
 abbrev minute_of : Option Minute → Option ℕ
