@@ -24,29 +24,32 @@ const CALL_LIMIT: Calls = Calls {
     db: 20_000,
 };
 
-// The result of a message: its response, the rows, and the bytes of both files afterwards.
+/// The result of a message: its response, the rows, and the bytes of both files afterwards.
 #[derive(Drop)]
-struct Outcome {
-    response: Vec<u8>,
-    rows: Vec<u8>,
-    file_bytes: FileBytes,
+pub struct Outcome {
+    pub response: Vec<u8>,
+    pub rows: Vec<u8>,
+    pub file_bytes: FileBytes,
 }
 
-// A run without a stop: the bytes before the request, the rows before it and after each of its
-// commits, its response, and the response to the next message. The files get `calls_to_open` calls
-// until the register is open, and `calls_to_answer` calls until the request is answered.
+/// A run without a stop: the bytes before the request, the rows before it and after each of its
+/// commits, its response, and the next message's response and rows.
+///
+/// The files get `calls_to_open` calls until the register is open, and `calls_to_answer` until the
+/// request is answered.
 #[derive(Drop)]
-struct ReferenceRun {
-    file_bytes: FileBytes,
-    calls_to_open: Calls,
-    calls_to_answer: Calls,
-    states: Vec<Vec<u8>>,
-    response: Vec<u8>,
-    next_response: Vec<u8>,
+pub struct ReferenceRun {
+    pub file_bytes: FileBytes,
+    pub calls_to_open: Calls,
+    pub calls_to_answer: Calls,
+    pub states: Vec<Vec<u8>>,
+    pub response: Vec<u8>,
+    pub next_response: Vec<u8>,
+    pub next_rows: Vec<u8>,
 }
 
-// Sends a message to a register in these bytes.
-fn send_once(alloc: Global, file_bytes: &FileBytes, request: &Request<'_>) -> Option<Outcome> {
+/// Sends a message to a register in these bytes.
+pub fn send_once(alloc: Global, file_bytes: &FileBytes, request: &Request<'_>) -> Option<Outcome> {
     let (response, file_bytes) = run_in(
         alloc,
         file_bytes,
@@ -61,17 +64,17 @@ fn send_once(alloc: Global, file_bytes: &FileBytes, request: &Request<'_>) -> Op
     })
 }
 
-// Sends the request and then the next message, which must change nothing. Returns the result of the
-// one and the response to the other.
+// Sends the request and then the next message, which must change nothing. Returns the results of
+// both.
 fn send_twice(
     alloc: Global,
     file_bytes: &FileBytes,
     scenario: &Scenario<'_>,
-) -> Option<(Outcome, Vec<u8>)> {
+) -> Option<(Outcome, Outcome)> {
     let outcome = send_once(alloc, file_bytes, &scenario.request)?;
     let next = send_once(alloc, &outcome.file_bytes, &scenario.next_request)?;
     if is_accepted(&outcome.response) && next.rows == outcome.rows {
-        Some((outcome, next.response))
+        Some((outcome, next))
     } else {
         None
     }
@@ -125,7 +128,7 @@ fn reference_of_request(
         SingleRequest(&scenario.request),
     )?;
     let mut states = states_of(alloc, &file_bytes, scenario.steps)?;
-    let (outcome, next_response) = send_twice(alloc, &file_bytes, scenario)?;
+    let (outcome, next) = send_twice(alloc, &file_bytes, scenario)?;
     states.push(outcome.rows).ok()?;
     Some(ReferenceRun {
         file_bytes,
@@ -133,7 +136,8 @@ fn reference_of_request(
         calls_to_answer,
         states,
         response: outcome.response,
-        next_response,
+        next_response: next.response,
+        next_rows: next.rows,
     })
 }
 
@@ -260,7 +264,8 @@ fn tear(alloc: Global, written: &[u8], synced: &[u8]) -> Option<Vec<u8>> {
     Some(bytes)
 }
 
-fn copy_pair(alloc: Global, log: &[u8], db: &[u8]) -> Option<FileBytes> {
+/// Copies the bytes of a log and of a database file.
+pub fn copy_pair(alloc: Global, log: &[u8], db: &[u8]) -> Option<FileBytes> {
     Some(FileBytes {
         log: copy_bytes(alloc, log)?,
         db: copy_bytes(alloc, db)?,
@@ -293,8 +298,8 @@ fn allowed_states(reference: &ReferenceRun, response: &Option<Vec<u8>>) -> Optio
     }
 }
 
-// Returns whether the register continues: it answers the request, if it was not executed, and then
-// has the rows after it.
+// Returns whether the register continues. If the request was not executed, it is answered as in the
+// run without a stop, and else the next message is. Then the rows are those of that run.
 fn is_continued(
     alloc: Global,
     reference: &ReferenceRun,
@@ -303,13 +308,21 @@ fn is_continued(
     state: usize,
 ) -> Option<bool> {
     let last = reference.states.len().checked_sub(1)?;
-    let (message, expected) = if state == last {
-        (&scenario.next_request, &reference.next_response)
+    let (message, response, rows) = if state == last {
+        (
+            &scenario.next_request,
+            &reference.next_response,
+            &reference.next_rows,
+        )
     } else {
-        (&scenario.request, &reference.response)
+        (
+            &scenario.request,
+            &reference.response,
+            reference.states.get(last)?,
+        )
     };
     let next = send_once(alloc, file_bytes, message)?;
-    Some(next.response == *expected && Some(&next.rows) == reference.states.get(last))
+    Some(next.response == *response && next.rows == *rows)
 }
 
 // Bytes that a stop has left, and their state.
@@ -459,7 +472,7 @@ fn are_all_reached(count: usize, judged: &[JudgedFiles]) -> bool {
 
 /// How a scenario goes wrong.
 #[derive(Clone, Copy, Debug, PartialEq, Eq)]
-enum Mismatch {
+pub enum Mismatch {
     /// The run without a stop is not as it should be.
     Reference,
     /// A stop of this file after this many calls leaves something else.
@@ -491,22 +504,35 @@ fn mismatch_at_stops(
     None
 }
 
+/// Stops the files at each of their calls during the request. Returns the first mismatch with the
+/// run without a stop. A request that changes no row may call no file.
+pub fn mismatch_from(
+    alloc: Global,
+    reference: &ReferenceRun,
+    scenario: &Scenario<'_>,
+    options: Options,
+) -> Option<Mismatch> {
+    let mut judged = Vec::new(alloc);
+    match mismatch_at_stops(alloc, reference, scenario, options, &mut judged) {
+        None => {}
+        mismatch => return mismatch,
+    }
+    let count = reference.states.len();
+    if count == 1 || are_all_reached(count, &judged) {
+        None
+    } else {
+        Some(Mismatch::Unreached)
+    }
+}
+
 fn mismatch_with(alloc: Global, scenario: &Scenario<'_>, options: Options) -> Option<Mismatch> {
     let Some(reference) = reference_run(alloc, scenario, options) else {
         return Some(Mismatch::Reference);
     };
-    if !is_reference_valid(&reference, scenario) {
-        return Some(Mismatch::Reference);
-    }
-    let mut judged = Vec::new(alloc);
-    match mismatch_at_stops(alloc, &reference, scenario, options, &mut judged) {
-        None => {}
-        mismatch => return mismatch,
-    }
-    if are_all_reached(reference.states.len(), &judged) {
-        None
+    if is_reference_valid(&reference, scenario) {
+        mismatch_from(alloc, &reference, scenario, options)
     } else {
-        Some(Mismatch::Unreached)
+        Some(Mismatch::Reference)
     }
 }
 

@@ -162,8 +162,8 @@ fn migrate_with(alloc: Global, rows: &[&str]) -> Option<FileBytes> {
     }
 }
 
-// Returns the bytes of a response.
-fn encode_response(alloc: Global, status: &str, body: &str) -> Result<String, AllocError> {
+/// Returns the bytes of a response.
+pub fn encode_response(alloc: Global, status: &str, body: &str) -> Result<String, AllocError> {
     let kind = "application/json";
     let length = body.len();
     format!(in alloc;

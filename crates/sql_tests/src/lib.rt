@@ -5,6 +5,8 @@
 #[cfg(test)]
 mod crashes;
 #[cfg(test)]
+mod crashes_in_histories;
+#[cfg(test)]
 mod failed_block;
 #[cfg(test)]
 mod files;
@@ -32,3 +34,5 @@ mod scenarios;
 mod settling;
 #[cfg(test)]
 mod window_sets;
+#[cfg(test)]
+mod worked_histories;

@@ -30,9 +30,11 @@ const CLOCK: &str = "POST /clock HTTP/1.1\r\nx-spid: NPAC\r\ncontent-length: 12\
 
 const BAD: &str = "GARBAGE\r\n\r\n";
 
-const FIRST_ROWS: &str = "\r\n\r\n{\"rows\":[],\"spid\":\"AAAA\"}";
+/// The end of the response to the first.
+pub const FIRST_ROWS: &str = "\r\n\r\n{\"rows\":[],\"spid\":\"AAAA\"}";
 
-const LAST_ROWS: &str = "\r\n\r\n{\"rows\":[],\"spid\":\"BBBB\"}";
+/// The end of the response to the last.
+pub const LAST_ROWS: &str = "\r\n\r\n{\"rows\":[],\"spid\":\"BBBB\"}";
 
 const CUT_BODY: &str = "\r\n\r\n{\"error\":\"cut_body\",\"number\":46}";
 

@@ -2,4 +2,5 @@
 mod command_lines;
 mod connections;
 mod file_lines;
+mod listening;
 mod worked_exchanges;
