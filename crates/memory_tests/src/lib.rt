@@ -12,6 +12,8 @@ mod cuts;
 #[cfg(test)]
 mod delivery_tests;
 #[cfg(test)]
+mod executing;
+#[cfg(test)]
 mod failed_firings;
 #[cfg(test)]
 mod faulty_io;
