@@ -258,7 +258,7 @@ is_ahead bytes has_ended (Refused fault) ends is = tt
 is_ahead bytes has_ended Nothing ends is = tt
 is_ahead bytes has_ended (Part wanted) ends is = tt
 
--- With fewer bytes than are wanted, no whole message was read.
+-- As long as there are fewer bytes than wanted, no whole message was read.
 part_read : (all r : Option (List ℕ)) (bytes more : List ℕ) (has_ended : Bool) (wanted : ℕ)
     → Keeps all (prepend_known (bytes ++ more) r) → HasArrived bytes has_ended (Part wanted)
     → length (bytes ++ more) < wanted → IfSome all (λ input. HasNoWholeMessage input r)
