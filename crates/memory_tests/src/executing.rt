@@ -62,7 +62,7 @@ fn are_executed_at(alloc: Global, transcript: &Transcript, place: usize) -> Opti
     Some(are_executed && output.as_slice() == transcript.responses.as_bytes())
 }
 
-// Returns the first cut at which the messages are executed otherwise.
+// Returns the first cut that changes what is executed.
 fn first_wrong_cut(alloc: Global) -> Option<Option<usize>> {
     let transcript = transcript_of_all(alloc, &FIRST_PORT)?;
     for place in 0..transcript.requests.len() {

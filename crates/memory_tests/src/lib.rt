@@ -48,6 +48,8 @@ mod opening;
 #[cfg(test)]
 mod pool_tests;
 #[cfg(test)]
+mod probing;
+#[cfg(test)]
 mod retries;
 #[cfg(test)]
 mod sending;
