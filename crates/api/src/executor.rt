@@ -14,6 +14,7 @@ ghost use Rattle.api.specs.Step.{IsUnavailableText};
 use crate::call::write_response;
 use crate::reply::put_refused;
 use crate::serving::{End, Options, Ticks};
+use crate::tally::Tally;
 use crate::tick::move_clock;
 use http_messages::{
     Arrived, NextFault, NextMessage, ReadBuffer, Request, Route, next_arrived, next_message, router,
@@ -21,6 +22,7 @@ use http_messages::{
 use httparse::spans::{EMPTY_HEADER_SPAN, HeaderSpan};
 use json_api::{Failure, ResponseBuffer};
 use matchit::Router;
+use numbers::Spid;
 use register::Register;
 use settle::Store;
 use std::alloc::{AllocError, Global};
@@ -62,6 +64,8 @@ pub struct Executor {
     pub(crate) router: Router<Route>,
     pub(crate) headers: Vec<HeaderSpan>,
     pub(crate) response: ResponseBuffer,
+    /// What `execute` has executed since this was set last. It is not part of any contract.
+    pub tally: Tally,
     ghost paths: { router ≡ table },
     ghost fields: { vec_len headers ≡ 64 },
     ghost capacity: { HasCapacity 512 response },
@@ -107,6 +111,16 @@ pub(crate) struct Next {
     pub end: usize,
 }
 
+impl Next {
+    // Returns who sent the message, if that is known.
+    fn caller(&self) -> Option<Spid> {
+        match self.message {
+            NextMessage::Message(request) => request.caller,
+            NextMessage::Refused(_) => None,
+        }
+    }
+}
+
 // Returns what is answered next, or what is left if nothing is.
 pub(crate) fn next_of(arrived: Arrived) -> Result<Next, Progress>
     requires { message_length arrived < 2 ^ 64 }
@@ -143,6 +157,7 @@ impl Executor {
             router,
             headers: vec![in alloc; EMPTY_HEADER_SPAN; FIELD_LIMIT]?,
             response: ResponseBuffer::new(alloc)?,
+            tally: Tally::EMPTY,
         })
     }
 
@@ -300,14 +315,14 @@ impl Executor {
             {
                 return Err(Lost { count });
             }
+            self.tally
+                .note(next.caller(), self.response.text.as_bytes());
             consumed += next.end;
             if let Some(end) = end {
-                let count = count + 1;
-                let progress = Progress::Ended(end);
                 return Ok(Executed {
-                    count,
+                    count: count + 1,
                     consumed,
-                    progress,
+                    progress: Progress::Ended(end),
                 });
             }
         }

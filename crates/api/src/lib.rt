@@ -7,6 +7,7 @@ mod laws;
 mod query;
 mod reply;
 mod serving;
+mod tally;
 mod tick;
 
 pub use executor::{Executed, Executor, Lost, Progress};
@@ -14,3 +15,4 @@ pub use http_messages::{MessageFault, parse_is_unique};
 pub use json_api::body_asks_once;
 pub use laws::{message_step_is_deterministic, storage_reports_failure, uris_need_no_escape};
 pub use serving::{End, Fault, NoTicks, Options, Served, Ticks, serve};
+pub use tally::Tally;
