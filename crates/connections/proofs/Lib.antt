@@ -1,0 +1,4 @@
+mod Chains
+mod Played
+pub mod RowsLemmas
+mod Turns

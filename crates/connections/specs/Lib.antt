@@ -1,0 +1,4 @@
+pub mod Connections
+pub mod Rows
+pub mod Schedules
+pub mod Waits

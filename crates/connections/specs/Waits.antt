@@ -1,0 +1,47 @@
+-- What a connection waits for, and how long.
+use Rattle.std.specs.Prelude.{◌≡◌, ◌*◌, ℕ, length, nat_eq, if◌then◌else◌}
+use Rattle.std.specs.Duration.{as_nanos}
+use Rattle.std.specs.declared.time.Duration.{Duration}
+use Rattle.connections.specs.Connections.{ConnectionModel}
+use Rattle.connections.specs.declared.limits.Limits.{Limits}
+use Rattle.connections.specs.declared.limits.Wait.{Wait}
+use Rattle.connections.specs.declared.limits.Wait.TheVariants.{Idle, Message, Sending, Discarding}
+use Rattle.connections.specs.declared.peer.Peer.{Peer}
+use Rattle.connections.specs.declared.peer.Stage.{Stage}
+use Rattle.connections.specs.declared.peer.Stage.TheVariants as stage
+
+-- Holds if the duration has this number of seconds.
+abbrev pub HasSeconds : Duration → ℕ → Type 0
+HasSeconds duration seconds = as_nanos duration ≡ seconds * 1_000_000_000
+
+-- Holds if these are the limits, in seconds.
+abbrev pub AreLimits : (at_once message idle idle_when_full sending discarding : ℕ) → Limits
+    → Type 0
+AreLimits at_once message idle idle_when_full sending discarding limits =
+    (limits.at_once ≡ at_once) × HasSeconds limits.message message × HasSeconds limits.idle idle
+    × HasSeconds limits.idle_when_full idle_when_full × HasSeconds limits.sending sending
+    × HasSeconds limits.discarding discarding
+
+abbrev pub limit_of : Limits → Wait → Duration
+limit_of limits Idle = limits.idle
+limit_of limits Message = limits.message
+limit_of limits Sending = limits.sending
+limit_of limits Discarding = limits.discarding
+
+-- A connection waits first for its client to take bytes, then for the rest of a message.
+abbrev pub talking_wait : ConnectionModel → Wait
+talking_wait c =
+    if nat_eq (length c.unsent) 0 then (if nat_eq (length c.unread) 0 then Idle else Message)
+    else Sending
+
+abbrev pub wait_of : Stage → ConnectionModel → Wait
+wait_of stage.Talking c = talking_wait c
+wait_of stage.Discarding c = Discarding
+wait_of stage.Done c = Discarding
+
+-- When a connection began to wait so.
+abbrev pub start_of : Peer → Wait → Duration
+start_of peer Idle = peer.since
+start_of peer Message = peer.since
+start_of peer Sending = peer.sent_at
+start_of peer Discarding = peer.since

@@ -1,0 +1,17 @@
+//! Many connections at once, on one thread.
+#![tactic(auto)]
+
+mod byte_queue;
+mod client;
+mod connection;
+mod limits;
+mod log;
+mod peer;
+mod schedule;
+mod server;
+
+pub use client::Client;
+pub use connection::{Connection, Phase, UNSENT_LIMIT};
+pub use limits::{Limits, Wait};
+pub use schedule::{Event, ScheduledEvent, play};
+pub use server::{ServerFault, serve_many};
