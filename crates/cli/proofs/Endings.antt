@@ -1,9 +1,16 @@
 -- How the program ends.
-use Rattle.std.proofs.Common.{◌≡◌, ℕ, List, Option, Result, Ok, Err, inl, inr, refl, arith}
+use Rattle.std.proofs.Common.{◌≡◌, ℕ, ◌≤◌, List, Option, Result, Ok, Err, arith, inl, inr, refl, subst, sym}
+use Rattle.std.specs.Borrow.{Bor}
 use Rattle.std.specs.Prelude.{IfErr}
+use Rattle.settle.specs.Reads.{HasDeviceFailed}
+use Rattle.register.specs.declared.register.OpenFault.TheVariants as opening
 use Rattle.cli.specs.CommandLine.{IsLine}
 use Rattle.cli.specs.declared.parse.CommandLine.{CommandLine}
-use Rattle.cli.specs.Faults.{MayEnd}
+use Rattle.cli.specs.Faults.{IsOfListening, IsOfSubcommand, MayEnd, MayEndListening}
+use Rattle.cli.specs.declared.parse.ServeLimits.{ServeLimits}
+use Rattle.cli.specs.declared.parse.Subcommand.{Subcommand}
+use Rattle.cli.specs.declared.parse.Subcommand.TheVariants as sub
+use Rattle.cli.specs.Listening.{IsBeforeServing}
 use Rattle.cli.specs.Reporting.{AsksForHelp, Ends, ExplainsMistake, IsUsage, ReportsHelp, ReportsOutcome, ReportsUsage}
 use Rattle.cli.specs.declared.fault.Fault.{Fault}
 use Rattle.cli.specs.declared.fault.Fault.TheVariants as fault
@@ -32,3 +39,38 @@ module _ (words : List (List ℕ)) (had has : Option (List ℕ)) (status : ℕ) 
       → IfErr o (MayEnd line) → ReportsOutcome o had has status → Ends words had has status
   outcome_ends line is (Ok done) may reported = inl (reported.0, inl (line, is), reported.1)
   outcome_ends line is (Err f) may reported = inr (inl (f, inl (line, is, may), reported))
+
+-- A fault that comes before serving is not `storage`.
+pub never_storage : (r : Result (Unit {0}) Fault) (f : Fault) (was is : ℕ) → r ≡ Err f
+    → IsBeforeServing f
+    → IfErr r (λ x. x ≡ fault.Open opening.Storage → HasDeviceFailed was is)
+never_storage r f was is e before =
+    subst (λ (o : Result (Unit {0}) Fault). IfErr o
+    (λ x. x ≡ fault.Open opening.Storage → HasDeviceFailed was is)) (sym e)
+    (λ at. absurd (subst IsBeforeServing at before))
+
+never_failed : (was is : ℕ) → was ≤ is → HasDeviceFailed was is → is ≡ 0 → ⊥
+never_failed was is rises failed zero = grind arith
+
+-- Serving connections over a register, without a failure of its device.
+module _ (line : CommandLine) (port : ℕ) (connections : Option ℕ) (limits : ServeLimits)
+    (log : Option (Bor (List ℕ))) (serves : line.subcommand ≡ sub.Serve port connections limits log)
+    (was is : ℕ) (rises : was ≤ is) (zero : is ≡ 0) where
+  by_serving : (f : Fault) → IsOfListening f → IsOfSubcommand line.subcommand f
+  by_serving f may = subst (λ (s : Subcommand). IsOfSubcommand s f) (sym serves) may
+
+  pub serving_ends : (r : Result (Unit {0}) Fault) → IfErr r MayEndListening
+      → IfErr r (λ f. f ≡ fault.Open opening.Storage → HasDeviceFailed was is)
+      → IfErr r (MayEnd line)
+  serving_ends (Ok done) may storage = tt
+  serving_ends (Err fault.Listen) may storage = inr (by_serving fault.Listen tt)
+  serving_ends (Err fault.Write) may storage = inr (by_serving fault.Write tt)
+  serving_ends (Err fault.Read) may storage = tt
+  serving_ends (Err fault.NoMemory) may storage = tt
+  serving_ends (Err (fault.Open opening.Storage)) may storage =
+      absurd (never_failed was is rises (storage refl) zero)
+  serving_ends (Err (fault.Open opening.WindowsDiffer)) may storage = absurd may
+  serving_ends (Err (fault.Open opening.NoMemory)) may storage = absurd may
+  serving_ends (Err (fault.Windows refused)) may storage = absurd may
+  serving_ends (Err (fault.Message refused)) may storage = absurd may
+  serving_ends (Err (fault.File refused)) may storage = absurd may

@@ -98,7 +98,7 @@ pub rows_are_named : (program name : Text) (after : List Text) (told rows : List
     → rows_named name after ≡ Some rows
 rows_are_named program name after told rows sub.Feed h found =
     at_name program (codes "feed") name after rows feed_named h found
-rows_are_named program name after told rows (sub.Serve port connections) h found =
+rows_are_named program name after told rows (sub.Serve port connections limits log) h found =
     at_name program (codes "serve") name after rows serve_named h.0 found
 rows_are_named program name after told rows sub.Bulk h found =
     at_name program (codes "bulk") name after rows bulk_named h found

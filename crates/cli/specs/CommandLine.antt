@@ -1,11 +1,12 @@
 -- The command line: what the rule of `clap` reads from the words.
-use Rattle.std.specs.Prelude.{◌≡◌, ℕ, nat_lt, Bool, true, false, List, ◌∷◌, [], codes, Option, Some, None, option_map, option_and_then, find, if◌then◌else◌}
+use Rattle.std.specs.Prelude.{◌≡◌, ℕ, nat_lt, Bool, true, false, List, ◌∷◌, [], codes, Option, Some, None, option_map, option_and_then, unwrap_or, find, if◌then◌else◌}
 use Rattle.clap.specs.declared.builder.value_parser.ValueParser.TheVariants.{Unsigned}
 use Rattle.http_messages.specs.Fields.{number_of}
 use Rattle.clap.specs.Walk.{answers_to, rows_after}
 use Rattle.clap.specs.Simple.{built, label_of}
 use Rattle.clap.specs.Faults.{fault_of}
 use Rattle.clap.specs.Words.{App, Row, Rule, Text, first_of, new_app, new_rule, with_rule, with_subcommand}
+use Rattle.cli.specs.declared.parse.ServeLimits.{ServeLimits}
 use Rattle.cli.specs.declared.parse.Subcommand.{Subcommand}
 use Rattle.cli.specs.declared.parse.Subcommand.TheVariants as sub
 use Rattle.cli.specs.declared.parse.CommandLine.{CommandLine}
@@ -18,9 +19,9 @@ option_rule id required = record (new_rule id) {
   required = required;
 }
 
--- The rule of an option whose value is a whole number from 1 to 65535.
-abbrev pub number_rule : Text → Bool → Rule
-number_rule id required = record (option_rule id required) { parser = Some (Unsigned 1 65535) }
+-- The rule of an option whose value is a whole number from 1 to `most`.
+abbrev pub number_rule : Text → (most : ℕ) → Bool → Rule
+number_rule id most required = record (option_rule id required) { parser = Some (Unsigned 1 most) }
 
 -- A subcommand with the options that each subcommand has.
 abbrev pub plain_app : Text → App
@@ -28,9 +29,20 @@ plain_app name =
     with_rule (with_rule (with_rule (new_app name) (option_rule (codes "windows") true))
     (option_rule (codes "feed") false)) (option_rule (codes "db") false)
 
+-- `a` with the options that limit connections.
+abbrev pub with_limits : App → App
+with_limits a =
+    with_rule (with_rule (with_rule (with_rule a
+    (number_rule (codes "at-once") 1024 false))
+    (number_rule (codes "message-limit") 65535 false))
+    (number_rule (codes "idle-limit") 65535 false))
+    (number_rule (codes "sending-limit") 65535 false)
+
 abbrev pub serve_app : App
-serve_app = with_rule (with_rule (plain_app (codes "serve")) (number_rule (codes "port") true))
-    (number_rule (codes "connections") false)
+serve_app =
+    with_limits (with_rule (with_rule (with_rule (plain_app (codes "serve"))
+    (number_rule (codes "port") 65535 true)) (number_rule (codes "connections") 65535 false))
+    (option_rule (codes "log") false))
 
 abbrev pub audit_app : App
 audit_app = with_rule (plain_app (codes "audit")) (option_rule (codes "spid") true)
@@ -72,6 +84,22 @@ IsNumberIfAny id rows (Some n) = number_under id rows ≡ Some n
 abbrev pub IsNoNumber : Text → List Row → Type 0
 IsNoNumber id rows = (number : Option ℕ) → ¬ (IsNumberIfAny id rows number)
 
+-- Holds if this is the number of an option, or the default if the option is not given.
+abbrev pub IsNumberOr : Text → (default : ℕ) → List Row → ℕ → Type 0
+IsNumberOr id default rows n =
+    (given : Option ℕ) × IsNumberIfAny id rows given × (n ≡ unwrap_or given default)
+
+-- Holds if these are the limits of connections: 128 at once, 10 seconds for a message, 30 between
+-- messages, and 10 until further bytes are taken, where the options do not say it.
+pub record AreLimits (rows : List Row) (limits : ServeLimits) : Type 0 where
+  pub at_once : IsNumberOr (codes "at-once") 128 rows limits.at_once
+  pub message : IsNumberOr (codes "message-limit") 10 rows limits.message
+  pub idle : IsNumberOr (codes "idle-limit") 30 rows limits.idle
+  pub sending : IsNumberOr (codes "sending-limit") 10 rows limits.sending
+
+abbrev pub AreNoLimits : List Row → Type 0
+AreNoLimits rows = (limits : ServeLimits) → ¬ (AreLimits rows limits)
+
 -- Holds if the name and the rows are this subcommand's.
 abbrev pub IsSubcommand : Text → List Row → Subcommand → Type 0
 IsSubcommand name rows sub.Feed = name ≡ codes "feed"
@@ -79,9 +107,10 @@ IsSubcommand name rows sub.Bulk = name ≡ codes "bulk"
 IsSubcommand name rows sub.Export = name ≡ codes "export"
 IsSubcommand name rows (sub.Audit spid) =
     (name ≡ codes "audit") × (first_of (codes "spid") rows ≡ Some spid.now)
-IsSubcommand name rows (sub.Serve port connections) =
+IsSubcommand name rows (sub.Serve port connections limits log) =
     (name ≡ codes "serve") × (number_under (codes "port") rows ≡ Some port)
-    × IsNumberIfAny (codes "connections") rows connections
+    × IsNumberIfAny (codes "connections") rows connections × AreLimits rows limits
+    × (first_of (codes "log") rows ≡ option_map (λ s. s.now) log)
 
 -- Holds if the name and the rows are no subcommand's.
 abbrev pub IsNoSubcommand : Text → List Row → Type 0

@@ -100,21 +100,27 @@ IsOfFile other = ⊥
 -- Holds for the faults of listening to a port.
 abbrev pub IsOfListening : Fault → Type 0
 IsOfListening fault.Listen = ⊤
+IsOfListening fault.Read = ⊤
 IsOfListening fault.Write = ⊤
 IsOfListening fault.NoMemory = ⊤
 IsOfListening other = ⊥
 
+-- Holds for the faults of listening to a port and serving its connections.
+abbrev pub MayEndListening : Fault → Type 0
+MayEndListening (fault.Open opening.Storage) = ⊤
+MayEndListening other = IsOfListening other
+
 -- Holds for the faults of a subcommand over an open register.
 abbrev pub IsOfSubcommand : Subcommand → Fault → Type 0
 IsOfSubcommand sub.Feed refused = IsOfServing refused
-IsOfSubcommand (sub.Serve port connections) refused = IsOfListening refused
+IsOfSubcommand (sub.Serve port connections limits log) refused = IsOfListening refused
 IsOfSubcommand sub.Bulk refused = IsOfFile refused
 IsOfSubcommand sub.Export refused = IsOfFile refused
 IsOfSubcommand (sub.Audit spid) refused = IsOfFile refused
 
 -- Holds if executing this command line may end with this fault: one of the windows file, of opening
 -- the register, of the file of `--feed`, or of the subcommand. Only a file has other windows, and a
--- device that fails as it is opened.
+-- device that fails as it is opened or while connections are served.
 abbrev pub MayEnd : CommandLine → Fault → Type 0
 MayEnd line (fault.Windows refused) = ⊤
 MayEnd line (fault.Open opening.NoMemory) = ⊤

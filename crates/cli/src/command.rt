@@ -2,7 +2,7 @@
 ghost use Rattle.std.specs.Prelude.{◌≡◌, IfOk, codes, false};
 ghost use Rattle.clap.specs.Words.{app_of, rule_of, new_app, with_rule, with_subcommand};
 ghost use Rattle.clap.specs.declared.builder.command.Command.TheViews.{out-Command};
-ghost use Rattle.cli.specs.CommandLine.{audit_app, number_rule, option_rule, plain_app, serve_app, npacd_app, with_files, with_serving, with_version, with_wanted_subcommand};
+ghost use Rattle.cli.specs.CommandLine.{audit_app, number_rule, option_rule, plain_app, serve_app, npacd_app, with_files, with_limits, with_serving, with_version, with_wanted_subcommand};
 
 use clap::builder::ValueParser;
 use clap::{Arg, Command};
@@ -23,13 +23,28 @@ fn option<'a>(alloc: Global, id: &'a str, value: &'a str, help: &'a str, require
         .required(required)
 }
 
-// Creates an option with a whole number from 1 to 65535 as its value.
-fn number<'a>(alloc: Global, id: &'a str, value: &'a str, help: &'a str, required: bool) -> Arg<'a>
-    ensures rule { rule_of result ≡ number_rule id.entry.now required }
+// Creates an option with a whole number from 1 to `most` as its value.
+fn number_up_to<'a>(
+    alloc: Global,
+    most: u64,
+    id: &'a str,
+    value: &'a str,
+    help: &'a str,
+    required: bool,
+) -> Arg<'a>
+    ensures rule { rule_of result ≡ number_rule id.entry.now most required }
     ensures local { result.global ≡ false }
 {
-    let parser = ValueParser::unsigned(1, 65_535);
+    let parser = ValueParser::unsigned(1, most);
     option(alloc, id, value, help, required).value_parser(parser)
+}
+
+// Creates an option with a whole number from 1 to 65535 as its value.
+fn number<'a>(alloc: Global, id: &'a str, value: &'a str, help: &'a str, required: bool) -> Arg<'a>
+    ensures rule { rule_of result ≡ number_rule id.entry.now 65535 required }
+    ensures local { result.global ≡ false }
+{
+    number_up_to(alloc, 65_535, id, value, help, required)
 }
 
 // Adds an option to a command.
@@ -81,6 +96,39 @@ fn plain<'a>(alloc: Global, name: &'a str, about: &'a str) -> Result<Command<'a>
     )
 }
 
+// Adds an option with a whole number from 1 to `most` to a command.
+fn with_number<'a>(
+    alloc: Global,
+    command: Command<'a>,
+    most: u64,
+    id: &'a str,
+    value: &'a str,
+    help: &'a str,
+) -> Result<Command<'a>, AllocError>
+    requires { (out-Command command).has_globals ≡ false }
+    ensures { IfOk result (λ c.
+        (app_of c ≡ with_rule (app_of command.entry) (number_rule id.entry.now most false))
+        × ((out-Command c).has_globals ≡ false)) }
+{
+    command.arg(number_up_to(alloc, most, id, value, help, false))
+}
+
+// Adds the options that limit connections.
+fn with_limits<'a>(alloc: Global, command: Command<'a>) -> Result<Command<'a>, AllocError>
+    requires { (out-Command command).has_globals ≡ false }
+    ensures { IfOk result (λ c. (app_of c ≡ with_limits (app_of command.entry))
+        × ((out-Command c).has_globals ≡ false)) }
+{
+    let help = "Serve so many connections at once; 128 if not given";
+    let command = with_number(alloc, command, 1024, "at-once", "M", help)?;
+    let help = "Close a connection whose message takes longer; 10 if not given";
+    let command = with_number(alloc, command, 65_535, "message-limit", "SECONDS", help)?;
+    let help = "Close a connection that is silent for longer between messages; 30 if not given";
+    let command = with_number(alloc, command, 65_535, "idle-limit", "SECONDS", help)?;
+    let help = "Close a connection that takes no bytes of a response for longer; 10 if not given";
+    with_number(alloc, command, 65_535, "sending-limit", "SECONDS", help)
+}
+
 // Creates the subcommand that listens to a port.
 fn serve<'a>(alloc: Global) -> Result<Command<'a>, AllocError>
     ensures { IfOk result (λ c. (app_of c ≡ serve_app) × ((out-Command c).has_globals ≡ false)) }
@@ -98,7 +146,14 @@ fn serve<'a>(alloc: Global) -> Result<Command<'a>, AllocError>
         "End after so many connections",
         false,
     );
-    command.arg(port)?.arg(connections)
+    let log = option(
+        alloc,
+        "log",
+        "FILE",
+        "Append a line for each connection; - is standard error",
+        false,
+    );
+    with_limits(alloc, command.arg(port)?.arg(connections)?.arg(log)?)
 }
 
 // Creates the subcommand that compares a carrier's copy.

@@ -3,19 +3,24 @@ ghost use Rattle.std.specs.Prelude.{◌≡◌, ◌<◌, ◌≤◌, ◌/◌, ◌^
 ghost use Rattle.std.specs.Duration.{as_nanos};
 ghost use Rattle.model.specs.State.{State};
 ghost use Rattle.register.specs.Refinement.{Refines};
+ghost use Rattle.settle.specs.Reads.{HasDeviceFailed};
 ghost use Rattle.api.specs.Serving.{RefinesReachable};
-ghost use Rattle.cli.specs.Listening.{ReportsListening, listening_line};
+ghost use Rattle.connections.specs.Rows.{RowsFollow};
+ghost use Rattle.cli.specs.Listening.{IsBeforeServing, ReportsListening, listening_line};
 
 use crate::fault::Fault;
+use crate::parse::ServeLimits;
 use crate::running::BUFFER_SIZE;
 use api::{Options, Served, Ticks, serve};
+use connections::{Limits, ServerFault, serve_many};
 use http_messages::send_all;
+use mio::net::TcpListener;
 use numbers::Minute;
-use register::Register;
+use register::{OpenFault, Register};
 use settle::Store;
 use std::alloc::{AllocError, Global};
 use std::io::{BufWriter, Read, Write};
-use std::net::{Ipv4Addr, Net, OpenListener, OpenStream, TcpListener};
+use std::net::{Ipv4Addr, Net, OpenListener, OpenStream, SocketAddr};
 use std::time::{Clock, Duration};
 
 /// How long a connection may stay silent before it ends, in seconds. All others wait meanwhile.
@@ -45,16 +50,6 @@ impl<T: Clock> Ticks for MachineMinutes<'_, T> {
     }
 }
 
-// Opens a listener at a port of 127.0.0.1. No clause knows the address that is bound.
-fn listener_at<T: Net>(rt: &T, port: u16) -> Result<T::Listener, Fault>
-    ensures { IfErr result (λ fault. fault ≡ Fault.Listen) }
-{
-    match TcpListener::bind(rt, (Ipv4Addr::LOCALHOST, port)) {
-        Ok(listener) => Ok(listener),
-        Err(_) => Err(Fault::Listen),
-    }
-}
-
 // Returns the line for an open port.
 fn listening_line(alloc: Global, port: u16) -> Result<String, AllocError>
     ensures { IfOk result (λ line. string_bytes line ≡ listening_line port) }
@@ -64,7 +59,8 @@ fn listening_line(alloc: Global, port: u16) -> Result<String, AllocError>
 
 // Writes the line for an open port, and flushes.
 fn report_listening<W: Write>(alloc: Global, port: u16, writer: &mut W) -> Result<(), Fault>
-    ensures { ReportsListening port (W.contents writer.old) (W.contents writer.new) result }
+    ensures reports { ReportsListening port (W.contents writer.old) (W.contents writer.new) result }
+    ensures before { IfErr result IsBeforeServing }
 {
     let line = match listening_line(alloc, port) {
         Ok(line) => line,
@@ -167,39 +163,74 @@ where
     }
 }
 
+impl From<ServeLimits> for Limits {
+    ghost use Rattle.connections.specs.Waits.{AreLimits};
+
+    ghost from_gives = { λ given limits.
+        AreLimits given.at_once given.message given.idle 1 given.sending 2 limits };
+
+    fn from(limits: ServeLimits) -> Limits {
+        Limits::new(
+            usize::from(limits.at_once),
+            u64::from(limits.message),
+            u64::from(limits.idle),
+            u64::from(limits.sending),
+        )
+    }
+}
+
 /// Listens at a port of 127.0.0.1, writes the line `listening on 127.0.0.1:PORT` to `writer`, and
-/// then serves connections, as `serve_connections` does.
+/// then serves connections, as `serve_many` does, with a line in `log` for each.
 ///
 /// The content afterwards refines a state that the machine can reach. Not proved: the address that
 /// is bound, and that the line is flushed before the first connection is accepted.
 ///
 /// # Errors
 ///
-/// No connection was accepted, and the register is as it was.
 /// - `Listen` if the port cannot be opened. Nothing is written.
-/// - `NoMemory` if an allocation fails. Nothing is written.
+/// - `NoMemory` if an allocation fails before the first connection is accepted.
 /// - `Write` if the writer fails. A prefix of the line may be written.
-pub fn listen<T: AllocGlobal + Net + Clock, S: Store, W: Write>(
+/// - `Read` if the system does not report what is ready.
+/// - `Open(Storage)` if the device failed, and the store did not answer after that.
+///
+/// After `Listen`, `NoMemory` and `Write`, no connection was accepted and the register is as it was.
+pub fn listen<T: AllocGlobal + Net + Clock, S: Store, W: Write, L: Write>(
     rt: &T,
     register: &mut Register<S>,
     port: u16,
     connections: Option<u16>,
+    limits: Limits,
     writer: &mut W,
+    log: &mut L,
 ) -> Result<(), Fault>
     ensures reports { ReportsListening port (W.contents writer.old) (W.contents writer.new) result }
-    ensures untouched { IfErr result (λ _. register.new ≡ register.old) }
-    ensures state { S.IsUsable register.new.store → (st : State)
-        → Refines (S.content register.old.store) st
-        → RefinesReachable st (S.content register.new.store) }
-    ensures usable { S.IsUsable register.new.store → S.IsUsable register.old.store }
-    ensures rises { S.failed register.old.store ≤ S.failed register.new.store }
+    ensures untouched { IfErr result
+        (λ fault. IsBeforeServing fault → register.new ≡ register.old) }
+    ensures storage { IfErr result (λ fault. fault ≡ Fault.Open OpenFault.Storage
+        → HasDeviceFailed (S.failed register.old.store) (S.failed register.new.store)) }
+    ensures follows { RowsFollow S.StoreModel register.old.store register.new.store }
 {
-    let listener = match listener_at(rt, port) {
+    let address = SocketAddr::from((Ipv4Addr::LOCALHOST, port));
+    let listener = match TcpListener::bind(rt, address) {
         Ok(listener) => listener,
         Err(_) => return Err(Fault::Listen),
     };
-    report_listening(rt.alloc(), port, writer)?;
+    let alloc = rt.alloc();
+    report_listening(alloc, port, writer)?;
     let mut ticks = MachineMinutes { clock: rt };
-    serve_connections(rt.alloc(), &listener, register, &mut ticks, connections);
-    Ok(())
+    match serve_many(
+        rt,
+        alloc,
+        listener,
+        register,
+        &mut ticks,
+        connections,
+        limits,
+        log,
+    ) {
+        Ok(()) => Ok(()),
+        Err(ServerFault::NoMemory) => Err(Fault::NoMemory),
+        Err(ServerFault::Poll) => Err(Fault::Read),
+        Err(ServerFault::Storage) => Err(Fault::Open(OpenFault::Storage)),
+    }
 }

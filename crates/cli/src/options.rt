@@ -2,11 +2,23 @@
 ghost use Rattle.std.specs.Prelude.{◌≡◌, IfErr, IfOk, option_map, codes};
 ghost use Rattle.http_messages.specs.Fields.{number_of as number_in};
 ghost use Rattle.clap.specs.Words.{first_of, rows_of, found_of};
-ghost use Rattle.cli.specs.CommandLine.{IsLineOf, IsNoLineOf, IsNoNumber, IsNoSubcommand, IsNumberIfAny, IsSubcommand, number_under, small_number};
+ghost use Rattle.cli.specs.CommandLine.{AreLimits, AreNoLimits, IsLineOf, IsNoLineOf, IsNoNumber, IsNoSubcommand, IsNumberIfAny, IsNumberOr, IsSubcommand, number_under, small_number};
 
-use crate::parse::{CommandLine, Subcommand};
+use crate::parse::{CommandLine, ServeLimits, Subcommand};
 use clap::ArgMatches;
 use http_messages::read_number;
+
+// How many connections are served at once, unless the command line says it.
+const AT_ONCE: u16 = 128;
+
+// How many seconds a message may take, unless the command line says it.
+const MESSAGE_SECONDS: u16 = 10;
+
+// How many seconds a connection may stay silent between messages, unless the command line says it.
+const IDLE_SECONDS: u16 = 30;
+
+// How many seconds a client may take no bytes, unless the command line says it.
+const SENDING_SECONDS: u16 = 10;
 
 /// The fault that `clap` found no known subcommand, or not its options.
 #[derive(Clone, Copy, PartialEq, Eq, Debug)]
@@ -50,7 +62,28 @@ fn number_if_any(matches: &ArgMatches<'_>, id: &str) -> Result<Option<u16>, NoLi
     }
 }
 
-// Returns the port and the number of connections of `serve`.
+// Returns the number given for an option, or `default` if the option is not given.
+fn number_or(matches: &ArgMatches<'_>, id: &str, default: u16) -> Result<u16, NoLine>
+    ensures given { IfOk result (IsNumberOr id.now default (rows_of (found_of matches.now))) }
+    ensures none { IfErr result (λ _. IsNoNumber id.now (rows_of (found_of matches.now))) }
+{
+    Ok(number_if_any(matches, id)?.unwrap_or(default))
+}
+
+// Returns the limits of `serve`.
+fn limits_of(matches: &ArgMatches<'_>) -> Result<ServeLimits, NoLine>
+    ensures given { IfOk result (AreLimits (rows_of (found_of matches.now))) }
+    ensures none { IfErr result (λ _. AreNoLimits (rows_of (found_of matches.now))) }
+{
+    Ok(ServeLimits {
+        at_once: number_or(matches, "at-once", AT_ONCE)?,
+        message: number_or(matches, "message-limit", MESSAGE_SECONDS)?,
+        idle: number_or(matches, "idle-limit", IDLE_SECONDS)?,
+        sending: number_or(matches, "sending-limit", SENDING_SECONDS)?,
+    })
+}
+
+// Returns the port, the number of connections, the limits and the log of `serve`.
 fn serve_of<'a>(matches: &ArgMatches<'a>) -> Result<Subcommand<'a>, NoLine>
     ensures given { IfOk result (IsSubcommand (codes "serve") (rows_of (found_of matches.now))) }
     ensures none { IfErr result (λ _. IsNoSubcommand (codes "serve")
@@ -60,7 +93,12 @@ fn serve_of<'a>(matches: &ArgMatches<'a>) -> Result<Subcommand<'a>, NoLine>
         return Err(NoLine);
     };
     let connections = number_if_any(matches, "connections")?;
-    Ok(Subcommand::Serve { port, connections })
+    Ok(Subcommand::Serve {
+        port,
+        connections,
+        limits: limits_of(matches)?,
+        log: text_of(matches, "log"),
+    })
 }
 
 // Returns the carrier of `audit`.

@@ -12,6 +12,16 @@ use clap::error::ErrorKind;
 use std::alloc::Global;
 use std::convert::AsStr;
 
+/// How many connections are served at once, and how many seconds each may wait: for the rest of a
+/// message, for the next message, and until the client takes further bytes.
+#[derive(Clone, Copy, PartialEq, Eq, Debug)]
+pub struct ServeLimits {
+    pub at_once: u16,
+    pub message: u16,
+    pub idle: u16,
+    pub sending: u16,
+}
+
 /// A subcommand with its own options.
 #[derive(Clone, Copy, PartialEq, Eq, Debug)]
 pub enum Subcommand<'a> {
@@ -21,6 +31,9 @@ pub enum Subcommand<'a> {
     Serve {
         port: u16,
         connections: Option<u16>,
+        limits: ServeLimits,
+        /// The path of the log, `-` for standard error, or `None` for no log.
+        log: Option<&'a str>,
     },
     /// Runs the bulk file on standard input, and writes its report to standard output.
     Bulk,

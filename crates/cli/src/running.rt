@@ -7,11 +7,12 @@ ghost use Rattle.sqlite.specs.WalFiles.{image_at};
 ghost use Rattle.std.specs.IoError.{error_kind};
 ghost use Rattle.std.specs.Io.Buffered.{writer_buffer, writer_contents, writer_inner};
 ghost use Rattle.model.specs.State.{first_state};
+ghost use Rattle.settle.specs.Reads.{HasDeviceFailed};
 ghost use Rattle.model.specs.Windows.{Windows as WindowsModel};
 ghost use Rattle.version.specs.Abstraction.{windows_of};
 ghost use Rattle.register.specs.Refinement.{Refines};
 ghost use Rattle.cli.specs.Feeding.{Feeds, io_of_feed, outcome_of};
-ghost use Rattle.cli.specs.Faults.{IsOfFeeding, IsOfNewFeeding, IsOfReading, IsOfServing, IsOfWindows, MayEnd, MayEndOverFile, fault_of_opening};
+ghost use Rattle.cli.specs.Faults.{IsOfFeeding, IsOfNewFeeding, IsOfReading, IsOfServing, IsOfWindows, MayEnd, MayEndListening, MayEndOverFile, fault_of_opening};
 ghost use Rattle.cli.specs.Reporting.{Ends};
 ghost use Rattle.cli.specs.declared.parse.CommandLine.{CommandLine as CommandLineImpl};
 ghost use Rattle.cli.specs.WindowsFile.{DefinesWindows, IsFaultOfBytes};
@@ -22,6 +23,7 @@ use crate::parse::{CommandLine, Subcommand, parse};
 use crate::reporting::{report_outcome, report_usage};
 use api::{End, NoTicks, Options, Served, serve};
 use bulk::{BulkFault, FaultKind, audit, export, run_file};
+use connections::Limits;
 use numbers::Spid;
 use register::{OpenFault, Register};
 use settle::Store;
@@ -31,9 +33,7 @@ use std::alloc::Global;
 use std::convert::AsStr;
 use std::fs::File;
 use std::io::{BufWriter, ErrorKind, Read, Write};
-use std::net::Net;
 use std::rt::Files;
-use std::time::Clock;
 use std::{fs, io};
 use store::MemoryStore;
 use windows::{WindowFault, Windows};
@@ -300,15 +300,50 @@ fn file_outcome(ran: Result<u64, BulkFault>) -> Result<(), Fault>
     }
 }
 
-// Serves the file of `--feed` to a register, and then executes the subcommand.
-fn run_on<T: Files + AllocGlobal + Net + Clock, S: Store, R: Read, W: Write>(
-    rt: &T,
+// Opens the port, and serves its connections. Appends to the file `log`, if there is one, or writes
+// to standard error if it is `-`.
+fn listen_logging<S: Store, W: Write>(
+    rt: &HostRuntime,
+    register: &mut Register<S>,
+    port: u16,
+    connections: Option<u16>,
+    limits: Limits,
+    log: Option<&str>,
+    writer: &mut W,
+) -> Result<(), Fault>
+    ensures fault { IfErr result MayEndListening }
+    ensures storage { IfErr result (λ fault. fault ≡ Fault.Open OpenFault.Storage
+        → HasDeviceFailed (S.failed register.old.store) (S.failed register.new.store)) }
+    ensures rises { S.failed register.old.store ≤ S.failed register.new.store }
+{
+    match log {
+        None => {
+            let mut sink = io::sink();
+            listen(rt, register, port, connections, limits, writer, &mut sink)
+        }
+        Some(path) if path == "-" => {
+            let stderr = rt.stderr();
+            let mut errors = io::writer(&stderr);
+            listen(rt, register, port, connections, limits, writer, &mut errors)
+        }
+        Some(path) => match File::options().append(true).create(true).open(rt, path) {
+            Ok(mut file) => listen(rt, register, port, connections, limits, writer, &mut file),
+            Err(_) => Err(Fault::Write),
+        },
+    }
+}
+
+// Serves the file of `--feed` to a register, and then executes the subcommand. Without a failure of
+// the device, `storage` does not come.
+fn run_on<S: Store, R: Read, W: Write>(
+    rt: &HostRuntime,
     register: &mut Register<S>,
     line: &CommandLine<'_>,
     reader: &mut R,
     writer: &mut W,
 ) -> Result<(), Fault>
-    ensures { IfErr result (MayEnd line.now) }
+    ensures fault { IfErr result (MayEndOverFile line.now) }
+    ensures new { S.failed register.new.store ≡ 0 → IfErr result (MayEnd line.now) }
 {
     let alloc = rt.alloc();
     if let Some(path) = line.feed {
@@ -316,7 +351,15 @@ fn run_on<T: Files + AllocGlobal + Net + Clock, S: Store, R: Read, W: Write>(
     }
     match line.subcommand {
         Subcommand::Feed => feed_buffered_to(alloc, register, reader, writer),
-        Subcommand::Serve { port, connections } => listen(rt, register, port, connections, writer),
+        Subcommand::Serve {
+            port,
+            connections,
+            limits,
+            log,
+        } => {
+            let limits = Limits::from(limits);
+            listen_logging(rt, register, port, connections, limits, log, writer)
+        }
         Subcommand::Bulk => file_outcome(run_file(alloc, register, reader, writer)),
         Subcommand::Export => file_outcome(export(alloc, register, writer)),
         Subcommand::Audit { spid } => match Spid::read(spid) {
@@ -327,8 +370,8 @@ fn run_on<T: Files + AllocGlobal + Net + Clock, S: Store, R: Read, W: Write>(
 }
 
 // Executes a command line over a store, and returns the store.
-fn run_over<T: Files + AllocGlobal + Net + Clock, S: Store, R: Read, W: Write>(
-    rt: &T,
+fn run_over<S: Store, R: Read, W: Write>(
+    rt: &HostRuntime,
     store: S,
     windows: &Windows,
     line: &CommandLine<'_>,

@@ -1,7 +1,7 @@
 //! Tests command lines, executed whole, with files that the test makes.
-use super::connections::{CUT, FIRST, LAST, new_listener};
+use super::one_by_one::{CUT, FIRST, LAST, new_listener};
 use crate::messages::WINDOWS;
-use cli::parse::{CommandLine, Subcommand, parse};
+use cli::parse::{CommandLine, ServeLimits, Subcommand, parse};
 use cli::{run, words_of};
 use std::alloc::{AllocError, Global};
 use std::env::{Env, FillError};
@@ -113,7 +113,7 @@ static HELP: [LineCase<'static>; 3] = [
 
 // Faults; the first in this order is reported: of the windows file, then of the file of messages,
 // then of the input.
-static FAULTS: [LineCase<'static>; 10] = [
+static FAULTS: [LineCase<'static>; 11] = [
     (
         "npacd feed --windows narrow.toml",
         FIRST,
@@ -155,6 +155,13 @@ static FAULTS: [LineCase<'static>; 10] = [
         1,
         NO_OUTPUT,
         Some("npacd: cut_body\n"),
+    ),
+    (
+        "npacd serve --windows good.toml --port 1 --log none/log",
+        "",
+        3,
+        NO_OUTPUT,
+        Some("npacd: write\n"),
     ),
     (
         "npacd feed --windows good.toml",
@@ -394,8 +401,16 @@ fn are_lines(alloc: Global) -> Option<bool> {
     let subcommand = Subcommand::Serve {
         port: 65_535,
         connections: Some(3),
+        limits: ServeLimits {
+            at_once: 1024,
+            message: 1,
+            idle: 2,
+            sending: 65_535,
+        },
+        log: Some("-"),
     };
-    let text = "npacd serve --feed f --connections 3 --port 65535 --windows w";
+    let text = "npacd serve --feed f --connections 3 --port 65535 --windows w --at-once 1024 \
+        --message-limit 1 --idle-limit 2 --sending-limit 65535 --log -";
     let all = is_line(
         alloc,
         text,
@@ -409,6 +424,13 @@ fn are_lines(alloc: Global) -> Option<bool> {
     let subcommand = Subcommand::Serve {
         port: 1,
         connections: None,
+        limits: ServeLimits {
+            at_once: 128,
+            message: 10,
+            idle: 30,
+            sending: 10,
+        },
+        log: None,
     };
     let feed = None;
     let text = "npacd serve --windows=w --port=1";

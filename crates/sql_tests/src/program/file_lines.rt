@@ -1,7 +1,7 @@
 //! Tests command lines of bulk files, exports and audits, executed whole, with files that the test
 //! makes.
 use super::command_lines::{LineCase, NO_OUTPUT, first_wrong_line, words_in};
-use super::connections::{CUT, LAST};
+use super::one_by_one::{CUT, LAST};
 use crate::messages::WINDOWS;
 use cli::run;
 use std::env::Env;

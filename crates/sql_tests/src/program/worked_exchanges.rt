@@ -1,5 +1,5 @@
 //! Tests worked exchanges over a real listener, with a minute supplied for each request.
-use super::connections::{connect_client, new_listener, new_register, read_responses};
+use super::one_by_one::{connect_client, new_listener, new_register, read_responses};
 use crate::messages::encode_request;
 use api::Ticks;
 use cli::serve_next;

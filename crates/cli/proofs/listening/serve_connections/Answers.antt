@@ -1,5 +1,5 @@
 use Rattle.std.proofs.Math.Nat.{le_trans}
-use Rattle.cli.proofs.Following.{follows_then}
+use Rattle.connections.proofs.RowsLemmas.{follows_then}
 use Rattle.cli.proofs.listening.serve_connections.Goals as goal
 
 pub loop-preserved : goal.loop-preserved
