@@ -8,23 +8,11 @@ included. In memory the best of three runs each; with the word `file` the regist
 import re
 
 from lib.measure import counts, folder
-from lib.messages import acknowledgement, question
-from lib.numbers import CARRIERS, opening, port
+from lib.numbers import CARRIERS, opening, port, to_the_end
 from lib.program import Fed, high_water
 from lib.report import of_processor, print_growth
 
 CALLER = CARRIERS[3]
-AT_ONCE = 100
-
-
-def to_the_end(count):
-    """A hundred fetched and a hundred acknowledged by turns, and a last fetch of nothing."""
-    fetch = question(CALLER, f"/downloads/{AT_ONCE}")
-    for first in range(0, count, AT_ONCE):
-        yield fetch
-        for version in range(first + 1, min(first + AT_ONCE, count) + 1):
-            yield acknowledgement(CALLER, version)
-    yield fetch
 
 
 def check(answers, count):
@@ -41,7 +29,7 @@ def fetching(count, answers, words):
     with Fed(answers, *words) as fed:
         fed.feed(opening())
         fed.feed(text for place in range(count) for text in port(place).sent())
-        taken = fed.feed(to_the_end(count))
+        taken = fed.feed(to_the_end(CALLER, count))
         memory = high_water(fed.process)
     check(answers, count)
     return taken, memory

@@ -1,7 +1,7 @@
 """Carriers, and the number, the providers and the version at each place: among ten carriers, and between two."""
 from typing import NamedTuple
 
-from lib.messages import acknowledgement, message, on_version, opened, registered, routed, said
+from lib.messages import acknowledgement, message, on_version, opened, question, registered, routed, said
 
 CARRIERS = [letter * 4 for letter in "ABCDEFGHIJ"]
 TWO = CARRIERS[:2]
@@ -91,6 +91,16 @@ def ported(count):
     yield from opening()
     for place in range(count):
         yield from port(place).whole()
+
+
+def to_the_end(caller, count, at_once=100):
+    """Fetches and acknowledgements by turns of so many downloads, and a last fetch of nothing."""
+    fetch = question(caller, f"/downloads/{at_once}")
+    for first in range(0, count, at_once):
+        yield fetch
+        for version in range(first + 1, min(first + at_once, count) + 1):
+            yield acknowledgement(caller, version)
+    yield fetch
 
 
 def query(turn, ports):

@@ -106,16 +106,23 @@ class Fed:
 
 
 @contextmanager
-def served(connections, *words):
-    """The port at which the program listens, for so many connections, after which it has to end by itself."""
+def serving(*words, program=PROGRAM, environment=None):
+    """The program while it serves, and the port at which it listens."""
     with socket.socket() as probe:
         probe.bind(("127.0.0.1", 0))
         port = probe.getsockname()[1]
-    line = command_line("serve", "--port", str(port), "--connections", str(connections), *words)
-    with subprocess.Popen(line, stdout=subprocess.PIPE) as process:
+    line = command_line("serve", "--port", str(port), *words, program=program)
+    with subprocess.Popen(line, stdout=subprocess.PIPE, stderr=subprocess.PIPE, env=environment) as process:
         try:
             assert process.stdout.readline() == f"listening on 127.0.0.1:{port}\n".encode()
-            yield port
-            assert process.wait() == 0
+            yield process, port
         finally:
             process.kill()
+
+
+@contextmanager
+def served(connections, *words):
+    """The port at which the program listens, for so many connections, after which it has to end by itself."""
+    with serving("--connections", str(connections), *words) as (process, port):
+        yield port
+        assert process.wait() == 0

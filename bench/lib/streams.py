@@ -1,6 +1,7 @@
 """The streams over which two programs stand side by side."""
 from lib.messages import clock, message, on_version, registered
-from lib.numbers import next_door, opening_of_two, port, port_of_two, ported, ported_of_two, query
+from lib.numbers import CARRIERS, next_door, opening, opening_of_two, port, port_of_two, ported, ported_of_two, query, to_the_end
+from lib.pool import rows
 
 # past every window of the examples
 LATER = 100_000
@@ -49,6 +50,20 @@ def mix(numbers, count):
             turn += 9
 
 
+def pooled(blocks):
+    """Blocks from donation to holder, with queries of their numbers."""
+    return (message for message, _ in rows(blocks))
+
+
+def lagging(count):
+    """Ports that one carrier leaves pending. It then fetches and acknowledges them."""
+    late = CARRIERS[3]
+    yield from opening()
+    for place in range(count):
+        yield from port(place).whole([carrier for carrier in CARRIERS if carrier != late])
+    yield from to_the_end(late, count)
+
+
 def streams(divisor):
     """The name and the messages of each stream, cut to a part of its size."""
     def part(count):
@@ -60,3 +75,5 @@ def streams(divisor):
     yield "400,000 ports, then a registration", active(part(400_000))
     yield "400,000 windows that end in one jump", jump(part(400_000))
     yield "nine queries in ten", mix(part(10_000), part(12_000))
+    yield "1,000 pooled blocks", pooled(part(1_000))
+    yield "a carrier 100,000 downloads behind", lagging(part(100_000))
