@@ -10,7 +10,7 @@ use Rattle.http_messages.specs.declared.arrived.Arrived.TheVariants.{Message, Re
 use Rattle.http_messages.specs.declared.fault.MessageFault.{MessageFault}
 use Rattle.http_messages.specs.declared.message.NextMessage.{NextMessage}
 use Rattle.http_messages.specs.declared.message.NextMessage.TheVariants as next
-use Rattle.http_messages.proofs.FrontLemmas.{message_at, nothing_at, refused_at}
+use Rattle.http_messages.proofs.AtHandLemmas.{message_at, nothing_at, refused_at}
 use Rattle.api.specs.Executing.{IsNextOf, IsReady, body_of}
 use Rattle.api.proofs.Going.{ReadsFor, buffered_ahead}
 use Rattle.api.specs.Serving.{end_of}

@@ -3,7 +3,7 @@ use Rattle.std.proofs.Common.{◌≡◌, ℕ, List, [], ◌∷◌, ◌++◌, dro
 use Rattle.std.proofs.lemmas.Grind.{flat_map-append}
 use Rattle.std.proofs.lemmas.List.{map-append}
 use Rattle.model.specs.State.{State}
-use Rattle.http_messages.proofs.FrontLemmas.{message_more}
+use Rattle.http_messages.proofs.AtHandLemmas.{message_more}
 use Rattle.api.specs.Run.{Exchange, Run, responses, ticks_of}
 use Rattle.api.specs.Ticks.{ConsumesTick, ConsumesTicks, later_ticks}
 use Rattle.connections.specs.Schedules.{Begins, Chain}

@@ -9,7 +9,7 @@ use Rattle.http_messages.specs.Arrived.{HasArrived}
 use Rattle.http_messages.specs.Parsing.{ParsesAs, RefusedMessage, WholeMessage}
 use Rattle.http_messages.specs.declared.arrived.Arrived.TheVariants as arrived
 use Rattle.http_messages.specs.declared.fault.MessageFault.{MessageFault}
-use Rattle.http_messages.proofs.FrontLemmas.{message_more}
+use Rattle.http_messages.proofs.AtHandLemmas.{message_more}
 use Rattle.api.specs.Executing.{Executes, ExecutesTo, consumed_of}
 use Rattle.api.specs.Run.{Exchange, responses, ticks_of}
 use Rattle.api.specs.Serving.{AfterClose, AfterExchanges, AfterPartialResponse, AfterRefusal, IoTrace, IsNextResponse, message_refusal_text}

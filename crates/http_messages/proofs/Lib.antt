@@ -1,11 +1,12 @@
 mod Appending
 mod ArrivedLemmas
+pub mod AtHandLemmas
 mod BlankLemmas
 mod BufferLemmas
 mod FieldLemmas
-pub mod FrontLemmas
 mod NumberLemmas
 mod ParseLemmas
 mod PathLemmas
+mod PlainLemmas
 mod ReadLemmas
 mod UniqueHeads

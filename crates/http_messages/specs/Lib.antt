@@ -4,6 +4,7 @@ pub mod Parsing
 pub mod Faults
 pub mod Fields
 pub mod Head
+pub mod Plain
 pub mod ReadBuffer
 pub mod Reading
 pub mod Sending

@@ -1,14 +1,16 @@
 //! Reads the next message of bytes that have arrived.
-ghost use Rattle.std.specs.Prelude.{◌≡◌, ℕ, List, length};
+ghost use Rattle.std.specs.Prelude.{◌≡◌, ℕ, ◌≤◌, List, length};
 ghost use Rattle.httparse.specs.Grammar.{HasNoRequest};
 ghost use Rattle.http_messages.specs.Arrived.{HasArrived, IsStart};
 ghost use Rattle.http_messages.specs.Blank.{is_blank};
+ghost use Rattle.http_messages.specs.Plain.{IsHeadIn};
 ghost use Rattle.http_messages.specs.Table.{table};
 
 use crate::fault::MessageFault;
 use crate::head::{HeadParse, parse_head};
 use crate::message::{Request, request_of};
 use crate::paths::Route;
+use crate::plain::plain_head;
 use crate::read_buffer::HEAD_LIMIT;
 use httparse::spans::HeaderSpan;
 use matchit::Router;
@@ -63,6 +65,23 @@ fn without_head(start: &[u8], has_ended: bool) -> Arrived
     }
 }
 
+// Returns what bytes with a whole head are: a message if its body has arrived too.
+fn with_head(input: &[u8], has_ended: bool, request: Request, head: usize) -> Arrived
+    requires head { IsHeadIn input.now request head }
+    requires short { head ≤ 8192 }
+    requires small { request.length ≤ 1048576 }
+    ensures { HasArrived input.now has_ended result }
+{
+    let whole = head + request.length;
+    if whole <= input.len() {
+        Arrived::Message { request, head }
+    } else if has_ended {
+        Arrived::Refused(MessageFault::CutBody)
+    } else {
+        Arrived::Part { wanted: whole }
+    }
+}
+
 /// Returns what `input` begins with, the bytes that have arrived. `has_ended` says that no more
 /// will.
 ///
@@ -80,6 +99,9 @@ pub fn next_arrived(
     ensures arrived { HasArrived input.now has_ended result }
 {
     let start = &input[..input.len().min(HEAD_LIMIT)];
+    if let Some((request, head)) = plain_head(start, router) {
+        return with_head(input, has_ended, request, head);
+    }
     let spans = match parse_head(start, headers) {
         HeadParse::Head(spans) => spans,
         HeadParse::Bad => return Arrived::Refused(MessageFault::BadHead),
@@ -89,15 +111,5 @@ pub fn next_arrived(
         Ok(request) => request,
         Err(fault) => return Arrived::Refused(fault),
     };
-    let whole = spans.len + request.length;
-    if whole <= input.len() {
-        Arrived::Message {
-            request,
-            head: spans.len,
-        }
-    } else if has_ended {
-        Arrived::Refused(MessageFault::CutBody)
-    } else {
-        Arrived::Part { wanted: whole }
-    }
+    with_head(input, has_ended, request, spans.len)
 }

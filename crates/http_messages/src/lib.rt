@@ -8,6 +8,7 @@ mod laws;
 mod message;
 mod next;
 mod paths;
+mod plain;
 mod read_buffer;
 mod send;
 

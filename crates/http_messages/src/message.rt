@@ -38,7 +38,7 @@ pub enum NextMessage {
 }
 
 // Returns the provider that the bytes name.
-fn parse_spid(value: &[u8]) -> Option<Spid>
+pub(crate) fn parse_spid(value: &[u8]) -> Option<Spid>
     ensures { IsNamed value.now result }
 {
     match str::from_utf8(value) {

@@ -1,5 +1,5 @@
-use Rattle.std.proofs.Common.{inr, arith, take}
-use Rattle.http_messages.proofs.ArrivedLemmas.{begins_with, body_cut, body_missing, body_wanted, head_refused, is_start, overflow_arrived, whole_at}
+use Rattle.std.proofs.Common.{take}
+use Rattle.http_messages.proofs.ArrivedLemmas.{begins_with, head_refused, is_start, overflow_arrived}
 use Rattle.http_messages.proofs.arrived.next_arrived.Goals as goal
 
 pub returns-in-Bad-clause-arrived : goal.returns-in-Bad-clause-arrived
@@ -19,33 +19,3 @@ returns-in-Err-clause-arrived c =
     at.1.reads at.1.len at.2 in
     λ more may. head_refused c.args.input.now c.in-Head.spans.len at.0 begins c.in-Err.fault
     (c.in-Err.ensures.refuses at.0 at.1) more
-
-pub returns-then-whole-input-clause-arrived : goal.returns-then-whole-input-clause-arrived
-returns-then-whole-input-clause-arrived c =
-    let at = c.in-Head.ensures.1 in
-    let begins = begins_with c.min.result c.args.input.now c.in-Head.spans.len at.0 c.min.ensures
-    at.1.reads at.1.len at.2 in
-    whole_at c.args.input.now c.in-Head.spans.len at.0 begins c.in-Ok.request
-    (c.in-Ok.ensures.asks at.0 at.1) c.in-Ok.ensures.small c.if-whole-input.true
-
-pub returns-then-has_ended-clause-arrived : goal.returns-then-has_ended-clause-arrived
-returns-then-has_ended-clause-arrived c =
-    let at = c.in-Head.ensures.1 in
-    let begins = begins_with c.min.result c.args.input.now c.in-Head.spans.len at.0 c.min.ensures
-    at.1.reads at.1.len at.2 in
-    λ more may. body_cut c.args.input.now c.in-Head.spans.len at.0 begins c.in-Ok.request
-    (c.in-Ok.ensures.asks at.0 at.1) c.in-Ok.ensures.small
-    (omega (arith, c.if-whole-input.false)) more (may c.if-has_ended.true)
-
-pub returns-else-has_ended-clause-arrived : goal.returns-else-has_ended-clause-arrived
-returns-else-has_ended-clause-arrived c =
-    let at = c.in-Head.ensures.1 in
-    let begins = begins_with c.min.result c.args.input.now c.in-Head.spans.len at.0 c.min.ensures
-    at.1.reads at.1.len at.2 in (
-      c.if-has_ended.false,
-      inr (body_missing c.args.input.now c.in-Head.spans.len at.0 begins c.in-Ok.request
-          (c.in-Ok.ensures.asks at.0 at.1) c.in-Ok.ensures.small
-          (omega (arith, c.if-whole-input.false))),
-      body_wanted c.args.input.now c.in-Head.spans.len at.0 begins c.in-Ok.request
-          (c.in-Ok.ensures.asks at.0 at.1) c.in-Ok.ensures.small,
-    )

@@ -1,0 +1,138 @@
+//! Reads heads that are written plainly.
+ghost use Rattle.std.specs.Prelude.{◌≡◌, ◌≤◌, IfSome, Some, length};
+ghost use Rattle.std.specs.List.{list_all};
+ghost use Rattle.http_messages.specs.Plain.{IsCallerThen, IsHeadAt, IsLengthAndEnd, IsPathThen, IsRouteThen, is_visible};
+ghost use Rattle.http_messages.specs.Table.{table};
+
+use crate::head::read_number;
+use crate::message::{BODY_LIMIT, Request, parse_spid};
+use crate::paths::{Method, Route, route_of};
+use matchit::Router;
+
+// Returns whether all bytes are visible ones of ASCII.
+fn are_visible(bytes: &[u8]) -> bool
+    ensures { result ≡ list_all is_visible bytes.now }
+{
+    bytes.iter().all(|b| *b > b' ' && *b < 127)
+}
+
+// Splits what follows the method into the path, and what follows `x-spid: `.
+fn path_then(bytes: &[u8]) -> Option<(&[u8], &[u8])>
+    ensures { IfSome result (λ found. IsPathThen bytes.now found.0.now found.1.now) }
+{
+    let end = bytes.iter().position(|b| *b == b' ')?;
+    let path = &bytes[..end];
+    let rest = bytes[end..].strip_prefix(b" HTTP/1.1\r\nx-spid: ")?;
+    if path.is_empty() || !are_visible(path) {
+        return None;
+    }
+    Some((path, rest))
+}
+
+// Returns the route of one of the paths that most messages have, and what follows `x-spid: `.
+fn frequent_route_then(bytes: &[u8]) -> Option<(Route, &[u8])>
+    ensures { IfSome result (λ found. IsRouteThen bytes.now (Some found.0) found.1.now) }
+{
+    if let Some(rest) = bytes.strip_prefix(b"/query HTTP/1.1\r\nx-spid: ") {
+        return Some((Route::Query, rest));
+    }
+    let rest = bytes.strip_prefix(b"/downloads/acknowledge HTTP/1.1\r\nx-spid: ")?;
+    Some((Route::Acknowledge, rest))
+}
+
+// Returns the route of the path, and what follows `x-spid: `.
+fn route_then<'a>(bytes: &'a [u8], router: &Router<Route>) -> Option<(Option<Route>, &'a [u8])>
+    requires { router.now ≡ table }
+    ensures { IfSome result (λ found. IsRouteThen bytes.now found.0 found.1.now) }
+{
+    if let Some((route, rest)) = frequent_route_then(bytes) {
+        return Some((Some(route), rest));
+    }
+    let (path, rest) = path_then(bytes)?;
+    Some((route_of(router, path), rest))
+}
+
+// Splits what follows `x-spid: ` into the caller and the rest.
+fn caller_then(bytes: &[u8]) -> Option<(&[u8], &[u8])>
+    ensures { IfSome result (λ found. IsCallerThen bytes.now found.0.now found.1.now) }
+{
+    if bytes.len() < 4 {
+        return None;
+    }
+    let caller = &bytes[..4];
+    if !are_visible(caller) {
+        return None;
+    }
+    Some((caller, &bytes[4..]))
+}
+
+// Splits what follows the caller into the length of the body and what follows the head.
+fn length_and_end(bytes: &[u8]) -> Option<(u64, &[u8])>
+    ensures { IfSome result (λ found. IsLengthAndEnd bytes.now found.0 found.1.now) }
+{
+    let after = bytes.strip_prefix(b"\r\ncontent-length: ")?;
+    let end = after.iter().position(|b| *b == b'\r')?;
+    let rest = after[end..].strip_prefix(b"\r\n\r\n")?;
+    Some((read_number(&after[..end])?, rest))
+}
+
+// Reads a head that begins with `POST `.
+fn plain_post(bytes: &[u8], router: &Router<Route>) -> Option<(Request, usize)>
+    requires { router.now ≡ table }
+    ensures head { IfSome result (λ found. IsHeadAt bytes.now found.0 found.1) }
+    ensures within { IfSome result (λ found. found.1 ≤ length bytes.now) }
+    ensures small { IfSome result (λ found. found.0.length ≤ 1048576) }
+{
+    let after = bytes.strip_prefix(b"POST ")?;
+    let (route, after) = route_then(after, router)?;
+    let (caller, after) = caller_then(after)?;
+    let (size, rest) = length_and_end(after)?;
+    if size > BODY_LIMIT {
+        return None;
+    }
+    let request = Request {
+        route,
+        method: Method::Post,
+        caller: parse_spid(caller),
+        length: size as usize,
+        closes: false,
+    };
+    Some((request, bytes.len() - rest.len()))
+}
+
+// Reads a head that begins with `GET `.
+fn plain_get(bytes: &[u8], router: &Router<Route>) -> Option<(Request, usize)>
+    requires { router.now ≡ table }
+    ensures head { IfSome result (λ found. IsHeadAt bytes.now found.0 found.1) }
+    ensures within { IfSome result (λ found. found.1 ≤ length bytes.now) }
+    ensures small { IfSome result (λ found. found.0.length ≤ 1048576) }
+{
+    let after = bytes.strip_prefix(b"GET ")?;
+    let (route, after) = route_then(after, router)?;
+    let (caller, after) = caller_then(after)?;
+    let rest = after.strip_prefix(b"\r\n\r\n")?;
+    let request = Request {
+        route,
+        method: Method::Get,
+        caller: parse_spid(caller),
+        length: 0,
+        closes: false,
+    };
+    Some((request, bytes.len() - rest.len()))
+}
+
+/// Reads a head that is written plainly: the method POST or GET, HTTP/1.1, `x-spid`, and for POST
+/// `content-length`, in lower case, with one space before each value. Returns what it asks and its
+/// length, or `None` for any other bytes.
+pub fn plain_head(bytes: &[u8], router: &Router<Route>) -> Option<(Request, usize)>
+    requires { router.now ≡ table }
+    ensures head { IfSome result (λ found. IsHeadAt bytes.now found.0 found.1) }
+    ensures within { IfSome result (λ found. found.1 ≤ length bytes.now) }
+    ensures small { IfSome result (λ found. found.0.length ≤ 1048576) }
+{
+    match bytes {
+        [b'P', ..] => plain_post(bytes, router),
+        [b'G', ..] => plain_get(bytes, router),
+        _ => None,
+    }
+}
