@@ -6,3 +6,4 @@ pub mod Only
 pub mod FaultOrder
 pub mod Sorted
 pub mod Digits
+mod PlainLemmas

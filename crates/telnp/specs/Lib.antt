@@ -6,3 +6,4 @@ pub mod Numbers
 pub mod Answer
 pub mod Abstraction
 pub mod Laws
+pub mod Plain

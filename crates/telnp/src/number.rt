@@ -13,6 +13,13 @@ use crate::bytes::{is_digit, is_hex, is_local_mark, is_separator};
 use crate::fault::TelFault;
 use numbers::Tn;
 
+/// Returns whether all bytes are digits.
+pub fn are_digits(bytes: &[u8]) -> bool
+    ensures { result ≡ list_all is_digit bytes.now }
+{
+    bytes.iter().all(|b| is_digit(*b))
+}
+
 fn has_digit(bytes: &[u8]) -> bool
     ensures { result ≡ list_any is_digit bytes.now }
 {

@@ -1,12 +1,15 @@
 //! Tel URIs and their parts.
 
-ghost use Rattle.std.specs.Prelude.{◌≡◌, [], option_map};
+ghost use Rattle.std.specs.Prelude.{◌≡◌, [], ◌∷◌, IfSome, option_map};
 ghost use Rattle.std.specs.Option.{option_map_or};
 ghost use Rattle.telnp.specs.Faults.{fault_in_parts, rest_of, number_of, parameter_parts, parts};
+ghost use Rattle.telnp.specs.Abstraction.{uri_of};
+ghost use Rattle.telnp.specs.Numbers.{digits_in};
+ghost use Rattle.telnp.specs.Plain.{IsPlain};
 ghost use Rattle.telnp.specs.Laws.{FaultsAreInOrder, TelUrisAreRead};
 
 use crate::fault::TelFault;
-use crate::number::{number_fault, tn_in};
+use crate::number::{are_digits, number_fault, tn_in};
 use crate::parameters::{Parameters, has_name, parameters_fault};
 use crate::text::{cut_at, same_name};
 use numbers::Tn;
@@ -30,7 +33,7 @@ impl<'a> TelUri<'a> {
     ghost use Rattle.telnp.specs.Grammar.{has_name, parameter_of};
     ghost use Rattle.telnp.specs.Numbers.{HasTn};
     ghost use Rattle.telnp.specs.Uri.{IsTelUri};
-    ghost use Rattle.telnp.specs.Abstraction.{uri_of, parts_in, parameters_left};
+    ghost use Rattle.telnp.specs.Abstraction.{parts_in, parameters_left};
 
     /// Parses a tel URI. Allocates nothing.
     ///
@@ -43,13 +46,16 @@ impl<'a> TelUri<'a> {
     ///
     /// The first of: `TooLong` above 2,048 bytes, `NotTel`, `LocalNumber` or `BadNumber` for the
     /// number part, `BadParameter` for the form of any parameter, `ParameterTwice`.
-    #[tactic(auto, using(crate::proofs::Wholes::uri_from_read))]
+    #[tactic(auto, using(crate::proofs::PlainLemmas::read_of_plain, crate::proofs::PlainLemmas::text_of_plain, crate::proofs::Wholes::uri_from_read))]
     pub fn read(text: &'a str) -> Result<TelUri<'a>, TelFault>
         ensures text { IfOk result (λ u. (uri_of u).text ≡ text.now) }
         ensures parts { IfOk result (λ u. IsRead text.now (uri_of u).number (uri_of u).parameters) }
         ensures uri { IfOk result (λ u. IsTelUri text.now (uri_of u).number (uri_of u).parameters) }
         ensures fault { IfErr result (λ f. fault_of text.now ≡ Some f) }
     {
+        if let Some(uri) = plain_uri(text) {
+            return Ok(uri);
+        }
         if text.len() > LONGEST {
             return Err(TelFault::TooLong);
         }
@@ -84,7 +90,10 @@ impl<'a> TelUri<'a> {
         ensures some { IfSome result (λ tn. HasTn (uri_of self.now).number tn.number) }
         ensures none { IfNone result ((n : ℕ) → IsTn n → ¬ (HasTn (uri_of self.now).number n)) }
     {
-        tn_in(self.number.as_bytes())
+        match ten_digits(self.number) {
+            Some(digits) => Tn::read(digits),
+            None => tn_in(self.number.as_bytes()),
+        }
     }
 
     /// Returns the parameters in the order of the text, each with its name and value as written.
@@ -104,6 +113,34 @@ impl<'a> TelUri<'a> {
             None => false,
             Some(parameters) => has_name(name, parameters),
         }
+    }
+}
+
+// Returns the URI of a text that is `tel:+1` and ten digits, as most are.
+fn plain_uri(text: &str) -> Option<TelUri<'_>>
+    ensures { IfSome result (λ u. IsPlain text.now (uri_of u)) }
+{
+    let digits = text.as_bytes().strip_prefix(b"tel:+1")?;
+    if digits.len() != 10 || !are_digits(digits) {
+        return None;
+    }
+    let (_, number) = text.split_at_checked(4)?;
+    Some(TelUri {
+        text,
+        number,
+        parameters: None,
+    })
+}
+
+// Returns the ten digits of a number part that is `+1` and these.
+fn ten_digits(number: &str) -> Option<&str>
+    ensures { IfSome result (λ digits. digits_in number.now ≡ 49 ∷ digits.now) }
+{
+    let (prefix, digits) = number.split_at_checked(2)?;
+    if prefix == "+1" && digits.len() == 10 && are_digits(digits.as_bytes()) {
+        Some(digits)
+    } else {
+        None
     }
 }
 
