@@ -9,6 +9,7 @@ mod Members
 mod Phrases
 pub mod RefusalLemmas
 mod ScanLemmas
+mod TailLemmas
 mod TelNames
 pub mod WholeRefusals
 pub mod PlainBytes

@@ -11,6 +11,7 @@ mod list;
 mod reply;
 mod response;
 mod scan;
+mod tail;
 mod used;
 
 pub use append::{put, put_cic, put_lrn, put_number, put_subject};

@@ -20,6 +20,7 @@ use crate::append::{
 use crate::fault::Failure;
 use crate::list::{Item, put_list};
 use crate::response::ResponseBuffer;
+use crate::tail::Tail;
 use delivery::{Download, RoutedRow};
 use model::{Action, Status};
 use numbers::{BlockId, Cic, CodeId, Lrn, Minute, Routing, Spid};
@@ -88,65 +89,84 @@ fn put_lrn_or_null(out: &mut String, lrn: Option<Lrn>)
     }
 }
 
-fn phase_text(phase: Option<Phase>) -> &'static str
-    ensures text { result.now ≡ phase_value (option_map phase_model phase) }
-    ensures len { length result.now ≤ 9 }
+// Writes a phase or null before the tail.
+fn prepend_phase(tail: &mut Tail<256>, phase: Option<Phase>)
+    requires { length tail.old + 9 ≤ 256 }
+    ensures text { tail.new ≡ phase_value (option_map phase_model phase) ++ tail.old }
+    ensures len { length tail.new ≤ length tail.old + 9 }
 {
     match phase {
-        None => "null",
-        Some(Phase::Initial) => "\"initial\"",
-        Some(Phase::Final) => "\"final\"",
-        Some(Phase::Ended) => "\"ended\"",
+        None => tail.prepend("null"),
+        Some(Phase::Initial) => tail.prepend("\"initial\""),
+        Some(Phase::Final) => tail.prepend("\"final\""),
+        Some(Phase::Ended) => tail.prepend("\"ended\""),
     }
 }
 
-fn status_text(status: Status) -> &'static str
-    ensures text { result.now ≡ status_word (status_model status) }
-    ensures len { length result.now ≤ 20 }
+// Writes the name of a status before the tail.
+fn prepend_status(tail: &mut Tail<256>, status: Status)
+    requires { length tail.old + 18 ≤ 256 }
+    ensures text { tail.new ≡ status_word (status_model status) ++ tail.old }
+    ensures len { length tail.new ≤ length tail.old + 18 }
 {
     match status {
-        Status::Pending => "pending",
-        Status::Conflict => "conflict",
-        Status::CancelPending(_) => "cancel-pending",
-        Status::SendingCreate | Status::SendingDelete | Status::SendingModify { .. } => "sending",
-        Status::Active => "active",
-        Status::PartialFailure => "partial-failure",
-        Status::Failed => "failed",
-        Status::DisconnectPending(_) => "disconnect-pending",
-        Status::Old => "old",
-        Status::Canceled => "canceled",
+        Status::Pending => tail.prepend("pending"),
+        Status::Conflict => tail.prepend("conflict"),
+        Status::CancelPending(_) => tail.prepend("cancel-pending"),
+        Status::SendingCreate | Status::SendingDelete | Status::SendingModify { .. } => {
+            tail.prepend("sending");
+        }
+        Status::Active => tail.prepend("active"),
+        Status::PartialFailure => tail.prepend("partial-failure"),
+        Status::Failed => tail.prepend("failed"),
+        Status::DisconnectPending(_) => tail.prepend("disconnect-pending"),
+        Status::Old => tail.prepend("old"),
+        Status::Canceled => tail.prepend("canceled"),
     }
 }
 
-// Appends the release minute of a disconnect-pending version, or null.
-fn put_release(out: &mut String, status: Status)
-    requires { string_len out.old + 20 ≤ string_capacity out.old }
-    ensures bytes { string_bytes out.new
-        ≡ string_bytes out.old ++ number_value (release_of (status_model status)) }
-    ensures len { string_len out.new ≤ string_len out.old + 20 }
-    ensures capacity { string_capacity out.old ≤ string_capacity out.new }
+// Writes the release minute of a disconnect-pending version, or null, before the tail.
+fn prepend_release(tail: &mut Tail<256>, status: Status)
+    requires { length tail.old + 13 ≤ 256 }
+    ensures text { tail.new ≡ number_value (release_of (status_model status)) ++ tail.old }
+    ensures len { length tail.new ≤ length tail.old + 13 }
 {
     match status {
-        Status::DisconnectPending(release) => put_minute(out, release),
-        _ => put(out, "null"),
+        Status::DisconnectPending(release) => tail.prepend_minute(release),
+        _ => tail.prepend("null"),
     }
 }
 
-// Appends the members `attempt` to `id`.
-fn put_counts(out: &mut String, view: &VersionView)
-    requires { string_len out.old + 120 ≤ string_capacity out.old }
-    ensures bytes { string_bytes out.new ≡ string_bytes out.old ++ counts_text (view_of view.now) }
-    ensures len { string_len out.new ≤ string_len out.old + 120 }
-    ensures capacity { string_capacity out.old ≤ string_capacity out.new }
+// Writes a CIC in quotes, or null, before the tail.
+fn prepend_cic_or_null(tail: &mut Tail<256>, cic: Option<Cic>)
+    requires { length tail.old + 6 ≤ 256 }
+    ensures text { tail.new ≡ cic_value (option_map (λ (c : CicImpl). c.number) cic) ++ tail.old }
+    ensures len { length tail.new ≤ length tail.old + 6 }
 {
-    put(out, "{\"attempt\":");
-    put_number(out, view.version.attempt);
-    put(out, ",\"cic\":");
-    put_cic_or_null(out, cic_of(view.version.routing));
-    put(out, ",\"due\":");
-    put_minute(out, view.version.due);
-    put(out, ",\"id\":");
-    put_number(out, view.id);
+    match cic {
+        None => tail.prepend("null"),
+        Some(cic) => {
+            tail.prepend("\"");
+            tail.prepend_cic(cic);
+            tail.prepend("\"");
+        }
+    }
+}
+
+// Writes an LRN in quotes, or null, before the tail.
+fn prepend_lrn_or_null(tail: &mut Tail<256>, lrn: Option<Lrn>)
+    requires { length tail.old + 12 ≤ 256 }
+    ensures text { tail.new ≡ lrn_value (option_map (λ (n : LrnImpl). n.number) lrn) ++ tail.old }
+    ensures len { length tail.new ≤ length tail.old + 12 }
+{
+    match lrn {
+        None => tail.prepend("null"),
+        Some(lrn) => {
+            tail.prepend("\"");
+            tail.prepend_lrn(lrn);
+            tail.prepend("\"");
+        }
+    }
 }
 
 fn cic_of(routing: Option<Routing>) -> Option<Cic>
@@ -161,49 +181,62 @@ fn lrn_of(routing: Option<Routing>) -> Option<Lrn>
     Some(routing?.lrn)
 }
 
-// Appends the members `lrn` to `old`.
-fn put_parties(out: &mut String, view: &VersionView)
-    requires { string_len out.old + 60 ≤ string_capacity out.old }
-    ensures bytes { string_bytes out.new ≡ string_bytes out.old ++ parties_text (view_of view.now) }
-    ensures len { string_len out.new ≤ string_len out.old + 60 }
-    ensures capacity { string_capacity out.old ≤ string_capacity out.new }
+// Writes the members `attempt` to `id` before the tail.
+fn prepend_counts(tail: &mut Tail<256>, view: &VersionView)
+    requires { length tail.old + 90 ≤ 256 }
+    ensures text { tail.new ≡ counts_text (view_of view.now) ++ tail.old }
+    ensures len { length tail.new ≤ length tail.old + 90 }
 {
-    put(out, ",\"lrn\":");
-    put_lrn_or_null(out, lrn_of(view.version.routing));
-    put(out, ",\"new\":\"");
-    put_spid(out, view.version.new_provider);
-    put(out, "\",\"old\":\"");
-    put_spid(out, view.version.old_provider);
-    put(out, "\"");
+    tail.prepend_number(view.id);
+    tail.prepend(",\"id\":");
+    tail.prepend_minute(view.version.due);
+    tail.prepend(",\"due\":");
+    prepend_cic_or_null(tail, cic_of(view.version.routing));
+    tail.prepend(",\"cic\":");
+    tail.prepend_number(view.version.attempt);
+    tail.prepend("{\"attempt\":");
 }
 
-// Appends the members `phase` to `since`.
-fn put_times(out: &mut String, view: &VersionView)
-    requires { string_len out.old + 80 ≤ string_capacity out.old }
-    ensures bytes { string_bytes out.new ≡ string_bytes out.old ++ times_text (view_of view.now) }
-    ensures len { string_len out.new ≤ string_len out.old + 80 }
-    ensures capacity { string_capacity out.old ≤ string_capacity out.new }
+// Writes the members `lrn` to `old` before the tail.
+fn prepend_parties(tail: &mut Tail<256>, view: &VersionView)
+    requires { length tail.old + 45 ≤ 256 }
+    ensures text { tail.new ≡ parties_text (view_of view.now) ++ tail.old }
+    ensures len { length tail.new ≤ length tail.old + 45 }
 {
-    put(out, ",\"phase\":");
-    put(out, phase_text(view.phase));
-    put(out, ",\"release\":");
-    put_release(out, view.version.status);
-    put(out, ",\"since\":");
-    put_minute(out, view.version.since);
+    tail.prepend("\"");
+    tail.prepend_spid(view.version.old_provider);
+    tail.prepend("\",\"old\":\"");
+    tail.prepend_spid(view.version.new_provider);
+    tail.prepend(",\"new\":\"");
+    prepend_lrn_or_null(tail, lrn_of(view.version.routing));
+    tail.prepend(",\"lrn\":");
 }
 
-// Appends the members `status` and `subject`.
-fn put_state(out: &mut String, view: &VersionView)
-    requires { string_len out.old + 80 ≤ string_capacity out.old }
-    ensures bytes { string_bytes out.new ≡ string_bytes out.old ++ state_text (view_of view.now) }
-    ensures len { string_len out.new ≤ string_len out.old + 80 }
-    ensures capacity { string_capacity out.old ≤ string_capacity out.new }
+// Writes the members `phase` to `since` before the tail.
+fn prepend_times(tail: &mut Tail<256>, view: &VersionView)
+    requires { length tail.old + 64 ≤ 256 }
+    ensures text { tail.new ≡ times_text (view_of view.now) ++ tail.old }
+    ensures len { length tail.new ≤ length tail.old + 64 }
 {
-    put(out, ",\"status\":\"");
-    put(out, status_text(view.version.status));
-    put(out, "\",\"subject\":\"");
-    put_subject(out, view.version.subject);
-    put(out, "\"}");
+    tail.prepend_minute(view.version.since);
+    tail.prepend(",\"since\":");
+    prepend_release(tail, view.version.status);
+    tail.prepend(",\"release\":");
+    prepend_phase(tail, view.phase);
+    tail.prepend(",\"phase\":");
+}
+
+// Writes the members `status` and `subject` before the tail.
+fn prepend_state(tail: &mut Tail<256>, view: &VersionView)
+    requires { length tail.old + 54 ≤ 256 }
+    ensures text { tail.new ≡ state_text (view_of view.now) ++ tail.old }
+    ensures len { length tail.new ≤ length tail.old + 54 }
+{
+    tail.prepend("\"}");
+    tail.prepend_subject(view.version.subject);
+    tail.prepend("\",\"subject\":\"");
+    prepend_status(tail, view.version.status);
+    tail.prepend(",\"status\":\"");
 }
 
 /// Appends the body with a version, of at most 400 bytes.
@@ -214,10 +247,12 @@ pub fn put_version(out: &mut String, view: &VersionView)
     ensures len { string_len out.new ≤ string_len out.old + 400 }
     ensures capacity { string_capacity out.old ≤ string_capacity out.new }
 {
-    put_counts(out, view);
-    put_parties(out, view);
-    put_times(out, view);
-    put_state(out, view);
+    let mut body = Tail::<256>::new();
+    prepend_state(&mut body, view);
+    prepend_times(&mut body, view);
+    prepend_parties(&mut body, view);
+    prepend_counts(&mut body, view);
+    put(out, body.as_str());
 }
 
 /// Appends the body with an LRN and its carrier, of at most 64 bytes.
