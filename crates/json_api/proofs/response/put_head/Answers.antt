@@ -1,5 +1,5 @@
 use Rattle.std.proofs.Common.{◌≡◌, arith}
-use Rattle.json_api.proofs.response.put_start.Goals as goal
+use Rattle.json_api.proofs.response.put_head.Goals as goal
 
 pub returns-then-status-eq200-clause-bytes : goal.returns-then-status-eq200-clause-bytes
 returns-then-status-eq200-clause-bytes c =
