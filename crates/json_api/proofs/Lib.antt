@@ -6,6 +6,7 @@ mod KeyLemmas
 mod LineLemmas
 mod ListLemmas
 mod Members
+mod PairLemmas
 mod Phrases
 pub mod RefusalLemmas
 mod ScanLemmas

@@ -8,6 +8,7 @@ mod fields;
 mod flat;
 mod forms;
 mod list;
+mod pairs;
 mod reply;
 mod response;
 mod scan;

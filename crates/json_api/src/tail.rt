@@ -5,6 +5,7 @@ ghost use Rattle.std.specs.Prelude.{◌≡◌, ◌+◌, ◌<◌, ◌≤◌, ◌^
 ghost use Rattle.numbers.specs.Texts.{cic_text, digits_of, lrn_text, spid_text, subject_text};
 ghost use Rattle.numbers.specs.Abstraction.{subject_of};
 
+use crate::pairs::pair_of;
 use itoa::write_digits;
 use numbers::{Cic, Lrn, Minute, Spid, Subject};
 use std::marker::Model;
@@ -111,13 +112,40 @@ impl<const N: usize> Tail<N> {
         self.start = write_digits(power + number, &mut self.bytes, self.start) + 1;
     }
 
+    // Writes the two digits of a number below 100 before the tail.
+    #[inline(always)]
+    fn prepend_pair(&mut self, number: u64)
+        requires number { number < 100 }
+        requires fits { length self.old + 2 ≤ N }
+        ensures text { self.new ≡ digits_of 2 number ++ self.old }
+        ensures len { length self.new ≡ length self.old + 2 }
+    {
+        self.prepend_bytes(&pair_of(number));
+    }
+
+    // Writes ten digits before the tail, two at a time.
+    fn prepend_ten(&mut self, number: u64)
+        requires number { number < 10000000000 }
+        requires fits { length self.old + 10 ≤ N }
+        ensures text { self.new ≡ digits_of 10 number ++ self.old }
+        ensures len { length self.new ≡ length self.old + 10 }
+    {
+        let (first, rest) = (number / 100_000_000, number % 100_000_000);
+        let (middle, last) = (rest / 10_000, rest % 10_000);
+        self.prepend_pair(last % 100);
+        self.prepend_pair(last / 100);
+        self.prepend_pair(middle % 100);
+        self.prepend_pair(middle / 100);
+        self.prepend_pair(first);
+    }
+
     /// Writes the ten digits of an LRN before the tail.
     pub(crate) fn prepend_lrn(&mut self, lrn: Lrn)
-        requires { length self.old + 10 < N }
+        requires { length self.old + 10 ≤ N }
         ensures text { self.new ≡ lrn_text lrn.number ++ self.old }
         ensures len { length self.new ≡ length self.old + 10 }
     {
-        self.prepend_digits::<10>(lrn.number, 10_000_000_000);
+        self.prepend_ten(lrn.number);
     }
 
     /// Writes the four digits of a CIC before the tail.
@@ -145,7 +173,7 @@ impl<const N: usize> Tail<N> {
         ensures len { length self.new ≤ length self.old + 10 }
     {
         match subject {
-            Subject::Number(tn) => self.prepend_digits::<10>(tn.number, 10_000_000_000),
+            Subject::Number(tn) => self.prepend_ten(tn.number),
             Subject::Block(block) => {
                 self.prepend_digits::<7>(u64::from(block.number), 10_000_000);
             }

@@ -1,0 +1,8 @@
+use Rattle.std.proofs.Common.{rules, arith, refl}
+use Rattle.numbers.proofs.DigitLemmas.{length-digits_of}
+use Rattle.json_api.proofs.TailLemmas.{utf8_digits}
+use Rattle.json_api.proofs.tail.Tail.prepend_pair.Goals as goal
+
+pub prepend_bytes-requires : goal.prepend_bytes-requires
+prepend_bytes-requires g c =
+    rw c.pair_of.ensures (search rules, (omega (arith, c.requires.fits, length-digits_of 2 c.args.number), utf8_digits 2 c.args.number 100 (omega arith) refl c.requires.number))
