@@ -14,9 +14,7 @@ ghost use Rattle.json_api.specs.Failures.{failure_body};
 ghost use Rattle.json_api.specs.ResponseBuffers.{HasCapacity, IsEmpty, IsWritten};
 ghost use Rattle.json_api.specs.Texts.{cic_value, lrn_value, number_value, phase_value, status_word, cic_in, lrn_in, counts_text, parties_text, times_text, state_text, view_text, listed, row_text, registered_text, donated_text, action_word, sent_text, placed_text, download_text, downloads_text, routing_number_text, opened_code_text, ids_text, now_text, windows_set_text, uri_text};
 
-use crate::append::{
-    put, put_block, put_cic, put_code, put_lrn, put_minute, put_number, put_spid, put_subject,
-};
+use crate::append::{put, put_block, put_code, put_lrn, put_minute, put_number, put_spid};
 use crate::fault::Failure;
 use crate::list::{Item, put_list};
 use crate::response::ResponseBuffer;
@@ -53,40 +51,6 @@ pub fn put_failure(out: &mut String, failure: Failure)
     put(out, "\",\"number\":");
     put_number(out, u64::from(failure.number()));
     put(out, "}");
-}
-
-fn put_cic_or_null(out: &mut String, cic: Option<Cic>)
-    requires { string_len out.old + 6 ≤ string_capacity out.old }
-    ensures bytes { string_bytes out.new
-        ≡ string_bytes out.old ++ cic_value (option_map (λ (c : CicImpl). c.number) cic) }
-    ensures len { string_len out.new ≤ string_len out.old + 6 }
-    ensures capacity { string_capacity out.old ≤ string_capacity out.new }
-{
-    match cic {
-        None => put(out, "null"),
-        Some(cic) => {
-            put(out, "\"");
-            put_cic(out, cic);
-            put(out, "\"");
-        }
-    }
-}
-
-fn put_lrn_or_null(out: &mut String, lrn: Option<Lrn>)
-    requires { string_len out.old + 12 ≤ string_capacity out.old }
-    ensures bytes { string_bytes out.new
-        ≡ string_bytes out.old ++ lrn_value (option_map (λ (n : LrnImpl). n.number) lrn) }
-    ensures len { string_len out.new ≤ string_len out.old + 12 }
-    ensures capacity { string_capacity out.old ≤ string_capacity out.new }
-{
-    match lrn {
-        None => put(out, "null"),
-        Some(lrn) => {
-            put(out, "\"");
-            put_lrn(out, lrn);
-            put(out, "\"");
-        }
-    }
 }
 
 // Writes a phase or null before the tail.
@@ -345,6 +309,21 @@ pub fn put_windows_set(out: &mut String, now: Minute, number: u16)
     put(out, "}");
 }
 
+// Writes a row in force before the tail.
+fn prepend_row(tail: &mut Tail<256>, row: &RoutedRow)
+    requires { length tail.old + 63 ≤ 256 }
+    ensures text { tail.new ≡ row_text (in_force_of row.now) ++ tail.old }
+    ensures len { length tail.new ≤ length tail.old + 63 }
+{
+    tail.prepend("\"}");
+    tail.prepend_subject(row.subject);
+    tail.prepend(",\"subject\":\"");
+    prepend_lrn_or_null(tail, Some(row.routing.lrn));
+    tail.prepend(",\"lrn\":");
+    prepend_cic_or_null(tail, row.routing.cic);
+    tail.prepend("{\"cic\":");
+}
+
 // A row in force, as an item of a list.
 impl Item for RoutedRow {
     ghost text = { λ r. row_text (in_force_of r) };
@@ -352,13 +331,9 @@ impl Item for RoutedRow {
     ghost max_len = { 63 };
 
     fn put(&self, out: &mut String) {
-        put(out, "{\"cic\":");
-        put_cic_or_null(out, self.routing.cic);
-        put(out, ",\"lrn\":");
-        put_lrn_or_null(out, Some(self.routing.lrn));
-        put(out, ",\"subject\":\"");
-        put_subject(out, self.subject);
-        put(out, "\"}");
+        let mut text = Tail::<256>::new();
+        prepend_row(&mut text, self);
+        put(out, text.as_str());
     }
 }
 
@@ -428,50 +403,48 @@ pub fn put_donated(out: &mut String, block: BlockId, ids: &[u64])
     put(out, "]}");
 }
 
-fn action_text(action: Action) -> &'static str
-    ensures text { result.now ≡ action_word action }
-    ensures len { length result.now ≤ 6 }
+// Writes the name of an action before the tail.
+fn prepend_action(tail: &mut Tail<256>, action: Action)
+    requires { length tail.old + 6 ≤ 256 }
+    ensures text { tail.new ≡ action_word action ++ tail.old }
+    ensures len { length tail.new ≤ length tail.old + 6 }
 {
     match action {
-        Action::Create => "create",
-        Action::Delete => "delete",
-        Action::Modify => "modify",
+        Action::Create => tail.prepend("create"),
+        Action::Delete => tail.prepend("delete"),
+        Action::Modify => tail.prepend("modify"),
     }
 }
 
-// Appends the members `action` to `id`.
-fn put_sent(out: &mut String, download: &Download)
-    requires { string_len out.old + 100 ≤ string_capacity out.old }
-    ensures bytes { string_bytes out.new
-        ≡ string_bytes out.old ++ sent_text (download_of download.now) }
-    ensures len { string_len out.new ≤ string_len out.old + 100 }
-    ensures capacity { string_capacity out.old ≤ string_capacity out.new }
+// Writes the members `action` to `id` before the tail.
+fn prepend_sent(tail: &mut Tail<256>, download: &Download)
+    requires { length tail.old + 100 ≤ 256 }
+    ensures text { tail.new ≡ sent_text (download_of download.now) ++ tail.old }
+    ensures len { length tail.new ≤ length tail.old + 100 }
 {
-    put(out, "{\"action\":\"");
-    put(out, action_text(download.action));
-    put(out, "\",\"attempt\":");
-    put_number(out, download.attempt);
-    put(out, ",\"cic\":");
-    put_cic_or_null(out, cic_of(download.routing));
-    put(out, ",\"id\":");
-    put_number(out, download.id);
+    tail.prepend_number(download.id);
+    tail.prepend(",\"id\":");
+    prepend_cic_or_null(tail, cic_of(download.routing));
+    tail.prepend(",\"cic\":");
+    tail.prepend_number(download.attempt);
+    tail.prepend("\",\"attempt\":");
+    prepend_action(tail, download.action);
+    tail.prepend("{\"action\":\"");
 }
 
-// Appends the members `lrn` to `subject`.
-fn put_placed(out: &mut String, download: &Download)
-    requires { string_len out.old + 80 ≤ string_capacity out.old }
-    ensures bytes { string_bytes out.new
-        ≡ string_bytes out.old ++ placed_text (download_of download.now) }
-    ensures len { string_len out.new ≤ string_len out.old + 80 }
-    ensures capacity { string_capacity out.old ≤ string_capacity out.new }
+// Writes the members `lrn` to `subject` before the tail.
+fn prepend_placed(tail: &mut Tail<256>, download: &Download)
+    requires { length tail.old + 80 ≤ 256 }
+    ensures text { tail.new ≡ placed_text (download_of download.now) ++ tail.old }
+    ensures len { length tail.new ≤ length tail.old + 80 }
 {
-    put(out, ",\"lrn\":");
-    put_lrn_or_null(out, lrn_of(download.routing));
-    put(out, ",\"minute\":");
-    put_minute(out, download.minute);
-    put(out, ",\"subject\":\"");
-    put_subject(out, download.subject);
-    put(out, "\"}");
+    tail.prepend("\"}");
+    tail.prepend_subject(download.subject);
+    tail.prepend(",\"subject\":\"");
+    tail.prepend_minute(download.minute);
+    tail.prepend(",\"minute\":");
+    prepend_lrn_or_null(tail, lrn_of(download.routing));
+    tail.prepend(",\"lrn\":");
 }
 
 // A download, as an item of a list.
@@ -481,8 +454,10 @@ impl Item for Download {
     ghost max_len = { 191 };
 
     fn put(&self, out: &mut String) {
-        put_sent(out, self);
-        put_placed(out, self);
+        let mut text = Tail::<256>::new();
+        prepend_placed(&mut text, self);
+        prepend_sent(&mut text, self);
+        put(out, text.as_str());
     }
 }
 
