@@ -9,7 +9,8 @@ pub two_digits : (n : ℕ) → digits_of 2 n ≡ (48 + n / 10 % 10) ∷ (48 + n 
 unfolding digits_of
 two_digits n = refl
 
-pub digits_of-two_more : (width n : ℕ) → digits_of (suc (suc width)) n ≡ digits_of width (n / 100) ++ digits_of 2 n
+pub digits_of-two_more : (width n : ℕ)
+    → digits_of (suc (suc width)) n ≡ digits_of width (n / 100) ++ digits_of 2 n
 unfolding digits_of
 digits_of-two_more width n =
     let down : n / 10 / 10 ≡ n / 100 = omega arith in
@@ -26,7 +27,10 @@ digits_of-last_two n =
 -- Whether the table is right for each number below `n`.
 abbrev are_right : ℕ → Bool
 are_right zero = true
-are_right (suc p) = (eqb (get_or PAIRS (2 * p) 0) (48 + p / 10 % 10) && eqb (get_or PAIRS (2 * p + 1) 0) (48 + p % 10)) && are_right p
+are_right (suc p) =
+    (eqb (get_or PAIRS (2 * p) 0) (48 + p / 10 % 10)
+    && eqb (get_or PAIRS (2 * p + 1) 0) (48 + p % 10))
+    && are_right p
 
 below : (n p : ℕ) → T (are_right n) → p < n
     → (get_or PAIRS (2 * p) 0 ≡ 48 + p / 10 % 10) × (get_or PAIRS (2 * p + 1) 0 ≡ 48 + p % 10)
@@ -59,9 +63,11 @@ ten_digits n small =
     ∙ ap (λ t. t ++ digits_of 2 n) (digits_of-two_more 6 (n / 100)
     ∙ ap (λ t. t ++ digits_of 2 (n / 100)) (digits_of-two_more 4 (n / 100 / 100)
     ∙ ap (λ t. t ++ digits_of 2 (n / 100 / 100)) (digits_of-two_more 2 (n / 100 / 100 / 100))))
-    ∙ together (digits_of 2 (n / 100 / 100 / 100 / 100)) (digits_of 2 (n / 100 / 100 / 100)) (digits_of 2 (n / 100 / 100))
+    ∙ together (digits_of 2 (n / 100 / 100 / 100 / 100)) (digits_of 2 (n / 100 / 100 / 100))
+    (digits_of 2 (n / 100 / 100))
     (digits_of 2 (n / 100)) (digits_of 2 n)
-    ∙ five (ap (digits_of 2) a) (last (n / 100 / 100 / 100) _ b) (last (n / 100 / 100) _ c) (last (n / 100) _ d) (last n _ e)
+    ∙ five (ap (digits_of 2) a) (last (n / 100 / 100 / 100) _ b) (last (n / 100 / 100) _ c)
+    (last (n / 100) _ d) (last n _ e)
   where
     together : (p q r s t : List ℕ) → (((p ++ q) ++ r) ++ s) ++ t ≡ p ++ (q ++ (r ++ (s ++ t)))
     together p q r s t = simp (append_assoc)

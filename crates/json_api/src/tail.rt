@@ -39,6 +39,7 @@ impl<const N: usize> Tail<N> {
         }
     }
 
+    /// Returns the tail.
     pub(crate) fn as_str(&self) -> &str
         ensures { result.now ≡ self.now }
     {
@@ -47,7 +48,7 @@ impl<const N: usize> Tail<N> {
         unsafe { str::from_utf8_unchecked(&all[self.start..]) }
     }
 
-    // Inlined, so that a constant text is moved and not copied by a call.
+    // Writes bytes before the tail. Inlined, so that a few moves copy a constant text.
     #[inline(always)]
     fn prepend_bytes(&mut self, text: &[u8])
         requires fits { length self.old + length text.now ≤ N }
