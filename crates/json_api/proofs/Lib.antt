@@ -8,6 +8,7 @@ mod ListLemmas
 mod Members
 mod PairLemmas
 mod Phrases
+mod PlainForms
 pub mod RefusalLemmas
 mod ScanLemmas
 mod TailLemmas

@@ -2,6 +2,7 @@ pub mod Response
 pub mod Failures
 pub mod Flat
 pub mod Forms
+pub mod Plain
 pub mod RefusalTexts
 pub mod ResponseBuffers
 pub mod Scanned

@@ -1,9 +1,8 @@
 //! Appends texts and numbers to strings with reserved memory, which cannot fail.
 ghost use Rattle.std.specs.Prelude.{◌≡◌, ◌+◌, ◌<◌, ◌≤◌, ◌++◌, length, decimal, string_bytes, string_len, string_capacity};
-ghost use Rattle.numbers.specs.Texts.{block_text, digits_of, spid_text, subject_text};
-ghost use Rattle.numbers.specs.Abstraction.{subject_of};
+ghost use Rattle.numbers.specs.Texts.{block_text, digits_of, spid_text};
 
-use numbers::{BlockId, Cic, CodeId, Lrn, Minute, Spid, Subject};
+use numbers::{BlockId, CodeId, Lrn, Minute, Spid};
 
 /// Appends a text.
 pub fn put(out: &mut String, text: &str)
@@ -82,19 +81,6 @@ pub fn put_lrn(out: &mut String, lrn: Lrn)
     }
 }
 
-/// Appends the four digits of a CIC.
-pub fn put_cic(out: &mut String, cic: Cic)
-    requires { string_len out.old + 4 ≤ string_capacity out.old }
-    ensures bytes { string_bytes out.new ≡ string_bytes out.old ++ digits_of 4 cic.number }
-    ensures len { string_len out.new ≤ string_len out.old + 4 }
-    ensures capacity { string_capacity out.old ≤ string_capacity out.new }
-{
-    match cic.write(out) {
-        Ok(()) => {}
-        Err(_) => unreachable!(),
-    }
-}
-
 /// Appends the six digits of a code.
 pub fn put_code(out: &mut String, code: CodeId)
     requires { string_len out.old + 6 ≤ string_capacity out.old }
@@ -116,20 +102,6 @@ pub fn put_block(out: &mut String, block: BlockId)
     ensures capacity { string_capacity out.old ≤ string_capacity out.new }
 {
     match block.write(out) {
-        Ok(()) => {}
-        Err(_) => unreachable!(),
-    }
-}
-
-/// Appends the digits of a subject: ten of a number, seven of a block.
-pub fn put_subject(out: &mut String, subject: Subject)
-    requires { string_len out.old + 10 ≤ string_capacity out.old }
-    ensures bytes { string_bytes out.new
-        ≡ string_bytes out.old ++ subject_text (subject_of subject) }
-    ensures len { string_len out.new ≤ string_len out.old + 10 }
-    ensures capacity { string_capacity out.old ≤ string_capacity out.new }
-{
-    match subject.write(out) {
         Ok(()) => {}
         Err(_) => unreachable!(),
     }

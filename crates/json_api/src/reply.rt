@@ -27,9 +27,6 @@ use std::alloc::{AllocError, Global};
 use telnp::TelUri;
 use version::Phase;
 
-/// The most bytes of a version's body.
-pub const VERSION_CAPACITY: usize = 400;
-
 /// The most bytes of a row in force, with a comma.
 pub const ROW_CAPACITY: usize = 64;
 

@@ -115,7 +115,7 @@ fn number_at(bytes: &[u8]) -> Option<(Scalar<'_>, &[u8])>
 }
 
 // Reads a plain value. Returns it and the bytes after it.
-fn scalar_at(bytes: &[u8]) -> Option<(Scalar<'_>, &[u8])>
+pub(crate) fn scalar_at(bytes: &[u8]) -> Option<(Scalar<'_>, &[u8])>
     ensures { IfSome result (λ found. IsScalarThen bytes.now found.0 found.1.now) }
 {
     match bytes.first()? {
