@@ -548,36 +548,49 @@ faulty_carried fault from to old new caller uri h e = λ st s. (
   stays new st caller Knows (h st s).1,
 )
 
-query_asked : (r : Refusal) (from to : ℕ) (st : State) (caller : ℕ) (uri : List ℕ) (read : TelUri)
-    (tn : ℕ) (new : Content) → IsUri uri read → AsksFor read tn
+-- A query is refused as its caller is.
+refused_alike : (o : Option ℕ) (a : Reply) (k : ℕ) → refused_or o a ≡ MachineRefused k
+    → ((n : ℕ) → a ≡ MachineRefused n → ⊥) → refused_or o Known ≡ MachineRefused k
+refused_alike None a k e never = absurd (never k e)
+refused_alike (Some n) a k e never = e
+
+query_refused : (st : State) (caller tn k : ℕ)
+    → out st (QuestionFrom caller (Query tn)) ≡ MachineRefused k
+    → out st (QuestionFrom caller Knows) ≡ MachineRefused k
+unfolding out tests
+query_refused st caller tn k e =
+    refused_alike (refusal st (QuestionFrom caller Knows)) _ k e (λ n f. let x : ⊥ = cc in x)
+
+known_alike : (o : Option ℕ) (a : Reply) (b : Answer) → refused_or o a ≡ Answered b
+    → refused_or o Known ≡ Known
+known_alike None a b e = refl
+known_alike (Some n) a b e = let x : ⊥ = cc in absurd x
+
+query_knows : (st : State) (caller tn : ℕ) (a : Answer)
+    → out st (QuestionFrom caller (Query tn)) ≡ Answered a
     → out st (QuestionFrom caller Knows) ≡ Known
-    → Outcome from to r st (QuestionFrom caller (Query tn)) new →
+unfolding out tests
+query_knows st caller tn a e = known_alike (refusal st (QuestionFrom caller Knows)) _ a e
+
+query_asked : (r : Refusal) (from to : ℕ) (st : State) (caller : ℕ) (uri : List ℕ)
+    (tn : ℕ) (new : Content) → Outcome from to r st (QuestionFrom caller (Query tn)) new →
     (after : State) × (IsUnavailable from to st (failure_text (Refused r)) after
     ⊎ (RespondsToQuery st caller uri (failure_text (Refused r)) × (after ≡ st))) × Refines new after
-query_asked r from to st caller uri read tn new parts asks known (inl x) =
-    (st, inl (x.0, refl), x.1)
-query_asked r from to st caller uri read tn new parts asks known (inr x) = (
+query_asked r from to st caller uri tn new (inl x) = (st, inl (x.0, refl), x.1)
+query_asked r from to st caller uri tn new (inr x) = (
   st,
-  inr (
-    inr (inr (known, (read, parts, inr (tn, asks, x.2 ∙ ap (routed_text read) (sym x.1))))),
-    refl,
-  ),
+  inr (inl (x.0, query_refused st caller tn x.0 x.1, x.2), refl),
   stays new st caller (Query tn) x.3,
 )
 
-pub refused_query_carried : (r : Refusal) (from between to : ℕ) (old mid new : Content) (caller : ℕ)
-    (uri : List ℕ) (read : TelUri) (tn : ℕ) → from ≤ between → between ≤ to → IsUri uri read
-    → AsksFor read tn → SimulatesStep old mid (QuestionFrom caller Knows) (Some Known) →
-    SimulatesStep mid new (QuestionFrom caller (Query tn)) (refused_with (number_of r))
-    → BlamesRightly between to mid r
+pub refused_query_carried : (r : Refusal) (from to : ℕ) (old new : Content) (caller : ℕ)
+    (uri : List ℕ) (tn : ℕ)
+    → SimulatesStep old new (QuestionFrom caller (Query tn)) (refused_with (number_of r))
+    → BlamesRightly from to old r
     → Performs from to old new caller (UriQuery uri) (failure_text (Refused r))
-refused_query_carried r from between to old mid new caller uri read tn before behind parts asks h k
-    blames = λ st s.
-    query_asked r from to st caller uri read tn new parts asks (sym (h st s).0)
-    (refusal_outcome r from to mid new (QuestionFrom caller (Query tn)) k
-    (blames_since from between to mid
-    mid r
-    before behind (λ x y. y) blames) st (stays mid st caller Knows (h st s).1))
+refused_query_carried r from to old new caller uri tn h blames = λ st s.
+    query_asked r from to st caller uri tn new
+    (refusal_outcome r from to old new (QuestionFrom caller (Query tn)) h blames st s)
 
 -- The body was written, or an allocation failed.
 told_or_short : {A : Type 0} (result : Result A Failure) (body wanted : List ℕ)
@@ -613,22 +626,22 @@ unasked_carried from to old new caller uri read result body parts back h same sh
     )))
     (stays new st caller Knows (h st s).1) (told_or_short result body (uri_text uri) same short)
 
-pub query_carried : {A : Type 0} (from to : ℕ) (old mid new : Content) (caller : ℕ) (uri : List ℕ)
+pub query_carried : {A : Type 0} (from to : ℕ) (old new : Content) (caller : ℕ) (uri : List ℕ)
     (read : TelUri) (tn : ℕ) (a : Answer) (result : Result A Failure) (body : List ℕ)
-    → IsUri uri read → AsksFor read tn →
-    SimulatesStep old mid (QuestionFrom caller Knows) (Some Known)
-    → SimulatesStep mid new (QuestionFrom caller (Query tn)) (Some (Answered a)) →
-    OnOk result (body ≡ uri_text (looked_up read a))
+    → IsUri uri read → AsksFor read tn
+    → SimulatesStep old new (QuestionFrom caller (Query tn)) (Some (Answered a))
+    → OnOk result (body ≡ uri_text (looked_up read a))
     → IfErr result (λ failure. failure ≡ Refused NoMemory)
     → Performs from to old new caller (UriQuery uri) (response_text result body)
-query_carried from to old mid new caller uri read tn a result body parts asks h k same short =
-    λ st s.
-    let s1 : Refines mid st = stays mid st caller Knows (h st s).1 in
-    let k1 = k st s1 in
+query_carried from to old new caller uri read tn a result body parts asks h same short = λ st s.
+    let is = h st s in
     answered_or_short from to st caller uri (response_text result body)
     (success (uri_text (looked_up read a))) new
-    (inr (inr (sym (h st s).0, (read, parts, inr (tn, asks, ap (routed_text read) k1.0)))))
-    (stays new st caller (Query tn) k1.1) (told_or_short result body (uri_text (looked_up read a))
+    (inr (inr (
+      query_knows st caller tn a (sym is.0),
+      (read, parts, inr (tn, asks, ap (routed_text read) is.0)),
+    )))
+    (stays new st caller (Query tn) is.1) (told_or_short result body (uri_text (looked_up read a))
     same short)
 
 -- ---- messages

@@ -14,7 +14,7 @@ ghost use Rattle.api.specs.Step.{Step, Dispatches, DispatchesCallOn, IsCallerAdm
 use crate::query::query;
 use crate::reply::{ReplyBounds, put_refused, put_reply, put_success, reserve_body};
 use http_messages::{MessageFault, Request, Route, allows_method, offered_route};
-use json_api::{ApiCall, Failure, Fields, Flat, ResponseBuffer, api_call_of, json};
+use json_api::{ApiCall, Failure, Fields, Flat, ResponseBuffer, api_call_of, json, plain_call};
 use model::Refusal;
 use numbers::{Spid, Tn};
 use register::Register;
@@ -279,6 +279,12 @@ fn answer_body<S: Store>(
         (S.content register.old.store) (S.content register.new.store) (BodyAsks route body.now)
         caller.number (response_text result (string_bytes response.new.body)) }
 {
+    if let Some(asked) = plain_call(route, body) {
+        return match asked {
+            ApiCall::Call(call) => answer(register, caller, &call, response),
+            ApiCall::Uri(uri) => query(alloc, register, caller, uri, response),
+        };
+    }
     let mut flat = Flat::new();
     if flat.read(body) {
         answer_fields(alloc, register, route, caller, &flat, response)

@@ -86,14 +86,15 @@ pub fn query<S: Store>(
         (S.content register.old.store) (S.content register.new.store) caller.number
         (UriQuery text.now) (response_text result (string_bytes response.new.body)) }
 {
-    if let Err(refusal) = register.knows(caller) {
-        return Err(Failure::Refused(refusal));
-    }
     let uri = match TelUri::read(text) {
         Ok(uri) => uri,
-        Err(fault) => return Err(Failure::Uri(fault)),
+        Err(fault) => {
+            register.knows(caller)?;
+            return Err(Failure::Uri(fault));
+        }
     };
     let Some(tn) = queried_number(&uri) else {
+        register.knows(caller)?;
         return put_text(response, text);
     };
     match register.query(caller, tn) {

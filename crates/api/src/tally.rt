@@ -43,7 +43,8 @@ impl Tally {
     // Counts a response, and its message's caller.
     pub(crate) fn note(&mut self, caller: Option<Spid>, response: &[u8]) {
         self.messages = self.messages.saturating_add(1);
-        if !response.starts_with(b"HTTP/1.1 200") {
+        // The status follows `HTTP/1.1 `.
+        if response.get(9) != Some(&b'2') {
             self.refusals = self.refusals.saturating_add(1);
         }
         if let Some(caller) = caller {
