@@ -12,7 +12,7 @@ use crate::fault::Fault;
 use crate::parse::ServeLimits;
 use crate::running::BUFFER_SIZE;
 use api::{Options, Served, Ticks, serve};
-use connections::{Limits, ServerFault, serve_many};
+use connections::{Limits, ServerFault, Service, serve_many};
 use http_messages::send_all;
 use mio::net::TcpListener;
 use numbers::Minute;
@@ -218,16 +218,12 @@ pub fn listen<T: AllocGlobal + Net + Clock, S: Store, W: Write, L: Write>(
     let alloc = rt.alloc();
     report_listening(alloc, port, writer)?;
     let mut ticks = MachineMinutes { clock: rt };
-    match serve_many(
-        rt,
-        alloc,
+    let service = Service {
         listener,
-        register,
-        &mut ticks,
         connections,
         limits,
-        log,
-    ) {
+    };
+    match serve_many(rt, alloc, service, register, &mut ticks, log) {
         Ok(()) => Ok(()),
         Err(ServerFault::NoMemory) => Err(Fault::NoMemory),
         Err(ServerFault::Poll) => Err(Fault::Read),

@@ -1,6 +1,7 @@
 //! Many connections at once, on one thread.
 #![tactic(auto)]
 
+mod acceptor;
 mod byte_queue;
 mod client;
 mod connection;
@@ -14,4 +15,4 @@ pub use client::Client;
 pub use connection::{Connection, Phase, UNSENT_LIMIT};
 pub use limits::{Limits, Wait};
 pub use schedule::{Event, ScheduledEvent, play};
-pub use server::{ServerFault, serve_many};
+pub use server::{ServerFault, Service, serve_many};

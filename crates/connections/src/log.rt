@@ -56,7 +56,7 @@ pub struct Summary {
     pub ending: Ending,
 }
 
-// Returns the callers, separated by commas: `+` stands for further ones, `-` for none.
+// Returns the callers, separated by commas: `+` is for further ones, `-` for none.
 fn callers(alloc: Global, tally: &Tally) -> Result<String, AllocError> {
     let mut text = String::new(alloc);
     for caller in tally.callers.iter().flatten() {

@@ -73,13 +73,25 @@ pub struct Peer {
 }
 
 // How many messages are executed between two looks at the clock.
-const SLICE: u64 = 4;
+const SLICE: u64 = 8;
 
 // How many slices a turn has at most.
-const SLICES: usize = 16;
+const SLICES: usize = 8;
 
-// How long a turn lasts at most, but for its last slice, in milliseconds.
+// How long a turn lasts at most, but for its first and its last slice, in milliseconds.
 const TURN: u64 = 1;
+
+// Returns whether the time of a turn is over. At the first look, which begins it, it is not.
+fn is_over<C: Clock>(end: &mut Option<Duration>, clock: &C) -> bool {
+    let now = clock.monotonic().unwrap_or(Duration::MAX);
+    match *end {
+        None => {
+            *end = Some(now.saturating_add(Duration::from_millis(TURN)));
+            false
+        }
+        Some(end) => now >= end,
+    }
+}
 
 // Executes messages that have arrived until a turn is over. Returns whether it executed any.
 fn execute_some<S: Store, T: Ticks, C: Clock>(
@@ -95,14 +107,8 @@ fn execute_some<S: Store, T: Ticks, C: Clock>(
     let mut has_executed = false;
     let mut end = None;
     for _ in 0..SLICES {
-        if !connection.has_work() {
+        if !connection.has_work() || has_executed && is_over(&mut end, clock) {
             break;
-        }
-        let now = clock.monotonic().unwrap_or(Duration::MAX);
-        match end {
-            None => end = Some(now.saturating_add(Duration::from_millis(TURN))),
-            Some(end) if now >= end => break,
-            Some(_) => {}
         }
         if let Ok(executed) = connection.execute(executor, register, ticks, &options, SLICE) {
             has_executed = has_executed || executed.count > 0;

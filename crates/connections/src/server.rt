@@ -3,6 +3,7 @@ ghost use Rattle.std.specs.Prelude.{◌≡◌, ◌≢◌, ◌≤◌, Err};
 ghost use Rattle.settle.specs.Reads.{HasDeviceFailed};
 ghost use Rattle.connections.specs.Rows.{RowsFollow};
 
+use crate::acceptor::Acceptor;
 use crate::limits::{Limits, Wait};
 use crate::log::{Ending, log_connection, log_failure};
 use crate::peer::{Accepted, Peer};
@@ -15,7 +16,7 @@ use slab::Slab;
 use std::alloc::{AllocError, Global};
 use std::collections::VecDeque;
 use std::io;
-use std::io::{ErrorKind, Write};
+use std::io::Write;
 use std::net::Net;
 use std::time::{Clock, Duration};
 
@@ -27,9 +28,6 @@ const READ_SIZE: usize = 65_536;
 
 // How many events are taken at once.
 const EVENTS: usize = 256;
-
-// How long no connection is accepted after one could not be, in milliseconds.
-const ACCEPT_PAUSE: u64 = 100;
 
 // How long the loop sleeps at most while all places are taken and a connection waits, in
 // milliseconds.
@@ -68,22 +66,6 @@ impl From<io::Error> for ServerFault {
     }
 }
 
-// The listener, and how many connections it may still accept.
-#[derive(Drop)]
-struct Acceptor {
-    listener: TcpListener,
-    // Whether a connection may be there to accept.
-    is_ready: bool,
-    // None is accepted before this time, since the last one could not be.
-    not_before: Duration,
-    // How many were accepted.
-    accepted: u64,
-    // How many more are accepted, if that is bounded.
-    left: Option<u16>,
-    // A connection that was accepted while all places were taken.
-    waiting: Option<Accepted>,
-}
-
 // The connections, and what serving them needs.
 #[derive(Drop)]
 struct Server {
@@ -99,63 +81,6 @@ struct Server {
     // No deadline is before this time.
     next_deadline: Duration,
     alloc: Global,
-}
-
-impl Acceptor {
-    fn new(listener: TcpListener, connections: Option<u16>) -> Acceptor {
-        Acceptor {
-            listener,
-            is_ready: true,
-            not_before: Duration::ZERO,
-            accepted: 0,
-            left: connections,
-            waiting: None,
-        }
-    }
-
-    // Accepts no further connection, and closes one that waits.
-    fn close(&mut self) {
-        self.left = Some(0);
-        self.waiting = None;
-    }
-
-    // Returns whether no connection is accepted any more, and none waits.
-    fn is_closed(&self) -> bool {
-        self.left == Some(0) && self.waiting.is_none()
-    }
-
-    fn may_accept(&self, now: Duration) -> bool {
-        self.is_ready && now >= self.not_before && self.left != Some(0)
-    }
-
-    // Returns whether a connection waits, or may be there to accept.
-    fn may_have_one(&self, now: Duration) -> bool {
-        self.waiting.is_some() || self.may_accept(now)
-    }
-
-    // Accepts a connection, if one is there, and counts it.
-    fn accept(&mut self, now: Duration) {
-        if !self.may_accept(now) {
-            return;
-        }
-        match self.listener.accept() {
-            Ok((stream, address)) => {
-                // Otherwise a second small write waits for the client's acknowledgement.
-                let _ = stream.set_nodelay(true);
-                self.accepted = self.accepted.saturating_add(1);
-                self.waiting = Some(Accepted {
-                    stream,
-                    address,
-                    number: self.accepted,
-                });
-                self.left = self.left.map(|left| left.saturating_sub(1));
-            }
-            Err(fault) if fault.kind() == ErrorKind::WouldBlock => self.is_ready = false,
-            Err(_) => {
-                self.not_before = now.saturating_add(Duration::from_millis(ACCEPT_PAUSE));
-            }
-        }
-    }
 }
 
 impl Server {
@@ -477,7 +402,16 @@ impl Server {
     }
 }
 
-/// Serves the connections of `listener`, without `POST /clock`: as many as `connections` says, or
+/// What is served: the connections of a listener, and within which limits.
+#[derive(Drop)]
+pub struct Service {
+    pub listener: TcpListener,
+    /// How many connections are served, if that is bounded.
+    pub connections: Option<u16>,
+    pub limits: Limits,
+}
+
+/// Serves the connections of a listener, without `POST /clock`: as many as `connections` says, or
 /// without end; at once, as many as `limits` says. Messages are executed one after another, some of
 /// each connection in turn.
 ///
@@ -496,11 +430,9 @@ impl Server {
 pub fn serve_many<N: Net + Clock, S: Store, T: Ticks, L: Write>(
     rt: &N,
     alloc: Global,
-    listener: TcpListener,
+    service: Service,
     register: &mut Register<S>,
     ticks: &mut T,
-    connections: Option<u16>,
-    limits: Limits,
     log: &mut L,
 ) -> Result<(), ServerFault>
     ensures follows { RowsFollow S.StoreModel register.old.store register.new.store }
@@ -508,7 +440,11 @@ pub fn serve_many<N: Net + Clock, S: Store, T: Ticks, L: Write>(
     ensures storage { result ≡ Err ServerFault.Storage
         → HasDeviceFailed (S.failed register.old.store) (S.failed register.new.store) }
 {
-    let mut listener = listener;
+    let Service {
+        mut listener,
+        connections,
+        limits,
+    } = service;
     let poll = Poll::new(rt)?;
     poll.registry()
         .register(&mut listener, LISTENER, Interest::READABLE)?;
