@@ -24,7 +24,7 @@ use Rattle.settle.specs.declared.rows.BroadcastKey.{BroadcastKey as BroadcastKey
 use Rattle.settle.specs.declared.rows.WaitKey.{WaitKey as WaitKeyImpl}
 use Rattle.store.specs.Maps.{map_of}
 use Rattle.store.specs.WaitRows.{IsDownload}
-use Rattle.store.specs.QueueRows.{AreOrdered, order_of, lowest, highest, download_at, download_from, broadcast_of}
+use Rattle.store.specs.QueueRows.{AreOrdered, IsOrderedFor, order_of, lowest, highest, download_at, download_from, broadcast_of}
 use Rattle.store.proofs.Maps.{get-map_of, entry-of}
 use Rattle.model.proofs.KeyOrders.{wait_total, wait_exact, broadcast_total, broadcast_exact}
 use Rattle.store.proofs.Listed.{Among, contained, all-places, filter_map-filter, listed-sorted, found-listed, equal_cmp}
@@ -106,8 +106,8 @@ in_part : {A : Type 0} (b : Bool) (o : Option A) (d : A) → cond b o None ≡ S
 in_part true o d e = (refl, e)
 in_part false o d e = let f : None ≡ Some d = e in cc
 
-module _ (waits : FinMap wait_cmp Subject) (order : BTreeMap WaitKeyImpl (Unit {0}))
-    (broadcasts : BTreeMap BroadcastKeyImpl Broadcast) (carrier : Spid) (many : ℕ) where
+module _ (ordered_for : List Spid) (waits : FinMap wait_cmp Subject)
+    (order : BTreeMap WaitKeyImpl (Unit {0})) (broadcasts : BTreeMap BroadcastKeyImpl Broadcast) (carrier : Spid) (many : ℕ) where
   abbrev content : Content
   content = record empty_content {
     waits = waits;
@@ -156,7 +156,8 @@ module _ (waits : FinMap wait_cmp Subject) (order : BTreeMap WaitKeyImpl (Unit {
 
   module _ (lo hi : WaitKeyImpl) (low : wait_key_of lo ≡ lowest carrier.number)
       (high : wait_key_of hi ≡ highest carrier.number)
-      (indexed : AreOrdered waits (order_of order)) where
+      (indexed : AreOrdered ordered_for waits (order_of order))
+      (among : IsOrderedFor ordered_for carrier.number) where
     abbrev listed : WaitKeyImpl → Option Download
     listed k = cond (is_between lo hi k) (download_at broadcasts k) None
 
@@ -173,7 +174,7 @@ module _ (waits : FinMap wait_cmp Subject) (order : BTreeMap WaitKeyImpl (Unit {
         let mine : is_some (get waits (own e.0.minute.number e.0.id e.0.attempt)) ≡ true =
         ap (λ c. is_some (get waits (wait_key c e.0.minute.number e.0.id e.0.attempt)))
         (carrier-is carrier.number lo hi low high e.0 p.0)
-        ∙ sym (indexed.same (wait_key_of e.0)) ∙ stands in
+        ∙ indexed.pending (wait_key_of e.0) stands in
         subst (IsWaitingDownload content carrier.number) t.2 (
           broadcast_row_of t.0,
           (mine, t.1),
@@ -217,7 +218,7 @@ module _ (waits : FinMap wait_cmp Subject) (order : BTreeMap WaitKeyImpl (Unit {
           × (d.attempt ≡ attempt))
       listed-there minute id attempt row is =
           let stands : is_some (get (order_of order) (own minute id attempt)) ≡ true =
-          indexed.same (own minute id attempt) ∙ is.0 in
+          indexed.whole carrier.number among (own minute id attempt) refl is.0 in
           let small : IsDownload (record { minute = minute; id = id; attempt = attempt }) =
           indexed.small (own minute id attempt) stands in
           let q = entry-of wait_key_of (λ (u : Unit {0}). u) wait_total wait_exact order
@@ -278,14 +279,15 @@ module _ (waits : FinMap wait_cmp Subject) (order : BTreeMap WaitKeyImpl (Unit {
   pub walked : (lo hi : WaitKeyImpl) (found : List Download) (rest part : List (WaitKeyImpl
       × Unit {0})) → wait_key_of lo ≡ lowest carrier.number
       → wait_key_of hi ≡ highest carrier.number →
-      AreOrdered waits (order_of order) → tree.IsOrdered (on wait_key_of wait_cmp) order
+      AreOrdered ordered_for waits (order_of order) → IsOrderedFor ordered_for carrier.number
+      → tree.IsOrdered (on wait_key_of wait_cmp) order
       → part ≡ entries_between (on wait_key_of wait_cmp) (Included lo) (Included hi) order.entries →
       found ++ filter_map (λ e. download_at broadcasts e.0) rest
       ≡ filter_map (λ e. download_at broadcasts e.0)
       part → (rest ≡ []) ⊎ (length found ≡ many) → length found ≤ many
       → AreFirst content (spid_of carrier) many found
-  walked lo hi found rest part low high indexed ordered is_part so_far ends most =
-      front-are lo hi low high indexed found (filter_map (λ e. download_at broadcasts e.0) rest)
+  walked lo hi found rest part low high indexed among ordered is_part so_far ends most =
+      front-are lo hi low high indexed among found (filter_map (λ e. download_at broadcasts e.0) rest)
       (so_far ∙ ap (filter_map (λ e. download_at broadcasts e.0)) is_part
       ∙ filter_map-filter (λ e. download_at broadcasts e.0) (λ e. is_between lo hi e.0)
       order.entries)

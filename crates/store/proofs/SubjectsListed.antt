@@ -21,7 +21,7 @@ use Rattle.settle.specs.Abstraction.{spid_of, wait_key_of}
 use Rattle.settle.specs.Reads.{AreWaitingSubjects, IsAwaitedBy}
 use Rattle.settle.specs.declared.rows.WaitKey.{WaitKey as WaitKeyImpl}
 use Rattle.store.specs.WaitRows.{IsDownload}
-use Rattle.store.specs.QueueRows.{AreOrdered, order_of, lowest, highest, gathered, with_subject, subjects_of}
+use Rattle.store.specs.QueueRows.{AreOrdered, IsOrderedFor, order_of, lowest, highest, gathered, with_subject, subjects_of}
 use Rattle.store.specs.Maps.{IsSet}
 use Rattle.store.proofs.Maps.{get-map_of, set_map_of, entry-of, get-set, get-set_here}
 use Rattle.model.proofs.KeyOrders.{wait_total, wait_exact}
@@ -173,7 +173,8 @@ all-of P (x ∷ xs) each = (each x (inl refl), all-of P xs (λ y there. each y (
 module _ (waits : FinMap wait_cmp Subject) (order : BTreeMap WaitKeyImpl (Unit {0}))
     (subjects : BTreeMap SubjectImpl (Unit {0})) (carrier : Spid) (lo hi : WaitKeyImpl)
     (low : wait_key_of lo ≡ lowest carrier.number) (high : wait_key_of hi ≡ highest carrier.number)
-    (indexed : AreOrdered waits (order_of order))
+    (ordered_for : List Spid) (indexed : AreOrdered ordered_for waits (order_of order))
+    (among : IsOrderedFor ordered_for carrier.number)
     (part : List (WaitKeyImpl × Unit {0})) (is_part : part ≡ entries_between
     (on wait_key_of wait_cmp) (Included lo) (Included hi) order.entries)
     (all : subjects_of subjects ≡ gathered waits part empty) where
@@ -216,7 +217,8 @@ module _ (waits : FinMap wait_cmp Subject) (order : BTreeMap WaitKeyImpl (Unit {
       → is_some (get (subjects_of subjects) (subject_key s)) ≡ true
   gathered-there s is =
       let key : WaitKey = wait_key carrier.number is.0 is.1 is.2 in
-      let stands : is_some (get (order_of order) key) ≡ true = indexed.same key ∙ ap is_some is.3 in
+      let stands : is_some (get (order_of order) key) ≡ true =
+      indexed.whole carrier.number among key refl (ap is_some is.3) in
       let small : IsDownload (record { minute = is.0; id = is.1; attempt = is.2 }) =
       indexed.small key stands in
       let q = entry-of wait_key_of (λ (u : Unit {0}). u) wait_total wait_exact order key stands in

@@ -1,11 +1,13 @@
 -- The index of pending downloads in queue order.
-use Rattle.std.specs.Prelude.{◌≡◌, ℕ, true, List, [], ◌∷◌, Option, Some, None, is_some, option_map}
+use Rattle.std.specs.Prelude.{◌≡◌, ◌==◌, ℕ, true, List, [], ◌∷◌, Option, Some, None, is_some, option_map}
+use Rattle.std.specs.List.{list_any}
 use Rattle.std.specs.Ordering.{on, nat_cmp}
 use Rattle.std.specs.BTreeMap as tree
 use Rattle.std.specs.BTreeMap.{BTreeMap}
 use Rattle.std.specs.FinMap.{FinMap, get}
 use Rattle.numbers.specs.Subjects.{Subject, subject_key}
 use Rattle.numbers.specs.Abstraction.{key_of}
+use Rattle.numbers.specs.declared.spid.Spid.{Spid}
 use Rattle.numbers.specs.declared.ported.Subject.{Subject as SubjectImpl}
 use Rattle.model.specs.Content.{WaitKey, wait_cmp, broadcast_cmp, wait_key}
 use Rattle.delivery.specs.declared.broadcast.Broadcast.{Broadcast}
@@ -19,11 +21,22 @@ use Rattle.store.specs.WaitRows.{IsDownload, download_of}
 abbrev pub order_of : BTreeMap WaitKeyImpl (Unit {0}) → FinMap wait_cmp (Unit {0})
 order_of m = map_of wait_key_of (λ u. u) m
 
--- Holds if the index has exactly the keys of the pending downloads, all in the range of the code.
-pub record AreOrdered (waits : FinMap wait_cmp Subject)
+-- Holds if the carrier is among those whose downloads are all in the index.
+abbrev pub IsOrderedFor : List Spid → (carrier : ℕ) → Type 0
+IsOrderedFor ordered carrier = list_any (λ (c : Spid). carrier == c.number) ordered ≡ true
+
+-- Holds if the index has each pending download of the carrier.
+abbrev pub HasQueue : (carrier : ℕ) → FinMap wait_cmp Subject → FinMap wait_cmp (Unit {0}) → Type 0
+HasQueue carrier waits order = (k : WaitKey) → k.carrier ≡ carrier
+    → is_some (get waits k) ≡ true → is_some (get order k) ≡ true
+
+-- Holds if the index has keys of pending downloads only, all in the range of the code, and each
+-- pending download of these carriers.
+pub record AreOrdered (ordered : List Spid) (waits : FinMap wait_cmp Subject)
     (order : FinMap wait_cmp (Unit {0})) : Type 0 where
-  pub same : (k : WaitKey) → is_some (get order k) ≡ is_some (get waits k)
+  pub pending : (k : WaitKey) → is_some (get order k) ≡ true → is_some (get waits k) ≡ true
   pub small : (k : WaitKey) → is_some (get order k) ≡ true → IsDownload (download_of k)
+  pub whole : (carrier : ℕ) → IsOrderedFor ordered carrier → HasQueue carrier waits order
 
 -- The least key that a download of the carrier can have; then the greatest.
 abbrev pub lowest : ℕ → WaitKey

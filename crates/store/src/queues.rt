@@ -12,8 +12,9 @@ ghost use Rattle.settle.specs.Lists.{items_of};
 ghost use Rattle.settle.specs.Reads.{AreWaitingSubjects, AreFirst, AreWaitsAbout};
 ghost use Rattle.settle.specs.Abstraction.{broadcast_row_of, broadcast_key_of, spid_of, wait_key_of};
 ghost use Rattle.store.specs.Maps.{map_of, set};
-ghost use Rattle.store.specs.QueueRows.{lowest, highest, download_at};
+ghost use Rattle.store.specs.QueueRows.{lowest, highest, download_at, order_of, AreOrdered, IsOrderedFor};
 
+use crate::waiting::is_among;
 use crate::waits::Waits;
 use delivery::{Broadcast, Download, DownloadKey};
 use numbers::{Minute, Spid, Subject};
@@ -22,11 +23,16 @@ use std::alloc::{AllocError, Global};
 use std::collections::BTreeMap;
 use std::marker::Model;
 
-/// The pending downloads, and an index that has each carrier's in the order of its queue.
+/// The pending downloads, and an index that has those of some carriers in the order of their queues.
+///
+/// A carrier's downloads are in the index once its queue has been read. Until then a download costs
+/// no more than its place in the row of its broadcast.
 #[derive(Drop)]
 pub struct Queues {
     waits: Waits,
     order: BTreeMap<WaitKey, ()>,
+    /// The carriers whose downloads are all in `order`.
+    ordered: Vec<Spid>,
 }
 
 impl Model for Queues {
@@ -42,7 +48,7 @@ impl Model for Queues {
 
     ghost view = { λ q. q.waits };
 
-    ghost invariant = { λ q. AreOrdered q.waits (order_of q.order) };
+    ghost invariant = { λ q. AreOrdered q.ordered.items q.waits (order_of q.order) };
 }
 
 // Returns the least key that a download of the carrier can have.
@@ -101,6 +107,25 @@ fn ascending(alloc: Global, subjects: &BTreeMap<Subject, ()>) -> Result<Vec<Subj
     Ok(found)
 }
 
+// Adds the carrier's downloads to the index, if they are not in it yet.
+fn order_queue(
+    waits: &Waits,
+    order: &mut BTreeMap<WaitKey, ()>,
+    ordered: &mut Vec<Spid>,
+    carrier: Spid,
+) -> Result<(), AllocError>
+    requires { AreOrdered ordered.old.items waits.now (order_of order.old) }
+    ensures ordered { AreOrdered ordered.new.items waits.now (order_of order.new) }
+    ensures own { OnOk result (IsOrderedFor ordered.new.items carrier.number) }
+{
+    if is_among(carrier, ordered) {
+        return Ok(());
+    }
+    waits.add_queue(carrier, order)?;
+    ordered.push(carrier)?;
+    Ok(())
+}
+
 impl Queues {
     /// Creates empty queues.
     pub fn new(alloc: Global) -> Queues
@@ -109,6 +134,7 @@ impl Queues {
         Queues {
             waits: Waits::new(alloc),
             order: BTreeMap::new(alloc),
+            ordered: Vec::new(alloc),
         }
     }
 
@@ -139,6 +165,9 @@ impl Queues {
             (self.new ≡ set self.old (wait_key_of key) (Some (subject_of subject))) }
         ensures err { OnErr result (self.new ≡ self.old) }
     {
+        if !is_among(key.carrier, &self.ordered) {
+            return self.waits.put(key, subject);
+        }
         let was_there = self.order.insert(key, ())?;
         match self.waits.put(key, subject) {
             Ok(before) => Ok(before),
@@ -175,11 +204,13 @@ impl Queues {
     }
 
     /// Returns the subjects with downloads pending for the carrier, ascending, without duplicates.
-    pub fn subjects(&self, alloc: Global, carrier: Spid) -> Result<Vec<Subject>, AllocError>
-        ensures { IfOk result (λ subjects.
-            AreWaitingSubjects (record empty_content { waits = self.now }) (spid_of carrier)
+    pub fn subjects(&mut self, alloc: Global, carrier: Spid) -> Result<Vec<Subject>, AllocError>
+        ensures found { IfOk result (λ subjects.
+            AreWaitingSubjects (record empty_content { waits = self.old }) (spid_of carrier)
             subjects.items) }
+        ensures same { self.new ≡ self.old }
     {
+        order_queue(&self.waits, &mut self.order, &mut self.ordered, carrier)?;
         let mut subjects = BTreeMap::new(alloc);
         for (key, _) in self.order.range(lowest(carrier)..=highest(carrier)) {
             if let Some(subject) = self.waits.get(*key) {
@@ -192,18 +223,20 @@ impl Queues {
     /// Returns the first `many` downloads of the carrier's queue, or all if there are fewer. Reads
     /// their subjects, actions and routings from `broadcasts`.
     pub fn front(
-        &self,
+        &mut self,
         alloc: Global,
         broadcasts: &BTreeMap<BroadcastKey, Broadcast>,
         carrier: Spid,
         many: usize,
     ) -> Result<Vec<Download>, AllocError>
-        ensures { IfOk result (λ downloads.
+        ensures found { IfOk result (λ downloads.
             AreFirst (record empty_content {
-              waits = self.now;
+              waits = self.old;
               broadcasts = map_of broadcast_key_of broadcast_row_of broadcasts.now;
             }) (spid_of carrier) many downloads.items) }
+        ensures same { self.new ≡ self.old }
     {
+        order_queue(&self.waits, &mut self.order, &mut self.ordered, carrier)?;
         let mut found = Vec::new(alloc);
         for (key, _) in self.order.range(lowest(carrier)..=highest(carrier)) {
             if found.len() == many {

@@ -15,7 +15,8 @@ pub struct Waiting {
     pub carriers: Vec<Spid>,
 }
 
-fn is_among(carrier: Spid, carriers: &[Spid]) -> bool
+/// Returns whether the carrier is among `carriers`.
+pub fn is_among(carrier: Spid, carriers: &[Spid]) -> bool
     ensures { result ≡ list_any (λ (k : Spid). carrier.number == k.number) carriers.now }
 {
     carriers.iter().any(|each| carrier.number == each.number)

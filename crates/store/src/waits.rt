@@ -1,5 +1,5 @@
 //! The pending downloads.
-ghost use Rattle.std.specs.Prelude.{◌≡◌, ◌==◌, ℕ, Some, None, IfSome, IfOk, OnOk, OnErr, is_some, option_map};
+ghost use Rattle.std.specs.Prelude.{◌≡◌, ◌==◌, ℕ, List, Some, None, IfSome, IfOk, OnOk, OnErr, is_some, option_map};
 ghost use Rattle.std.specs.List.{list_any};
 ghost use Rattle.std.specs.FinMap.{get, empty};
 ghost use Rattle.numbers.specs.Abstraction.{subject_of};
@@ -9,6 +9,7 @@ ghost use Rattle.settle.specs.Lists.{items_of};
 ghost use Rattle.settle.specs.Reads.{AreWaitsAbout};
 ghost use Rattle.settle.specs.Abstraction.{spid_of, wait_key_of};
 ghost use Rattle.store.specs.Maps.{set};
+ghost use Rattle.store.specs.QueueRows.{order_of, AreOrdered, HasQueue};
 ghost use Rattle.store.specs.WaitRows.{row_key_of, download_of, wait_for, subject_download_of, key_about, is_for};
 
 use crate::keys::{Rank, RowKey, SubjectDownload};
@@ -167,6 +168,30 @@ impl Waits {
             let _ = self.about.remove(&about(subject, key));
         }
         before
+    }
+
+    /// Adds the carrier's downloads to `order`. If an allocation fails, it may add only some.
+    pub fn add_queue(
+        &self,
+        carrier: Spid,
+        order: &mut BTreeMap<WaitKey, ()>,
+    ) -> Result<(), AllocError>
+        ensures kept { (ordered : List SpidImpl) → AreOrdered ordered self.now (order_of order.old)
+            → AreOrdered ordered self.now (order_of order.new) }
+        ensures added { OnOk result (HasQueue carrier.number self.now (order_of order.new)) }
+    {
+        for (key, _) in self.about.iter() {
+            let wait = WaitKey {
+                carrier,
+                minute: key.minute,
+                id: key.id,
+                attempt: key.attempt,
+            };
+            if self.get(wait).is_some() {
+                let _ = order.insert(wait, ())?;
+            }
+        }
+        Ok(())
     }
 
     /// Returns the downloads of the subject that are pending for the carrier, earliest first.

@@ -11,5 +11,5 @@ returns-clause-value c usable =
     let found : IfOk c.front.result (λ downloads. AreFirst (content_of c.args.self.now.tables)
     (spid_of c.args.spid) c.args.many downloads.items) =
     all-first c.args.self.now.tables (spid_of c.args.spid) c.args.many (λ d. d.items) c.front.result
-    c.front.ensures in
+    c.front.ensures.found in
     search rules

@@ -12,5 +12,5 @@ returns-clause-value c usable =
     (content_of c.args.self.now.tables)
     (spid_of c.args.spid) subjects.items) =
     all-awaited c.args.self.now.tables (spid_of c.args.spid) (λ s. s.items) c.subjects.result
-    c.subjects.ensures in
+    c.subjects.ensures.found in
     search rules

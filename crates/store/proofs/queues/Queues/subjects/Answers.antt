@@ -22,10 +22,10 @@ loop-key-preserved-in-Some-get c =
     ∙ ap (λ es. gathered c.args.self.now es (subjects_of c.loop-key.subjects)) (sym next)
     ∙ c.loop-key.invariant
 
-pub returns : goal.returns
-returns c =
+pub returns-clause-found : goal.returns-clause-found
+returns-clause-found c =
     let part : c.into_iter-key-iterator.result ≡ entries_between (on wait_key_of wait_cmp)
-    (Included c.new.result.start) (Included c.new.result.end) c.self.inside.order.entries =
+    (Included c.new.result.start) (Included c.new.result.end) c.order_queue.new.order.entries =
     search rules in
     let end : c.loop-key.key-iterator ≡ [] = search rules in
     let all : subjects_of c.loop-key.subjects ≡ gathered c.args.self.now
@@ -34,8 +34,10 @@ returns c =
     ∙ c.loop-key.invariant in
     if_ok
     (λ found is.
-    subjects-are c.args.self.now c.self.inside.order c.loop-key.subjects c.args.carrier
+    subjects-are c.args.self.now c.order_queue.new.order c.loop-key.subjects c.args.carrier
     c.new.result.start c.new.result.end (search rules) (search rules)
-    (subst (λ m. AreOrdered m (order_of c.self.inside.order)) c.self.view_is c.self.invariant)
+    c.order_queue.new.ordered.items (subst (λ m. AreOrdered c.order_queue.new.ordered.items m
+    (order_of c.order_queue.new.order)) c.self.view_is c.in_ok-order_queue.ensures.ordered)
+    c.in_ok-order_queue.ensures.own
     c.into_iter-key-iterator.result part all found.items is.0 is.1)
     c.ascending.result c.ascending.ensures
