@@ -1,0 +1,10 @@
+-- The map of rows that lie at the places of their ids.
+use Rattle.std.specs.Prelude.{ℕ, suc, List, [], ◌∷◌, Option}
+use Rattle.std.specs.Ordering.{nat_cmp}
+use Rattle.std.specs.FinMap.{FinMap, empty}
+use Rattle.store.specs.Maps.{set}
+
+-- The rows of which the first has the id `n`.
+unfoldable pub rows_from : {X : Type 0} → ℕ → List (Option X) → FinMap nat_cmp X
+rows_from n [] = empty
+rows_from n (o ∷ os) = set (rows_from (suc n) os) n o
