@@ -14,13 +14,13 @@ returns-clause-changed c = record {
   broadcasts = search rules;
   waits = search rules;
   sets = sets-there c.args.changes.now.set c.args.tables.now c.requires.set;
-  clock = c.moved-tables.ensures;
+  clock = c.move_clock.ensures;
 }
 
 pub returns-clause-spares : goal.returns-clause-spares
 returns-clause-spares c =
     spares-beside c.args.tables.now (record c.args.tables.now {
-      clock = c.moved-tables.result;
+      clock = c.move_clock.new.row;
       broadcasts = c.delete_broadcasts.new.map;
       waits = c.delete_waits.new.waits;
     }) refl (all-kept c.args.tables.now)
