@@ -1,6 +1,6 @@
 -- The undo log: what a commit has written so far, entry by entry.
 use Rattle.std.specs.Prelude.{◌≡◌, ℕ, List, [], ◌∷◌, map, Option, Some, None, option_map}
-use Rattle.std.specs.FinMap.{get}
+use Rattle.std.specs.FinMap.{FinMap, get}
 use Rattle.numbers.specs.Subjects.{Subject}
 use Rattle.numbers.specs.Abstraction.{subject_of}
 use Rattle.numbers.specs.declared.block_id.BlockId.{BlockId as BlockIdImpl}
@@ -8,7 +8,7 @@ use Rattle.numbers.specs.declared.code_id.CodeId.{CodeId as CodeIdImpl}
 use Rattle.numbers.specs.declared.lrn.Lrn.{Lrn as LrnImpl}
 use Rattle.numbers.specs.declared.spid.Spid.{Spid as SpidImpl}
 use Rattle.numbers.specs.declared.ported.Subject.{Subject as SubjectImpl}
-use Rattle.model.specs.Content.{Content, VersionRow}
+use Rattle.model.specs.Content.{Content, VersionRow, wait_cmp}
 use Rattle.delivery.specs.declared.broadcast.Broadcast.{Broadcast}
 use Rattle.settle.specs.Changes.{Changes, AppliesChanges}
 use Rattle.settle.specs.Abstraction.{spid_of, lrn_of, code_of, block_of, block_row_of, broadcast_key_of, broadcast_row_of, wait_key_of}
@@ -85,6 +85,13 @@ IsNoted s before after old new = (start : Tables) → IsPut s start old
 abbrev pub IsNotNoted : UndoEntry → List UndoEntry → List UndoEntry → Tables → Tables → Type 0
 IsNotNoted s before after old new = (start : Tables) → IsPut s start old
     → IsLoggedUpTo before after start new
+
+-- Holds if these downloads are added in order, and none of them was pending.
+abbrev pub AreNew : List (WaitKeyImpl × SubjectImpl) → FinMap wait_cmp Subject
+    → FinMap wait_cmp Subject → Type 0
+AreNew [] old new = new ≡ old
+AreNew (e ∷ es) old new = (get old (wait_key_of e.0) ≡ None)
+    × AreNew es (set old (wait_key_of e.0) (Some (subject_of e.1))) new
 
 -- ---- the rows of one table
 
