@@ -17,7 +17,6 @@ use Rattle.store.specs.Maps.{IsSet, set}
 use Rattle.store.specs.TableLenses.{broadcasts}
 use Rattle.store.specs.UndoLog.{PutsNoOthers}
 use Rattle.store.specs.Tables.{content_of, from_waits, with_version, AddNoStale, AreIndexed, AreKeysOf, AreKeysDeleted, AreLeftBy, AreNoKeys, AreUnneeded, HaveKeys, IsOneOf, KeepIndexes, KeepOtherVersions}
-use Rattle.store.specs.declared.hints.Hints.{Hints}
 use Rattle.store.specs.declared.keys.VersionKeys.{VersionKeys}
 use Rattle.store.specs.declared.tables.Tables.{Tables}
 use Rattle.store.proofs.Changed.{version_first, broadcast_first}
@@ -102,18 +101,18 @@ sole-content old mid id row versions same put =
 
 -- After the stale keys of the row before are deleted, the tables are indexed and have no new stale
 -- key.
-pub sole-taken : (old put new : Tables) (versions : FinMap nat_cmp VersionRow) (hints : Hints)
+pub sole-taken : (old put new : Tables) (versions : FinMap nat_cmp VersionRow)
     (id : ℕ) (row : VersionRow) (present_keys keys taken : VersionKeys) → id < 18446744073709551616
     → ((r : VersionRow) → get (content_of old).versions id ≡ Some r → AreKeysOf id r present_keys)
     → (get (content_of old).versions id ≡ None → AreNoKeys present_keys) → AreKeysOf id row keys
     → AreUnneeded present_keys keys taken → content_of put ≡ content_of old → KeepIndexes old put
     → KeepOtherVersions keys put old → versions ≡ set (content_of put).versions id (Some row)
     → HaveKeys keys put → AreIndexed old
-    → AreKeysDeleted taken (record put { versions = versions; hints = hints }) new
+    → AreKeysDeleted taken (record put { versions = versions }) new
     → AreIndexed new × AddNoStale old new
-sole-taken old put new versions hints id row present_keys keys taken small own without of left same
+sole-taken old put new versions id row present_keys keys taken small own without of left same
     keeps adds written there indexed is =
-    let mid = record put { versions = versions; hints = hints } in
+    let mid = record put { versions = versions } in
     let by = left-by old mid id row present_keys keys taken own without of left adds
     (sole-content old put id row versions same written) in (
       indexed-beside mid new taken is by.unneeded

@@ -84,7 +84,7 @@ fn marks_in_use(
         AreMarks (content_of tables.now) block.number (marks_of numbers)) }
 {
     let mut numbers = BTreeMap::new(alloc);
-    for (key, _) in tables.holds.range(lowest(block)..=highest(block)) {
+    for (key, _) in tables.holds.keys.range(lowest(block)..=highest(block)) {
         if let Some(tn) = number_in_force(tables, block, key.id) {
             let marks = Marks {
                 is_in_force: true,

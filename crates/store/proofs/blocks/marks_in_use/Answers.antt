@@ -43,7 +43,7 @@ pub returns : goal.returns
 returns c =
     let in_force : c.into_iter-key-iterator.result ≡ entries_between
     (on subject_version_of subject_version_cmp) (Included c.new.result.start)
-    (Included c.new.result.end) c.args.tables.now.holds.entries = search rules in
+    (Included c.new.result.end) c.args.tables.now.holds.keys.entries = search rules in
     let opened : c.into_iter-key-iterator-2.result ≡ entries_between
     (on subject_version_of subject_version_cmp) (Included c.new-2.result.start)
     (Included c.new-2.result.end) c.args.tables.now.opens.entries = search rules in

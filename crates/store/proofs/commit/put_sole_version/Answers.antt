@@ -11,7 +11,7 @@ taken : (c : goal.After-delete_version_keys) → AreIndexed c.delete_version_key
 taken c =
     let put = c.put_row_keys.ensures in
     sole-taken c.args.tables.now c.put_row_keys.new.tables c.delete_version_keys.new.tables
-    c.write.new.self c.note.new.self c.args.id c.args.row.now c.needed_keys-present_keys.result
+    c.write.new.self c.args.id c.args.row.now c.needed_keys-present_keys.result
     c.version_keys-keys.result c.unneeded_keys.result (search rules)
     c.needed_keys-present_keys.ensures.own c.needed_keys-present_keys.ensures.without
     c.version_keys-keys.ensures c.unneeded_keys.ensures put.same put.keeps put.adds_keys
@@ -37,7 +37,6 @@ returns-else-replaced-clause-spares c =
     let put = c.put_row_keys.ensures in
     let new = record c.put_row_keys.new.tables {
       versions = c.write.new.self;
-      hints = c.note.new.self;
     } in
     let present_keys = c.needed_keys-present_keys.ensures in
     let none = present_keys.without (not-there old c.put_row_keys.new.tables c.args.id put.same

@@ -5,14 +5,14 @@ pub returns : goal.returns
 returns c = record {
   content = refl;
   keeps = (
+    c.delete.ensures.others,
     c.delete_key.ensures.others,
     c.delete_key-2.ensures.others,
-    c.delete_key-3.ensures.others,
   );
-  adds = (c.delete_key.ensures.adds, c.delete_key-2.ensures.adds, c.delete_key-3.ensures.adds);
+  adds = (c.delete.ensures.adds, c.delete_key.ensures.adds, c.delete_key-2.ensures.adds);
   gone = record {
-    in_force = c.delete_key.ensures.gone;
-    opened = c.delete_key-2.ensures.gone;
-    deadline = c.delete_key-3.ensures.gone;
+    in_force = c.delete.ensures.gone;
+    opened = c.delete_key.ensures.gone;
+    deadline = c.delete_key-2.ensures.gone;
   };
 }

@@ -6,7 +6,7 @@ use Rattle.store.proofs.reads.hinted.Goals as goal
 
 pub returns-then-eq : goal.returns-then-eq
 returns-then-eq c =
-    let at : get c.args.tables.now.versions c.in_ok-id.id ≡ Some c.in_ok-row.row.now =
+    let at : get c.args.tables.now.versions c.args.id ≡ Some c.in_ok-row.row.now =
     search rules in (
       at ∙ ap (λ (r : VersionRow). Some r) (sym c.copied.ensures),
       ap (λ (r : VersionRow). r.holds) c.copied.ensures ∙ sym c.holds.ensures
