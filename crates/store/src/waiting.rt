@@ -8,6 +8,9 @@ ghost use Rattle.store.specs.WaitRows.{waiting_of, awaited, IsFirst, IsAdded, Is
 use numbers::{Spid, Subject};
 use std::alloc::{AllocError, Global};
 
+// The carriers that a new row has room for. Most broadcasts are pending for several.
+const ROOM: usize = 16;
+
 /// A broadcast's subject, and the carriers for which the broadcast is pending.
 #[derive(Drop)]
 pub struct Waiting {
@@ -35,7 +38,7 @@ impl Waiting {
         ensures { IfOk result
             (λ row. IsFirst carrier.number (subject_of subject) (waiting_of row)) }
     {
-        let mut carriers = Vec::new(alloc);
+        let mut carriers = Vec::with_capacity(alloc, ROOM)?;
         carriers.push(carrier)?;
         Ok(Waiting { subject, carriers })
     }
