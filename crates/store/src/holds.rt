@@ -18,8 +18,8 @@ use std::collections::{BTreeMap, HashMap};
 /// The versions in force by their subjects, and for each subject the last version that came into
 /// force, found by a hash.
 ///
-/// The last version is a hint: it may not be in force any more. A subject without one has no version
-/// in force.
+/// The last version is a hint: it may not be in force any more. A subject without one has no
+/// version in force.
 #[derive(Drop)]
 pub struct Holds {
     /// The versions in the order of their subjects.

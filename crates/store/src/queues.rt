@@ -23,7 +23,8 @@ use std::alloc::{AllocError, Global};
 use std::collections::BTreeMap;
 use std::marker::Model;
 
-/// The pending downloads, and an index that has those of some carriers in the order of their queues.
+/// The pending downloads, and an index that has those of some carriers in the order of their
+/// queues.
 ///
 /// A carrier's downloads are in the index once its queue has been read. Until then a download costs
 /// no more than its place in the row of its broadcast.
