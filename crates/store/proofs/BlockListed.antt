@@ -281,7 +281,8 @@ module _ (t : Tables) (block : ℕ) (indexed : AreIndexed t)
   pub marks-are : (m : FinMap nat_cmp Marks) → m ≡ after
       → AreMarks (content_of t) block m
   marks-are m is = subst (AreMarks (content_of t) block) (sym is) record {
-    in_force = λ n. reflects block low high is_low is_high (λ row. row.holds) t.versions t.holds.keys
+    in_force = λ n. reflects block low high is_low is_high (λ row. row.holds) t.versions
+        t.holds.keys
         indexed.0
         in_force are_held n (marked_in_force (get after n)) (has-in_force n);
     opened = λ n. reflects block first last is_first is_last (λ row. row.opens) t.versions t.opens

@@ -66,7 +66,8 @@ pub have-present : (t : Tables) (id : ℕ) (keys : VersionKeys) → AreIndexed t
     (get (content_of t).versions id ≡ None → AreNoKeys keys) → HaveKeys keys t
 have-present t id keys indexed with without = record {
   in_force = has-row_key subject_version_of subject_version_total subject_version_exact in_force_key
-      (content_of t).versions t.holds.keys id keys.in_force indexed.0 (λ row at. (with row at).in_force)
+      (content_of t).versions t.holds.keys id keys.in_force indexed.0
+      (λ row at. (with row at).in_force)
       (λ at. (without at).in_force);
   opened = has-row_key subject_version_of subject_version_total subject_version_exact open_key
       (content_of t).versions t.opens id keys.opened indexed.1 (λ row at. (with row at).opened)

@@ -23,7 +23,8 @@ use Rattle.numbers.proofs.Small.{tied, impossible}
 abbrev pub wait_in : (carrier : ℕ) → SubjectDownloadImpl → WaitKey
 wait_in carrier k = wait_key carrier k.minute.number k.id k.attempt
 
--- Holds if each pending download of the carrier is in the index of queues, or its broadcast is among
+-- Holds if each pending download of the carrier is in the index of queues, or its broadcast is
+-- among
 -- the rest.
 abbrev pub AreAdded : (carrier : ℕ) → FinMap wait_cmp Subject → FinMap wait_cmp (Unit {0})
     → List (SubjectDownloadImpl × Unit {0}) → Type 0
@@ -54,7 +55,8 @@ none-added carrier rows about order indexed k mine there =
     let here = indexed (download_of k) w.0 w.1 in
     let q = entry-of subject_download_of (λ (u : Unit {0}). u) subject_download_total
     subject_download_exact about (key_about w.0.0 (download_of k)) here.1 in
-    let e = found-entry (is_at (on subject_download_of subject_download_cmp q.0)) about.entries q.2 in
+    let e = found-entry (is_at (on subject_download_of subject_download_cmp q.0)) about.entries
+    q.2 in
     let same : subject_download_of e.0.0 ≡ key_about w.0.0 (download_of k) =
     sym (subject_download_exact (subject_download_of q.0) (subject_download_of e.0.0) (tied _ e.2))
     ∙ q.1 in

@@ -107,7 +107,8 @@ in_part true o d e = (refl, e)
 in_part false o d e = let f : None ≡ Some d = e in cc
 
 module _ (ordered_for : List Spid) (waits : FinMap wait_cmp Subject)
-    (order : BTreeMap WaitKeyImpl (Unit {0})) (broadcasts : BTreeMap BroadcastKeyImpl Broadcast) (carrier : Spid) (many : ℕ) where
+    (order : BTreeMap WaitKeyImpl (Unit {0})) (broadcasts : BTreeMap BroadcastKeyImpl Broadcast)
+    (carrier : Spid) (many : ℕ) where
   abbrev content : Content
   content = record empty_content {
     waits = waits;
@@ -287,7 +288,8 @@ module _ (ordered_for : List Spid) (waits : FinMap wait_cmp Subject)
       part → (rest ≡ []) ⊎ (length found ≡ many) → length found ≤ many
       → AreFirst content (spid_of carrier) many found
   walked lo hi found rest part low high indexed among ordered is_part so_far ends most =
-      front-are lo hi low high indexed among found (filter_map (λ e. download_at broadcasts e.0) rest)
+      front-are lo hi low high indexed among found (filter_map (λ e. download_at broadcasts e.0)
+      rest)
       (so_far ∙ ap (filter_map (λ e. download_at broadcasts e.0)) is_part
       ∙ filter_map-filter (λ e. download_at broadcasts e.0) (λ e. is_between lo hi e.0)
       order.entries)

@@ -14,7 +14,8 @@ tie : (k n : ℕ) → eq_by_cmp nat_cmp k n ≡ (k == n)
 tie k n = grind (arith, nat_tests)
 
 module _ {X : Type 0} where
-  row-from : (n : ℕ) (os : List (Option X)) (q : ℕ) → get (rows_from n os) (n + q) ≡ get_or os q None
+  row-from : (n : ℕ) (os : List (Option X)) (q : ℕ)
+      → get (rows_from n os) (n + q) ≡ get_or os q None
   unfolding rows_from
   row-from n [] q = get-empty nat_cmp (n + q)
   row-from n (o ∷ os) zero =

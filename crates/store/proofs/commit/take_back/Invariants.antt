@@ -7,7 +7,8 @@ use Rattle.store.proofs.commit.take_back.Given as goal
 
 abbrev pub invariant-loop-left : goal.invariant-loop-left
 invariant-loop-left l = (l.left ≤ length l.downloads)
-    × ((start : FinMap wait_cmp Subject) → AreNew (take l.fn.count l.downloads) start l.initial.waits
+    × ((start : FinMap wait_cmp Subject)
+    → AreNew (take l.fn.count l.downloads) start l.initial.waits
     → AreNew (take l.left l.downloads) start l.waits)
 
 abbrev pub decreases-loop-left : goal.decreases-loop-left

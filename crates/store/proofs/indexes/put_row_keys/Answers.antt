@@ -12,7 +12,8 @@ returns-clause-there c =
     let stood = have-present old c.args.id c.args.present_keys c.requires.indexed c.requires.own
     c.requires.without in
     on_ok_weaker c.put_version_keys.result (λ there. record {
-      in_force = has-either subject_version_of subject_version_total subject_version_exact old.holds.keys
+      in_force = has-either subject_version_of subject_version_total subject_version_exact
+          old.holds.keys
           new.holds.keys c.args.keys.in_force c.args.present_keys.in_force
           c.unneeded_keys.result.in_force
           c.unneeded_keys.ensures.in_force.0
@@ -35,7 +36,8 @@ returns-clause-adds_keys c =
     let old = c.args.tables.now in
     let new = c.put_version_keys.new.tables in
     let adds = c.put_version_keys.ensures.adds_keys in (
-      beside-all subject_version_of subject_version_total subject_version_exact new.holds.keys old.holds.keys
+      beside-all subject_version_of subject_version_total subject_version_exact new.holds.keys
+          old.holds.keys
           c.args.keys.in_force c.unneeded_keys.result.in_force c.unneeded_keys.ensures.in_force.0
           adds.0,
       beside-all subject_version_of subject_version_total subject_version_exact new.opens old.opens

@@ -21,10 +21,12 @@ returns-then-len-many-clause-found c =
       waits = m;
       broadcasts = map_of broadcast_key_of broadcast_row_of c.args.broadcasts.now;
     }) (spid_of c.args.carrier) c.args.many c.loop-key.found.items) c.self.view_is
-    (walked c.order_queue.new.ordered.items c.self.inside.waits c.order_queue.new.order c.args.broadcasts.now c.args.carrier c.args.many
+    (walked c.order_queue.new.ordered.items c.self.inside.waits c.order_queue.new.order
+    c.args.broadcasts.now c.args.carrier c.args.many
     c.new.result.start c.new.result.end c.loop-key.found.items c.loop-key.key-iterator
     c.into_iter-key-iterator.result
-    (search rules) (search rules) c.in_ok-order_queue.ensures.ordered c.in_ok-order_queue.ensures.own
+    (search rules) (search rules) c.in_ok-order_queue.ensures.ordered
+    c.in_ok-order_queue.ensures.own
     c.range-key-items.ensures.ordered part
     c.loop-key.invariant.0 (inr full) c.loop-key.invariant.1)
 
@@ -38,9 +40,11 @@ returns-clause-found c =
       waits = m;
       broadcasts = map_of broadcast_key_of broadcast_row_of c.args.broadcasts.now;
     }) (spid_of c.args.carrier) c.args.many c.loop-key.found.items) c.self.view_is
-    (walked c.order_queue.new.ordered.items c.self.inside.waits c.order_queue.new.order c.args.broadcasts.now c.args.carrier c.args.many
+    (walked c.order_queue.new.ordered.items c.self.inside.waits c.order_queue.new.order
+    c.args.broadcasts.now c.args.carrier c.args.many
     c.new.result.start c.new.result.end c.loop-key.found.items c.loop-key.key-iterator
     c.into_iter-key-iterator.result
-    (search rules) (search rules) c.in_ok-order_queue.ensures.ordered c.in_ok-order_queue.ensures.own
+    (search rules) (search rules) c.in_ok-order_queue.ensures.ordered
+    c.in_ok-order_queue.ensures.own
     c.range-key-items.ensures.ordered part
     c.loop-key.invariant.0 (inl end) c.loop-key.invariant.1)
