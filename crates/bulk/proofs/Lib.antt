@@ -11,7 +11,6 @@ mod Compared
 pub mod FieldLemmas
 mod Filed
 pub mod Names
-mod Pairs
 mod Passing
 mod Ranging
 mod Runs

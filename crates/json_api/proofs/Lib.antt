@@ -6,7 +6,6 @@ mod KeyLemmas
 mod LineLemmas
 mod ListLemmas
 mod Members
-mod PairLemmas
 mod Phrases
 mod PlainForms
 pub mod RefusalLemmas

@@ -8,7 +8,6 @@ mod fields;
 mod flat;
 mod forms;
 mod list;
-mod pairs;
 mod plain;
 mod reply;
 mod response;

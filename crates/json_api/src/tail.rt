@@ -5,9 +5,8 @@ ghost use Rattle.std.specs.Prelude.{◌≡◌, ◌+◌, ◌<◌, ◌≤◌, ◌^
 ghost use Rattle.numbers.specs.Texts.{cic_text, digits_of, lrn_text, spid_text, subject_text};
 ghost use Rattle.numbers.specs.Abstraction.{subject_of};
 
-use crate::pairs::pair_of;
 use itoa::write_digits;
-use numbers::{Cic, Lrn, Minute, Spid, Subject};
+use numbers::{Cic, Lrn, Minute, Spid, Subject, last_digits};
 use std::marker::Model;
 
 /// The end of a text of at most `N` bytes, as far as it is written.
@@ -100,44 +99,15 @@ impl<const N: usize> Tail<N> {
         self.prepend_decimal(minute.number);
     }
 
-    // Writes the `W` digits of a number below `power`, with leading zeros, before the tail.
-    fn prepend_digits<const W: usize>(&mut self, number: u64, power: u64)
+    // Writes the last `W` digits of a number, with leading zeros, before the tail.
+    #[inline(always)]
+    fn prepend_digits<const W: usize>(&mut self, number: u64)
         requires width { W ≤ 18 }
-        requires power { power ≡ 10 ^ W }
-        requires number { number < power }
-        requires fits { length self.old + W < N }
+        requires fits { length self.old + W ≤ N }
         ensures text { self.new ≡ digits_of W number ++ self.old }
         ensures len { length self.new ≡ length self.old + W }
     {
-        // A 1 before the digits, which is then left out, keeps the leading zeros.
-        self.start = write_digits(power + number, &mut self.bytes, self.start) + 1;
-    }
-
-    // Writes the two digits of a number below 100 before the tail.
-    #[inline(always)]
-    fn prepend_pair(&mut self, number: u64)
-        requires number { number < 100 }
-        requires fits { length self.old + 2 ≤ N }
-        ensures text { self.new ≡ digits_of 2 number ++ self.old }
-        ensures len { length self.new ≡ length self.old + 2 }
-    {
-        self.prepend_bytes(&pair_of(number));
-    }
-
-    // Writes ten digits before the tail, two at a time.
-    fn prepend_ten(&mut self, number: u64)
-        requires number { number < 10000000000 }
-        requires fits { length self.old + 10 ≤ N }
-        ensures text { self.new ≡ digits_of 10 number ++ self.old }
-        ensures len { length self.new ≡ length self.old + 10 }
-    {
-        let (first, rest) = (number / 100_000_000, number % 100_000_000);
-        let (middle, last) = (rest / 10_000, rest % 10_000);
-        self.prepend_pair(last % 100);
-        self.prepend_pair(last / 100);
-        self.prepend_pair(middle % 100);
-        self.prepend_pair(middle / 100);
-        self.prepend_pair(first);
+        self.prepend_bytes(&last_digits::<W>(number));
     }
 
     /// Writes the ten digits of an LRN before the tail.
@@ -146,7 +116,7 @@ impl<const N: usize> Tail<N> {
         ensures text { self.new ≡ lrn_text lrn.number ++ self.old }
         ensures len { length self.new ≡ length self.old + 10 }
     {
-        self.prepend_ten(lrn.number);
+        self.prepend_digits::<10>(lrn.number);
     }
 
     /// Writes the four digits of a CIC before the tail.
@@ -155,7 +125,7 @@ impl<const N: usize> Tail<N> {
         ensures text { self.new ≡ cic_text cic.number ++ self.old }
         ensures len { length self.new ≡ length self.old + 4 }
     {
-        self.prepend_digits::<4>(u64::from(cic.number), 10_000);
+        self.prepend_digits::<4>(u64::from(cic.number));
     }
 
     /// Writes the four characters of a SPID before the tail.
@@ -174,10 +144,8 @@ impl<const N: usize> Tail<N> {
         ensures len { length self.new ≤ length self.old + 10 }
     {
         match subject {
-            Subject::Number(tn) => self.prepend_ten(tn.number),
-            Subject::Block(block) => {
-                self.prepend_digits::<7>(u64::from(block.number), 10_000_000);
-            }
+            Subject::Number(tn) => self.prepend_digits::<10>(tn.number),
+            Subject::Block(block) => self.prepend_digits::<7>(u64::from(block.number)),
         }
     }
 }

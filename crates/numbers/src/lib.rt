@@ -20,6 +20,7 @@ mod tn;
 pub use block_id::BlockId;
 pub use cic::Cic;
 pub use code_id::CodeId;
+pub use digits::last_digits;
 pub use line::Line;
 pub use lrn::Lrn;
 pub use minute::Minute;

@@ -1,8 +1,8 @@
 use Rattle.std.proofs.Common.{◌+◌, ◌/◌, ◌%◌, ◌-◌, ◌≤◌, ◌++◌, ◌∙◌, List, ℕ, length, length-set, drop, set, ap, arith}
 use Rattle.numbers.specs.Texts.{digits_of}
 use Rattle.numbers.proofs.DigitLemmas.{digits_of-written}
-use Rattle.bulk.proofs.Pairs.{two_placed, four_placed, last_placed}
-use Rattle.bulk.proofs.digits.digits.Goals as goal
+use Rattle.numbers.proofs.PairLemmas.{two_placed, four_placed, last_placed}
+use Rattle.numbers.proofs.digits.last_digits.Goals as goal
 
 pub fours-preserved : goal.fours-preserved
 fours-preserved g c =

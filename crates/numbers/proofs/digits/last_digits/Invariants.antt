@@ -1,6 +1,6 @@
 use Rattle.std.proofs.Common.{◌≡◌, ◌≤◌, ◌++◌, length, drop}
 use Rattle.numbers.specs.Texts.{digits_of}
-use Rattle.bulk.proofs.digits.digits.Given as goal
+use Rattle.numbers.proofs.digits.last_digits.Given as goal
 
 -- The digits of what is left, followed by those written, are the number's.
 abbrev pub invariant-fours : goal.invariant-fours

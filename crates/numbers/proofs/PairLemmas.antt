@@ -1,9 +1,9 @@
--- Digits that are written two at a time.
+-- Digits that are written two or four at a time.
 use Rattle.std.proofs.Common.{◌≡◌, ℕ, zero, suc, ◌+◌, ◌-◌, ◌*◌, ◌/◌, ◌%◌, ◌<◌, ◌≤◌, Bool, true, ◌&&◌, T, eqb, List, ◌++◌, length, get_or, set, drop, length-set, ap, ◌∙◌, inl, inr, arith, eq-zero-or-pos, eqb→eq}
 use lib.Ieee.Fits.{and_l, and_r}
 use Rattle.numbers.specs.Texts.{digits_of}
 use Rattle.numbers.proofs.DigitLemmas.{digits_of-placed}
-use Rattle.bulk.specs.declared.digits.TheConstants.{PAIRS}
+use Rattle.numbers.specs.declared.digits.TheConstants.{PAIRS}
 
 -- Whether the table has the digits of each number below `n`.
 abbrev are_pairs : ℕ → Bool
@@ -22,9 +22,9 @@ below (suc n) p t h =
       | inr g ↦ below n p (and_r _ (are_pairs n) t) (omega arith)
     ]
 
-pub pairs_at : (p : ℕ) → p < 100 → (get_or PAIRS (p * 2) 0 ≡ 48 + p / 10)
+pub pair_at : (p : ℕ) → p < 100 → (get_or PAIRS (p * 2) 0 ≡ 48 + p / 10)
     × (get_or PAIRS (p * 2 + 1) 0 ≡ 48 + p % 10)
-pairs_at p h = below 100 p tt h
+pair_at p h = below 100 p tt h
 
 -- The last two digits of what is left come before the digits written.
 pub two_placed : (digits : List ℕ) (place rest : ℕ) → 1 < place → place ≤ length digits
