@@ -8,9 +8,9 @@ into one copy of the crate, which is checked once. One of them is refused where 
 proved; that it calls another function that is not proved says nothing. What was not refused stays for the next check, only with
 others that were not, until a check refuses none of them: what is left then is proved, and the crate's contracts are too weak.
 
-The file tests/refused records the edits that did as they have to, each with a checksum of all that it depends on: the edit, and the
-sources, definitions and proofs of its crate and of those below. The checksum is over tokens, so that neither a comment nor the layout
-of code sends an edit back to be tried. With --changed only edits without such a record are tried, so that the gate pays only for what
+The file tests/refused records the edits that did as they have to, each with a checksum of all that it depends on: the edit, the
+sources, definitions and proofs of its crate, and the contracts, definitions and cited lemmas of those below. The checksum is over tokens,
+so that neither a comment nor the layout of code sends an edit back to be tried. With --changed only edits without such a record are tried, so that the gate pays only for what
 changed. The file tests/untried names those that were refused when they were last tried, and wait to be tried over the sources as they
 are: with --changed they are skipped and counted. One that does as it has to is taken out of that file.
 
@@ -144,20 +144,60 @@ def significant(path, text):
     return " ".join(TOKEN.findall("\n".join(lines))) if is_code else "\n".join(lines)
 
 
-def sum_of(path):
+def contracts(text):
+    """Returns code without the bodies of its functions: what other crates see of it."""
+    kept, head, end = [], None, None
+    for line in text.split("\n"):
+        if end is not None:
+            end = None if line == end else end
+            continue
+        kept.append(line)
+        if found := re.match(r"( *)(?:pub(?:\(\w+\))? )?(?:const )?(?:unsafe )?fn \w", line):
+            head = found[1]
+        if head is None:
+            continue
+        if line == head + "{" or line.endswith(" {") and (found or line.startswith(head + ")")):
+            head, end = None, head + "}"
+        elif line.endswith(";"):
+            head = None
+    return "\n".join(kept)
+
+
+def files_in(folder):
+    for here, folders, files in os.walk(folder):
+        folders.sort()
+        yield from (f"{here}/{file}" for file in sorted(files))
+
+
+def read_text(path):
     with open(path, encoding="utf-8") as file:
-        return hashlib.sha256(significant(path, file.read()).encode()).digest()
+        return file.read()
+
+
+def cited_lemmas(crate, below):
+    """The files of lemmas of the crates below that a proof of the crate cites, itself or through others."""
+    lemmas = {f"Rattle.{name}.proofs." + file[len(f"crates/{name}/proofs/"):-len(".antt")].replace("/", "."): file
+              for name in below for file in files_in(f"crates/{name}/proofs") if file.endswith(".antt")}
+    found, left = set(), [file for part in SOURCES for file in files_in(f"crates/{crate}/{part}")]
+    while left:
+        cited = set(re.findall(r"\bRattle\.\w+\.proofs(?:\.[A-Z]\w*)+", read_text(left.pop())))
+        fresh = {lemmas[it] for name in cited for it in [name, name.rpartition(".")[0]] if it in lemmas} - found
+        found |= fresh
+        left += fresh
+    return found
 
 
 def sum_of_sources(crate, below):
-    """Returns a checksum of the sources, definitions and proofs of the crate and of the crates below it. Comments do not count."""
+    """Returns a checksum of what the proofs of the crate see: all of its own files, and of the crates below their contracts, definitions
+    and cited lemmas. Comments do not count."""
     total = hashlib.sha256()
-    for name in [*below, crate]:
-        for part in SOURCES:
-            for folder, folders, files in os.walk(f"crates/{name}/{part}"):
-                folders.sort()
-                for file in sorted(files):
-                    total.update(f"{folder}/{file}\n".encode() + sum_of(f"{folder}/{file}"))
+    seen = {file: read_text(file) for part in SOURCES for file in files_in(f"crates/{crate}/{part}")}
+    for name in below:
+        seen |= {file: contracts(read_text(file)) for file in files_in(f"crates/{name}/src")}
+        seen |= {file: read_text(file) for file in files_in(f"crates/{name}/specs")}
+    seen |= {file: read_text(file) for file in cited_lemmas(crate, below)}
+    for file, text in sorted(seen.items()):
+        total.update(f"{file}\n".encode() + hashlib.sha256(significant(file, text).encode()).digest())
     return total.digest()
 
 
