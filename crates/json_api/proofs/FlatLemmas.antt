@@ -1,10 +1,13 @@
 -- The members read one after another.
 use Rattle.std.proofs.Common.{◌≡◌, ℕ, ◌<◌, ◌≤◌, ◌+◌, ◌-◌, Bool, true, false, Option, None, List, [], ◌∷◌, ◌++◌, get_or, length, Some, refl, ap, sym, ◌∙◌, arith}
 use Rattle.std.specs.Prelude.{take, option_map, option_and_then}
-use Rattle.std.specs.Str.{bytes_eq}
+use Rattle.std.specs.Borrow.{Bor}
+use Rattle.std.specs.Str.{IsUtf8, bytes_eq}
 use Rattle.std.proofs.lemmas.Slice.Eq.{bytes_eq-Decides}
 use Rattle.std.proofs.lemmas.List.{take_more}
 use Rattle.json.specs.Token.{Token}
+use Rattle.json.specs.Print.{quoted}
+use Rattle.json.proofs.Printed.Utf8.{IsUtf8-quoted}
 use Rattle.json.specs.Lex.{tokens}
 use Rattle.json.specs.Json as json
 use Rattle.json.specs.Json.{Parse, parse_map, members, read_key, value, if_last}
@@ -15,6 +18,7 @@ use Rattle.serde_json.specs.Find.{get_member, as_array}
 use Rattle.serde_json.proofs.Views.{get_member-put, get_member-put_other}
 use Rattle.json_api.specs.Flat.{scalar_data, flat_data, members_upon, read_object}
 use Rattle.json_api.specs.Forms.{items}
+use Rattle.json_api.specs.Scanned.{IsScalarThen}
 use Rattle.json_api.specs.declared.flat.Scalar.{Scalar}
 use Rattle.json_api.specs.declared.flat.Scalar.TheVariants.{Null, Flag, Whole, Text}
 use Rattle.json_api.specs.declared.flat.Member.{Member}
@@ -78,6 +82,20 @@ module _ (ms seen : List Member) (same : seen ≡ ms) (left : ℕ) (d : Member) 
 pub of_string : (s : List ℕ) (depth : ℕ) (rest : List Token)
     → converted of_json (value depth (Token.string s ∷ rest)) ≡ Some (string s, rest)
 of_string s depth rest = ap (converted of_json) (value_is depth (Token.string s ∷ rest))
+
+-- A text in quotes is a plain value.
+pub text_then : (bytes : List ℕ) (text : Bor (List ℕ)) (rest : List ℕ) → IsUtf8 text.now
+    → bytes ≡ quoted text.now ++ rest → IsScalarThen bytes (Text text) rest
+text_then bytes text rest utf8 is = (
+  Token.string text.now,
+  record {
+    printable = tt;
+    ended = refl;
+    utf8 = IsUtf8-quoted text.now utf8;
+    is = of_string text.now;
+  },
+  is,
+)
 
 pub of_flag : (b : Bool) (depth : ℕ) (rest : List Token)
     → converted of_json (value depth (Token.boolean b ∷ rest)) ≡ Some (boolean b, rest)

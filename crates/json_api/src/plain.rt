@@ -13,7 +13,7 @@ ghost use Rattle.json_api.specs.declared.flat.Scalar.TheVariants.{Flag as FlagVa
 
 use crate::flat::Scalar;
 use crate::forms::ApiCall;
-use crate::scan::scalar_at;
+use crate::scan::{scalar_at, text_at, whole_at};
 use http_messages::{Route, VersionPath};
 use numbers::{Lrn, Minute, Routing, Spid, Tn};
 use requests::{Call, Command};
@@ -29,23 +29,13 @@ fn is_end(bytes: &[u8]) -> bool
     bytes == b"}".as_slice()
 }
 
-// Reads the value after `key`, if the bytes begin with that. Returns it and the bytes after it.
-fn value_after<'a>(bytes: &'a [u8], key: &[u8]) -> Option<(Scalar<'a>, &'a [u8])>
-    ensures { IfSome result (λ found. IsValueAfter bytes.now key.now found.0 found.1.now) }
-{
-    let (value, rest) = scalar_at(bytes.strip_prefix(key)?)?;
-    Some((value, rest))
-}
-
-// Reads the text after `key`.
+// Reads the text after `key`, if the bytes begin with that. Returns it and the bytes after it.
 fn text_after<'a>(bytes: &'a [u8], key: &[u8]) -> Option<(&'a str, &'a [u8])>
     ensures { IfSome result
         (λ found. IsValueAfter bytes.now key.now (TextValue found.0) found.1.now) }
 {
-    match value_after(bytes, key)? {
-        (Scalar::Text(text), rest) => Some((text, rest)),
-        _ => None,
-    }
+    let (text, rest) = text_at(bytes.strip_prefix(key)?)?;
+    Some((text, rest))
 }
 
 // Reads the whole number below 2^40 after `key`.
@@ -54,9 +44,11 @@ fn whole_after<'a>(bytes: &'a [u8], key: &[u8]) -> Option<(u64, &'a [u8])>
         (λ found. IsValueAfter bytes.now key.now (WholeValue found.0) found.1.now) }
     ensures small { IfSome result (λ found. found.0 < 2 ^ 40) }
 {
-    match value_after(bytes, key)? {
-        (Scalar::Whole(number), rest) if number < LIMIT => Some((number, rest)),
-        _ => None,
+    let (number, rest) = whole_at(bytes.strip_prefix(key)?)?;
+    if number < LIMIT {
+        Some((number, rest))
+    } else {
+        None
     }
 }
 
@@ -65,7 +57,7 @@ fn flag_after<'a>(bytes: &'a [u8], key: &[u8]) -> Option<(bool, &'a [u8])>
     ensures { IfSome result
         (λ found. IsValueAfter bytes.now key.now (FlagValue found.0) found.1.now) }
 {
-    match value_after(bytes, key)? {
+    match scalar_at(bytes.strip_prefix(key)?)? {
         (Scalar::Flag(flag), rest) => Some((flag, rest)),
         _ => None,
     }

@@ -10,6 +10,7 @@ ghost use Rattle.json.specs.Token.{number};
 ghost use Rattle.serde_json.specs.Read.{number_of};
 ghost use Rattle.serde_json.specs.Data.{unsigned};
 ghost use Rattle.json_api.specs.Flat.{flat_data};
+ghost use Rattle.json_api.specs.declared.flat.Scalar.TheVariants.{Whole as WholeValue};
 ghost use Rattle.json_api.specs.Forms.{json_of};
 ghost use Rattle.json_api.specs.Scanned.{is_plain as is_plain_byte, IsAfterGap, IsScalarThen, IsMemberThen};
 
@@ -93,7 +94,7 @@ fn plain_text(bytes: &[u8]) -> &str
 }
 
 // Reads a text in quotes. Returns it and the bytes after it.
-fn text_at(bytes: &[u8]) -> Option<(&str, &[u8])>
+pub(crate) fn text_at(bytes: &[u8]) -> Option<(&str, &[u8])>
     ensures utf8 { IfSome result (λ found. IsUtf8 found.0.now) }
     ensures text { IfSome result (λ found. bytes.now ≡ quoted found.0.now ++ found.1.now) }
 {
@@ -104,14 +105,14 @@ fn text_at(bytes: &[u8]) -> Option<(&str, &[u8])>
 }
 
 // Reads a whole number without leading zeros. Returns it and the bytes after it.
-fn number_at(bytes: &[u8]) -> Option<(Scalar<'_>, &[u8])>
-    ensures { IfSome result (λ found. IsScalarThen bytes.now found.0 found.1.now) }
+pub(crate) fn whole_at(bytes: &[u8]) -> Option<(u64, &[u8])>
+    ensures { IfSome result (λ found. IsScalarThen bytes.now (WholeValue found.0) found.1.now) }
 {
     let (digits, rest) = bytes.split_at(digits_len(bytes));
     if digits.len() > 1 && digits[0] == b'0' {
         return None;
     }
-    Some((Scalar::Whole(read_number(digits)?), rest))
+    Some((read_number(digits)?, rest))
 }
 
 // Reads a plain value. Returns it and the bytes after it.
@@ -126,7 +127,10 @@ pub(crate) fn scalar_at(bytes: &[u8]) -> Option<(Scalar<'_>, &[u8])>
         b't' => Some((Scalar::Flag(true), bytes.strip_prefix(b"true")?)),
         b'f' => Some((Scalar::Flag(false), bytes.strip_prefix(b"false")?)),
         b'n' => Some((Scalar::Null, bytes.strip_prefix(b"null")?)),
-        _ => number_at(bytes),
+        _ => {
+            let (number, rest) = whole_at(bytes)?;
+            Some((Scalar::Whole(number), rest))
+        }
     }
 }
 

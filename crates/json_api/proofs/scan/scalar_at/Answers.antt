@@ -2,22 +2,14 @@ use Rattle.std.proofs.Common.{[], ◌∷◌, true, false, Some, refl}
 use Rattle.std.proofs.lemmas.Slice.Eq.{strip_prefix_is}
 use Rattle.std.proofs.lemmas.Bool.Decides.{Decides-eqb}
 use Rattle.json.specs.Token.{Token}
-use Rattle.json.proofs.Printed.Utf8.{IsUtf8-quoted, IsUtf8-boolean, IsUtf8-are_ascii}
-use Rattle.json_api.proofs.FlatLemmas.{of_string, of_flag, of_null}
+use Rattle.json.proofs.Printed.Utf8.{IsUtf8-boolean, IsUtf8-are_ascii}
+use Rattle.json_api.proofs.FlatLemmas.{of_flag, of_null, text_then}
 use Rattle.json_api.proofs.scan.scalar_at.Goals as goal
 
 pub returns-in_ok-text-in-34 : goal.returns-in_ok-text-in-34
 returns-in_ok-text-in-34 c =
-    let text = c.in_ok-text-in-34.text.now in (
-      Token.string text,
-      record {
-        printable = tt;
-        ended = refl;
-        utf8 = IsUtf8-quoted text c.in_ok-text-in-34.ensures.utf8;
-        is = of_string text;
-      },
-      c.in_ok-text-in-34.ensures.text,
-    )
+    text_then c.args.bytes.now c.in_ok-text-in-34.text c.in_ok-text-in-34.rest.now
+    c.in_ok-text-in-34.ensures.utf8 c.in_ok-text-in-34.ensures.text
 
 pub returns-in_ok-strip_prefix-in-116 : goal.returns-in_ok-strip_prefix-in-116
 returns-in_ok-strip_prefix-in-116 c =

@@ -5,8 +5,8 @@ use Rattle.json.specs.Token.{Token}
 use Rattle.json_api.proofs.DigitLemmas.{plain_number}
 use Rattle.json_api.proofs.FlatLemmas.{of_number}
 use Rattle.json_api.proofs.ScanLemmas.{digits_number, digits_utf8, said_some}
-use Rattle.json_api.proofs.scan.number_at.Goals as goal
-use Rattle.json_api.proofs.scan.number_at.Goals.{else-digits-gt1-via-then-digits-gt1+else-digits-eq48, else-digits-gt1-via-else-digits-gt1}
+use Rattle.json_api.proofs.scan.whole_at.Goals as goal
+use Rattle.json_api.proofs.scan.whole_at.Goals.{else-digits-gt1-via-then-digits-gt1+else-digits-eq48, else-digits-gt1-via-else-digits-gt1}
 
 pub returns : goal.returns
 returns c =
