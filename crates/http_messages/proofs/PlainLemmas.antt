@@ -1,5 +1,5 @@
 -- Heads that are written plainly.
-use Rattle.std.proofs.Common.{◌≡◌, ℕ, ◌<◌, ◌≤◌, Bool, true, false, IsTrue, All, List, [], ◌∷◌, ◌++◌, length, reverse, take, drop, ◌-◌, codes, Some, None, refl, sym, ap, ◌∙◌, subst, arith, length-append, append-nil, append_assoc}
+use Rattle.std.proofs.Common.{◌≡◌, ℕ, ◌<◌, ◌≤◌, Bool, true, false, IsTrue, All, List, Option, [], ◌∷◌, ◌++◌, length, reverse, take, drop, ◌-◌, codes, Some, None, refl, sym, ap, ◌∙◌, subst, arith, length-append, append-nil, append_assoc}
 use Rattle.httparse.specs.Grammar.{AllPass, Field, IsField, IsRequestHead, IsToken, crlf, RequestHead, is_ows, is_token_byte, is_uri_byte, is_value_byte, print_request, skip_ows, trim_ows}
 use Rattle.httparse.proofs.TrimLemmas.{AllPass-reverse, skip_ows_no, trim_ows_space}
 use Rattle.std.specs.List.{list_all}
@@ -17,6 +17,10 @@ use Rattle.http_messages.specs.declared.paths.Method.TheVariants.{Post, Get}
 use Rattle.http_messages.specs.declared.paths.Route.TheVariants.{Acknowledge, Query}
 use Rattle.http_messages.proofs.NumberLemmas.{none_number}
 use Rattle.numbers.proofs.DigitLemmas.{utf8_small}
+use Rattle.numbers.specs.Spids.{is_spid_character}
+use Rattle.numbers.specs.Texts.{spid_text}
+use Rattle.numbers.specs.declared.spid.Spid.{Spid}
+use Rattle.std.proofs.lemmas.Bool.Decides.{nat_tests}
 use Rattle.http_messages.specs.Fields.{body_length, values_of, number_of}
 
 -- ---- the head that the bytes print
@@ -92,6 +96,15 @@ module _ (m t s : List ℕ) (trimmed : trim_ows (32 ∷ s) ≡ s) where
 
 weaken : (P Q : ℕ → Type 0) → ((b : ℕ) → P b → Q b) → (xs : List ℕ) → All P xs → All Q xs
 weaken P Q f xs h = λ k d lt. f _ (h k d lt)
+
+character_visible : (b : ℕ) → IsTrue (is_spid_character b) → IsTrue (is_visible b)
+character_visible b h = grind (arith, nat_tests)
+
+-- A provider is four visible bytes.
+spid_visible : (caller : Spid) → AllPass is_visible (spid_text caller.number)
+spid_visible caller =
+    weaken _ _ character_visible (spid_text caller.number)
+    (AllPass-from_list_all is_spid_character (spid_text caller.number) caller.valid)
 
 visible_not_ows : (b : ℕ) → IsTrue (is_visible b) → false ≡ is_ows b
 visible_not_ows b h = grind arith
@@ -197,66 +210,74 @@ head_at bytes body h request valid all few asks small =
       small = small;
     }
 
-pub post_at : (bytes after named more body s : List ℕ) (size : ℕ) (request : Request)
+named_by : (spid : Spid) (caller : Option Spid) → caller ≡ Some spid
+    → IsNamed (spid_text spid.number) caller
+named_by spid caller e = subst (IsNamed (spid_text spid.number)) (sym e) refl
+
+pub post_at : (bytes after named more body : List ℕ) (spid : Spid) (size : ℕ) (request : Request)
     → bytes ≡ codes "POST " ++ after → IsRouteThen after request.route named
-    → IsCallerThen named s more → IsLengthAndEnd more size body → size ≤ 1048576
-    → request.method ≡ Post → IsNamed s request.caller → request.length ≡ size
+    → IsCallerThen named spid more → IsLengthAndEnd more size body → size ≤ 1048576
+    → request.method ≡ Post → request.caller ≡ Some spid → request.length ≡ size
     → request.closes ≡ false → IsHeadAt bytes request (length bytes - length body)
-post_at bytes after named more body s size request all routed called ending small method caller
+post_at bytes after named more body spid size request all routed called ending small method caller
     length_is closes_is =
+    let s = spid_text spid.number in
     let t = routed.0 in
     let d = ending.digits in
     let h = plain (codes "POST") t s (length_field d ∷ []) in
     let digits = digits_visible d size ending.number in
     let bare = trimmed d digits in
-    let spid = trimmed s called.caller_is in
+    let visible = spid_visible spid in
+    let bare_spid = trimmed s visible in
     head_at bytes body h request
     (plain_is_head (codes "POST") t s (length_field d ∷ []) named_post routed.1.some
-    routed.1.path_is called.caller_is
+    routed.1.path_is visible
     (All-cons IsField (length_field d) [] (length_is_field d digits) none_left))
     (all
     ∙ ap (λ (u : List ℕ). codes "POST " ++ u)
     (routed.1.all
     ∙ ap (λ (u : List ℕ). t ++ (codes " HTTP/1.1\r\nx-spid: " ++ u))
-    (called.all ∙ ap (λ (u : List ℕ). s ++ u) ending.all))
+    (called ∙ ap (λ (u : List ℕ). s ++ u) ending.all))
     ∙ sym (with_length (codes "POST") t s d body))
     (omega arith)
     (record {
       route = routed.2;
       method = method;
       caller = subst (λ (v : List (List ℕ)). IsCaller v request.caller)
-          (sym (caller_with (codes "POST") t s spid d bare)) caller;
-      length = length_with (codes "POST") t s spid d bare ∙ ending.number ∙ ap Some (sym length_is);
+          (sym (caller_with (codes "POST") t s bare_spid d bare)) (named_by spid request.caller caller);
+      length = length_with (codes "POST") t s bare_spid d bare ∙ ending.number ∙ ap Some (sym length_is);
       closes = closes_is;
     })
     (omega (arith, length_is, small))
 
-pub get_at : (bytes after named more body s : List ℕ) (request : Request)
+pub get_at : (bytes after named more body : List ℕ) (spid : Spid) (request : Request)
     → bytes ≡ codes "GET " ++ after → IsRouteThen after request.route named
-    → IsCallerThen named s more → more ≡ codes "\r\n\r\n" ++ body → request.method ≡ Get
-    → IsNamed s request.caller → request.length ≡ 0 → request.closes ≡ false
+    → IsCallerThen named spid more → more ≡ codes "\r\n\r\n" ++ body → request.method ≡ Get
+    → request.caller ≡ Some spid → request.length ≡ 0 → request.closes ≡ false
     → IsHeadAt bytes request (length bytes - length body)
-get_at bytes after named more body s request all routed called ending method caller length_is
+get_at bytes after named more body spid request all routed called ending method caller length_is
     closes_is =
+    let s = spid_text spid.number in
     let t = routed.0 in
     let h = plain (codes "GET") t s [] in
-    let spid = trimmed s called.caller_is in
+    let visible = spid_visible spid in
+    let bare_spid = trimmed s visible in
     head_at bytes body h request
-    (plain_is_head (codes "GET") t s [] named_get routed.1.some routed.1.path_is called.caller_is
+    (plain_is_head (codes "GET") t s [] named_get routed.1.some routed.1.path_is visible
     none_left)
     (all
     ∙ ap (λ (u : List ℕ). codes "GET " ++ u)
     (routed.1.all
     ∙ ap (λ (u : List ℕ). t ++ (codes " HTTP/1.1\r\nx-spid: " ++ u))
-    (called.all ∙ ap (λ (u : List ℕ). s ++ u) ending))
+    (called ∙ ap (λ (u : List ℕ). s ++ u) ending))
     ∙ sym (without_length (codes "GET") t s body))
     (omega arith)
     (record {
       route = routed.2;
       method = method;
       caller = subst (λ (v : List (List ℕ)). IsCaller v request.caller)
-          (sym (caller_of_plain (codes "GET") t s spid)) caller;
-      length = length_of_plain (codes "GET") t s spid ∙ ap Some (sym length_is);
+          (sym (caller_of_plain (codes "GET") t s bare_spid)) (named_by spid request.caller caller);
+      length = length_of_plain (codes "GET") t s bare_spid ∙ ap Some (sym length_is);
       closes = closes_is;
     })
     (omega (arith, length_is))

@@ -1,6 +1,8 @@
 -- Heads that are written plainly.
 use Rattle.std.specs.Prelude.{◌≡◌, ℕ, ◌<◌, ◌≤◌, min, take, ◌&&◌, Bool, nat_lt, List, ◌++◌, length, drop, codes, Option, Some}
 use Rattle.httparse.specs.Grammar.{AllPass, RequestHead, ReadsRequest, print_request}
+use Rattle.numbers.specs.Texts.{spid_text}
+use Rattle.numbers.specs.declared.spid.Spid.{Spid}
 use Rattle.http_messages.specs.Fields.{number_of}
 use Rattle.http_messages.specs.Parsing.{IsRequestOf}
 use Rattle.http_messages.specs.Table.{path_of}
@@ -21,10 +23,9 @@ pub record IsPathThen (bytes path rest : List ℕ) : Type 0 where
 abbrev pub IsRouteThen : (bytes : List ℕ) → Option Route → (rest : List ℕ) → Type 0
 IsRouteThen bytes route rest = (path : List ℕ) × IsPathThen bytes path rest × (route ≡ path_of path)
 
--- Holds if the bytes are a caller and `rest`.
-pub record IsCallerThen (bytes caller rest : List ℕ) : Type 0 where
-  pub all : bytes ≡ caller ++ rest
-  pub caller_is : AllPass is_visible caller
+-- Holds if the bytes are the text of a caller and `rest`.
+abbrev pub IsCallerThen : (bytes : List ℕ) → (caller : Spid) → (rest : List ℕ) → Type 0
+IsCallerThen bytes caller rest = bytes ≡ spid_text caller.number ++ rest
 
 -- Holds if the bytes after the caller are the length of the body and the end of the head, and
 -- `rest` follows.

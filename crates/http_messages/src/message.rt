@@ -1,5 +1,6 @@
 //! The parts of an input: messages, and what is refused in place of one.
 ghost use Rattle.std.specs.Prelude.{◌≡◌, ℕ, ◌≤◌, List, length, IfOk, IfErr};
+ghost use Rattle.numbers.specs.Spids.{is_spid_character};
 ghost use Rattle.httparse.specs.Grammar.{RequestHead};
 ghost use Rattle.httparse.specs.Spans.{IsRequestAt, IsRequestWithin};
 ghost use Rattle.http_messages.specs.Parsing.{IsCaller, IsNamed, IsRequestOf, RefusesHead};
@@ -37,13 +38,25 @@ pub enum NextMessage {
     Refused(MessageFault),
 }
 
-// Returns the provider that the bytes name.
+// Returns whether a provider may have the byte.
+fn is_spid_byte(byte: u8) -> bool
+    ensures { result ≡ is_spid_character byte }
+{
+    matches!(byte, b'A'..=b'Z' | b'0'..=b'9')
+}
+
+// Returns the provider that the bytes name. Reads them as they are, because most heads name one.
 pub(crate) fn parse_spid(value: &[u8]) -> Option<Spid>
     ensures { IsNamed value.now result }
 {
-    match str::from_utf8(value) {
-        Ok(text) => Spid::read(text),
-        Err(_) => None,
+    match value {
+        [a, b, c, d]
+            if is_spid_byte(*a) && is_spid_byte(*b) && is_spid_byte(*c) && is_spid_byte(*d) => {
+            Some(Spid {
+                number: u32::from_be_bytes([*a, *b, *c, *d]),
+            })
+        }
+        _ => None,
     }
 }
 

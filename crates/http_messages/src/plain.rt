@@ -8,6 +8,7 @@ use crate::head::read_number;
 use crate::message::{BODY_LIMIT, Request, parse_spid};
 use crate::paths::{Method, Route, route_of};
 use matchit::Router;
+use numbers::Spid;
 
 // Returns whether all bytes are visible ones of ASCII.
 fn are_visible(bytes: &[u8]) -> bool
@@ -53,16 +54,13 @@ fn route_then<'a>(bytes: &'a [u8], router: &Router<Route>) -> Option<(Option<Rou
 }
 
 // Splits what follows `x-spid: ` into the caller and the rest.
-fn caller_then(bytes: &[u8]) -> Option<(&[u8], &[u8])>
-    ensures { IfSome result (λ found. IsCallerThen bytes.now found.0.now found.1.now) }
+fn caller_then(bytes: &[u8]) -> Option<(Spid, &[u8])>
+    ensures { IfSome result (λ found. IsCallerThen bytes.now found.0 found.1.now) }
 {
     if bytes.len() < 4 {
         return None;
     }
-    let caller = &bytes[..4];
-    if !are_visible(caller) {
-        return None;
-    }
+    let caller = parse_spid(&bytes[..4])?;
     Some((caller, &bytes[4..]))
 }
 
@@ -93,7 +91,7 @@ fn plain_post(bytes: &[u8], router: &Router<Route>) -> Option<(Request, usize)>
     let request = Request {
         route,
         method: Method::Post,
-        caller: parse_spid(caller),
+        caller: Some(caller),
         length: size as usize,
         closes: false,
     };
@@ -114,16 +112,16 @@ fn plain_get(bytes: &[u8], router: &Router<Route>) -> Option<(Request, usize)>
     let request = Request {
         route,
         method: Method::Get,
-        caller: parse_spid(caller),
+        caller: Some(caller),
         length: 0,
         closes: false,
     };
     Some((request, bytes.len() - rest.len()))
 }
 
-/// Reads a head that is written plainly: the method POST or GET, HTTP/1.1, `x-spid`, and for POST
-/// `content-length`, in lower case, with one space before each value. Returns what it asks and its
-/// length, or `None` for any other bytes.
+/// Reads a head that is written plainly: the method POST or GET, HTTP/1.1, `x-spid` with a
+/// provider, and for POST `content-length`, in lower case, with one space before each value.
+/// Returns what it asks and its length, or `None` for any other bytes.
 pub fn plain_head(bytes: &[u8], router: &Router<Route>) -> Option<(Request, usize)>
     requires { router.now ≡ table }
     ensures head { IfSome result (λ found. IsHeadAt bytes.now found.0 found.1) }

@@ -7,8 +7,8 @@ use Rattle.http_messages.proofs.plain.plain_get.Goals as goal
 pub returns-clause-head : goal.returns-clause-head
 returns-clause-head c =
     get_at c.args.bytes.now c.in_ok-after.after.now c.in_ok-route.after.now
-    c.in_ok-caller.after.now c.in_ok-rest.rest.now c.in_ok-caller.caller.now _
+    c.in_ok-caller.after.now c.in_ok-rest.rest.now c.in_ok-caller.caller _
     (strip_prefix_is Decides-eqb c.args.bytes.now (codes "GET ") (Some c.in_ok-after.after)
     c.in_ok-after.ensures.cases) c.in_ok-route.ensures c.in_ok-caller.ensures
     (strip_prefix_is Decides-eqb c.in_ok-caller.after.now (codes "\r\n\r\n")
-    (Some c.in_ok-rest.rest) c.in_ok-rest.ensures.cases) refl c.parse_spid.ensures refl refl
+    (Some c.in_ok-rest.rest) c.in_ok-rest.ensures.cases) refl refl refl refl
