@@ -2,7 +2,7 @@
 use Rattle.std.proofs.Common.{◌≡◌, ℕ, ◌+◌, ◌-◌, ◌*◌, ◌^◌, ◌<◌, ◌≤◌, List, [], ◌∷◌, ◌++◌, length, take, drop, get_or, Bool, true, false, ◌&&◌, cond, Option, Some, None, refl, ap, ◌∙◌, sym, arith, lit<, add-one}
 use Rattle.std.proofs.Math.Nat.{pow-le-pow_right, pow-suc}
 use Rattle.std.proofs.lemmas.Bool.Decides.{nat_tests}
-use Rattle.std.proofs.lemmas.List.{take_more, take-append-drop}
+use Rattle.std.proofs.lemmas.List.{length-take-le, take_more, take-append-drop}
 use Rattle.std.specs.Char.{is_ascii_digit, digit_value}
 use Rattle.std.specs.Str.{all_ascii_digits}
 use Rattle.std.specs.Str.Parse.{digits_value, digits_value_after}
@@ -71,3 +71,10 @@ not_digits v i l d =
 
 pub at_start : (v : List ℕ) → IsSoFar v 0 0
 at_start v = record { digits = refl; value = refl; small = lit< tt }
+
+-- The digits so far write the number, if there are 1 to 19.
+pub number_so_far : (v : List ℕ) (i n : ℕ) → 0 < i → i ≤ 19 → i ≤ length v → IsSoFar v i n
+    → number_of (take i v) ≡ Some n
+number_so_far v i n some most inside s =
+    let len : length (take i v) ≡ i = length-take-le i v inside in
+    grind (arith, nat_tests, len, s.digits, s.value, some, most)

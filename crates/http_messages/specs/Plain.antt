@@ -27,6 +27,12 @@ IsRouteThen bytes route rest = (path : List ℕ) × IsPathThen bytes path rest �
 abbrev pub IsCallerThen : (bytes : List ℕ) → (caller : Spid) → (rest : List ℕ) → Type 0
 IsCallerThen bytes caller rest = bytes ≡ spid_text caller.number ++ rest
 
+-- Holds if the bytes are digits that write n, and `rest`.
+pub record IsNumberThen (bytes : List ℕ) (n : ℕ) (rest : List ℕ) : Type 0 where
+  pub digits : List ℕ
+  pub all : bytes ≡ digits ++ rest
+  pub number : number_of digits ≡ Some n
+
 -- Holds if the bytes after the caller are the length of the body and the end of the head, and
 -- `rest` follows.
 pub record IsLengthAndEnd (bytes : List ℕ) (size : ℕ) (rest : List ℕ) : Type 0 where

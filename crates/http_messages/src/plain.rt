@@ -1,10 +1,9 @@
 //! Reads heads that are written plainly.
 ghost use Rattle.std.specs.Prelude.{◌≡◌, ◌≤◌, IfSome, Some, length};
 ghost use Rattle.std.specs.List.{list_all};
-ghost use Rattle.http_messages.specs.Plain.{IsCallerThen, IsHeadAt, IsLengthAndEnd, IsPathThen, IsRouteThen, is_visible};
+ghost use Rattle.http_messages.specs.Plain.{IsCallerThen, IsHeadAt, IsLengthAndEnd, IsNumberThen, IsPathThen, IsRouteThen, is_visible};
 ghost use Rattle.http_messages.specs.Table.{table};
 
-use crate::head::read_number;
 use crate::message::{BODY_LIMIT, Request, parse_spid};
 use crate::paths::{Method, Route, route_of};
 use matchit::Router;
@@ -64,14 +63,38 @@ fn caller_then(bytes: &[u8]) -> Option<(Spid, &[u8])>
     Some((caller, &bytes[4..]))
 }
 
+// The most digits that are read of a body's length: those of `BODY_LIMIT`.
+const MOST_DIGITS: usize = 7;
+
+// Splits off the number that the first digits write. Reads no more than `MOST_DIGITS`.
+fn number_then(bytes: &[u8]) -> Option<(u64, &[u8])>
+    ensures { IfSome result (λ found. IsNumberThen bytes.now found.0 found.1.now) }
+{
+    let most = bytes.len().min(MOST_DIGITS);
+    let mut n = 0u64;
+    let mut at = 0;
+    'digits: while at < most {
+        let b = bytes[at];
+        if !b.is_ascii_digit() {
+            break;
+        }
+        n = n * 10 + u64::from(b - b'0');
+        at += 1;
+    }
+    if at == 0 {
+        return None;
+    }
+    Some((n, &bytes[at..]))
+}
+
 // Splits what follows the caller into the length of the body and what follows the head.
 fn length_and_end(bytes: &[u8]) -> Option<(u64, &[u8])>
     ensures { IfSome result (λ found. IsLengthAndEnd bytes.now found.0 found.1.now) }
 {
     let after = bytes.strip_prefix(b"\r\ncontent-length: ")?;
-    let end = after.iter().position(|b| *b == b'\r')?;
-    let rest = after[end..].strip_prefix(b"\r\n\r\n")?;
-    Some((read_number(&after[..end])?, rest))
+    let (size, end) = number_then(after)?;
+    let rest = end.strip_prefix(b"\r\n\r\n")?;
+    Some((size, rest))
 }
 
 // Reads a head that begins with `POST `.
