@@ -1,8 +1,9 @@
 -- Bytes written in pieces.
-use Rattle.std.proofs.Common.{◌≡◌, ℕ, ◌+◌, ◌-◌, ◌≤◌, List, ◌++◌, length, take, drop, Option, Some, None, ap, ◌∙◌, sym, subst, arith, append_assoc}
+use Rattle.std.proofs.Common.{◌≡◌, ℕ, ◌+◌, ◌-◌, ◌≤◌, List, [], ◌++◌, length, take, drop, Option, Some, None, ap, ◌∙◌, sym, subst, arith, append-nil, append_assoc}
 use Rattle.std.proofs.lemmas.Grind.{common_steps}
 use lib.Seq.{take-add}
-use Rattle.std.specs.Io.KnownBytes.{Appends}
+use Rattle.std.specs.Io.KnownBytes.{Appends, Keeps}
+use Rattle.http_messages.specs.Sending.{AppendsPrefix}
 
 pub Appends-then : (u v w : Option (List ℕ)) (a b : List ℕ) → Appends u v a → Appends v w b
     → Appends u w (a ++ b)
@@ -29,3 +30,16 @@ Appends-next u v w text at n h k x y =
 pub length_part : (text : List ℕ) (at : ℕ) → length (take (length text - at) (drop at text))
     ≡ length text - at
 length_part text at = grind (arith, common_steps)
+
+-- A prefix of what is left makes a longer prefix.
+pub AppendsPrefix-next : (u v w : Option (List ℕ)) (text : List ℕ) (at : ℕ) → at ≤ length text
+    → Appends u v (take at text)
+    → AppendsPrefix v w (take (length text - at) (drop at text)) → AppendsPrefix u w text
+AppendsPrefix-next u v w text at h x (n, few, more) =
+    let room : n ≤ length text - at = omega (arith, few, length_part text at) in
+    (at + n, omega (arith, h, room), Appends-next u v w text at n h room x more)
+
+pub Appends-nothing : (u v : Option (List ℕ)) → Keeps u v → Appends u v []
+Appends-nothing None v x = tt
+Appends-nothing (Some xs) None x = absurd x
+Appends-nothing (Some xs) (Some ys) x = x ∙ sym (append-nil xs)

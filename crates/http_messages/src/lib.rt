@@ -20,4 +20,4 @@ pub use message::{NextMessage, Request};
 pub use next::{NextFault, next_message};
 pub use paths::{BlockPath, Method, Route, VersionPath, allows_method, offered_route, router};
 pub use read_buffer::ReadBuffer;
-pub use send::send_all;
+pub use send::{Unsent, send_all, send_whole};

@@ -1,4 +1,4 @@
-//! Writes a whole text to a writer.
+//! Writes whole texts to a writer.
 ghost use Rattle.std.specs.Prelude.{◌≡◌, ◌≢◌, ℕ, ◌≤◌, List, length, take, ◌++◌, IfOk, IfErr, OnOk, OnErr};
 ghost use Rattle.std.specs.Io.KnownBytes.{Appends, Keeps};
 ghost use Rattle.std.specs.IoError.{error_kind};
@@ -62,4 +62,53 @@ pub fn send_all<W: Write>(writer: &mut W, text: &[u8], flushes: bool) -> io::Res
         flush(writer)?;
     }
     Ok(())
+}
+
+/// A text that was not written in full.
+#[derive(Clone, Copy, Debug, PartialEq, Eq)]
+pub struct Unsent;
+
+// Returns whether a write was interrupted.
+#[cold]
+#[inline(never)]
+fn is_interrupted(error: &io::Error) -> bool {
+    error.kind() == ErrorKind::Interrupted
+}
+
+// Writes what the first write left of a text, and flushes if `flushes` is true.
+#[cold]
+#[inline(never)]
+fn send_rest<W: Write>(writer: &mut W, text: &[u8], flushes: bool) -> Result<(), Unsent>
+    ensures ok { OnOk result (Appends (W.contents writer.old) (W.contents writer.new) text.now) }
+    ensures err { OnErr result
+        (AppendsPrefix (W.contents writer.old) (W.contents writer.new) text.now) }
+{
+    match send_all(writer, text, flushes) {
+        Ok(()) => Ok(()),
+        Err(_) => Err(Unsent),
+    }
+}
+
+/// Writes a text as `send_all` does, in one short call if the writer takes all of it and `flushes`
+/// is false.
+///
+/// # Errors
+///
+/// `Unsent` if the writer fails, or takes no byte twice in turn. A prefix of the text may have been
+/// written.
+#[inline(always)]
+pub fn send_whole<W: Write>(writer: &mut W, text: &[u8], flushes: bool) -> Result<(), Unsent>
+    ensures ok { OnOk result (Appends (W.contents writer.old) (W.contents writer.new) text.now) }
+    ensures err { OnErr result
+        (AppendsPrefix (W.contents writer.old) (W.contents writer.new) text.now) }
+{
+    let taken = match &writer.write(text) {
+        Ok(n) => *n,
+        Err(e) if is_interrupted(e) => 0,
+        Err(_) => return Err(Unsent),
+    };
+    if taken == text.len() && !flushes {
+        return Ok(());
+    }
+    send_rest(writer, &text[taken..], flushes)
 }
