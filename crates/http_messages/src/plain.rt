@@ -30,26 +30,43 @@ fn path_then(bytes: &[u8]) -> Option<(&[u8], &[u8])>
 }
 
 // Returns the route of one of the paths that most messages have, and what follows `x-spid: `.
+#[inline(always)]
 fn frequent_route_then(bytes: &[u8]) -> Option<(Route, &[u8])>
     ensures { IfSome result (λ found. IsRouteThen bytes.now (Some found.0) found.1.now) }
 {
-    if let Some(rest) = bytes.strip_prefix(b"/query HTTP/1.1\r\nx-spid: ") {
-        return Some((Route::Query, rest));
+    match bytes {
+        [b'/', b'q', ..] => {
+            let rest = bytes.strip_prefix(b"/query HTTP/1.1\r\nx-spid: ")?;
+            Some((Route::Query, rest))
+        }
+        [b'/', b'd', ..] => {
+            let rest = bytes.strip_prefix(b"/downloads/acknowledge HTTP/1.1\r\nx-spid: ")?;
+            Some((Route::Acknowledge, rest))
+        }
+        _ => None,
     }
-    let rest = bytes.strip_prefix(b"/downloads/acknowledge HTTP/1.1\r\nx-spid: ")?;
-    Some((Route::Acknowledge, rest))
+}
+
+// Returns the route of any path, and what follows `x-spid: `.
+#[inline(never)]
+fn any_route_then<'a>(bytes: &'a [u8], router: &Router<Route>) -> Option<(Option<Route>, &'a [u8])>
+    requires { router.now ≡ table }
+    ensures { IfSome result (λ found. IsRouteThen bytes.now found.0 found.1.now) }
+{
+    let (path, rest) = path_then(bytes)?;
+    Some((route_of(router, path), rest))
 }
 
 // Returns the route of the path, and what follows `x-spid: `.
+#[inline(always)]
 fn route_then<'a>(bytes: &'a [u8], router: &Router<Route>) -> Option<(Option<Route>, &'a [u8])>
     requires { router.now ≡ table }
     ensures { IfSome result (λ found. IsRouteThen bytes.now found.0 found.1.now) }
 {
-    if let Some((route, rest)) = frequent_route_then(bytes) {
-        return Some((Some(route), rest));
+    match frequent_route_then(bytes) {
+        Some((route, rest)) => Some((Some(route), rest)),
+        None => any_route_then(bytes, router),
     }
-    let (path, rest) = path_then(bytes)?;
-    Some((route_of(router, path), rest))
 }
 
 // Splits what follows `x-spid: ` into the caller and the rest.
