@@ -11,7 +11,7 @@ use Rattle.model.specs.State.{State, record_now, is_carrier, routing_of}
 use Rattle.model.specs.Refusals.{QuestionFrom, Knows, Query, AllInForce, refusal, tests, npac}
 use Rattle.model.specs.Machine.{Known, Answered, Answer, Closed, Opened, Rows}
 use Rattle.model.specs.Content.{Content, VersionRow}
-use Rattle.settle.specs.Reads.{AreInForce}
+use Rattle.settle.specs.Reads.{AreInForce, IsRoutingInForce}
 use Rattle.delivery.specs.declared.mirror.RoutedRow.{RoutedRow}
 use Rattle.settle.specs.Settling.{IsSettled}
 use Rattle.register.specs.Refinement.{Refines}
@@ -19,7 +19,6 @@ use Rattle.register.specs.Settling.{SimulatesSettledStep, AreSettled, is_of_numb
 use Rattle.register.proofs.EveryCall.Settled.{number_of_number, block_of_number}
 use Rattle.requests.specs.Calls.{in_force_of}
 use Rattle.register.proofs.Registering.Starting.{in_force_listed}
-use Rattle.register.specs.Reads.{IsRoutingInForce}
 use Rattle.register.proofs.EveryCall.Composed.{answers_read}
 use Rattle.register.proofs.Asking.Alone.{row_is_held, none_held, one_in_force}
 use Rattle.model.specs.Versions.{in_force}

@@ -22,7 +22,7 @@ use Rattle.model.proofs.Entered.{none_elsewhere, none_with, subject_eq-refl}
 use Rattle.model.proofs.Ids.{same_subject}
 use Rattle.model.proofs.Lagging.{no_row_at, row_has_id}
 use Rattle.settle.specs.StoreContract.{PreservesStore, ReportsStorage}
-use Rattle.settle.specs.Settling.{PreservesState, FramesRows, Settles, is_one_of}
+use Rattle.settle.specs.Settling.{PreservesState, FramesRows, Settles, is_one_of, is_subject_of}
 use Rattle.settle.specs.declared.store_model.StoreModel.{Ghosts}
 use Rattle.settle.proofs.Settled.{rows_joined}
 use Rattle.settle.proofs.Risen.{risen-since}
@@ -76,29 +76,29 @@ one_subject st history id s t its also = by_cases (subject_eq s t) refl
     by_cases true e = same_subject s t e
     by_cases false e = apart e (version_with id (record_now st s)) refl
 
-pub version_is : (old : Content) (id : ℕ) (row : VersionRow) → get old.versions id ≡ Some row
-    → (subject : SubjectImpl) → subject_of subject ≡ row.subject → (st : State) → Refines old st
-    → (s : Subject) → is_one_of (subject ∷ []) s ≡ is_of_id id st s
-version_is old id row found subject same st refines s =
-    ap (λ u. subject_eq s u || false) same ∙ by_cases (subject_eq s row.subject) refl
+-- The subject of the row with an id is the one that has the id.
+pub named_is : (old : Content) (id : ℕ) (st : State) → Refines old st → (s : Subject)
+    → is_subject_of (get old.versions id) s ≡ is_of_id id st s
+named_is old id st refines s = by_row (get old.versions id) refl
   where
-    has : is_of_id id st row.subject ≡ true
-    has = row_has_id st old refines.represents id row found
+    of_row : (row : VersionRow) → is_of_id id st row.subject ≡ true
+        → subject_eq row.subject s ≡ is_of_id id st s
+    of_row row has = by_cases (subject_eq row.subject s) refl
+      where
+        other : subject_eq row.subject s ≡ false → (b : Bool) → is_of_id id st s ≡ b → b ≡ false
+        other apart false e = refl
+        other apart true e = impossible (sym (subject_eq-refl row.subject)
+            ∙ ap (subject_eq row.subject) (sym (one_subject st refines.represents.history id
+            row.subject s has e)) ∙ apart)
 
-    other : subject_eq s row.subject ≡ false → (b : Bool) → is_of_id id st s ≡ b → b ≡ false
-    other apart false e = refl
-    other apart true e = impossible (sym (subject_eq-refl row.subject)
-        ∙ ap (λ u. subject_eq u row.subject) (sym (one_subject st refines.represents.history id
-        row.subject s has e)) ∙ apart)
+        by_cases : (b : Bool) → subject_eq row.subject s ≡ b → b ≡ is_of_id id st s
+        by_cases true e = sym (ap (is_of_id id st) (same_subject row.subject s e) ∙ has)
+        by_cases false e = sym (other e (is_of_id id st s) refl)
 
-    by_cases : (b : Bool) → subject_eq s row.subject ≡ b → (b || false) ≡ is_of_id id st s
-    by_cases true e = sym (ap (is_of_id id st) (sym (same_subject s row.subject e)) ∙ has)
-    by_cases false e = sym (other e (is_of_id id st s) refl)
-
-pub none_named : (old : Content) (id : ℕ) → get old.versions id ≡ None
-    → SettlesThose (is_of_id id) old old
-none_named old id none st refines s its = let never : true ≡ false =
-    sym its ∙ no_row_at st old refines.represents id none s in cc
+    by_row : (o : Option VersionRow) → get old.versions id ≡ o
+        → is_subject_of o s ≡ is_of_id id st s
+    by_row None none = sym (no_row_at st old refines.represents id none s)
+    by_row (Some row) found = of_row row (row_has_id st old refines.represents id row found)
 
 -- ---- a number and its block
 
