@@ -6,3 +6,4 @@ pub mod Copied
 pub mod Fetched
 pub mod Queued
 pub mod Receipts
+pub mod Marked
