@@ -3,7 +3,6 @@ use Rattle.std.specs.FinMap.{get}
 use Rattle.settle.specs.Changes.{AppliesChanges}
 use Rattle.store.specs.UndoLog.{ArePut}
 use Rattle.store.specs.Tables.{content_of, from_waits, IsKept, IsKeptBelow}
-use Rattle.store.proofs.Spare.{needed-after, spares-same}
 use Rattle.store.proofs.Steps.{can-take-last, last-taken, none-left}
 use Rattle.store.proofs.Undone.{indexed-kept}
 use Rattle.store.proofs.commit.commit_logged.Goals as goal
@@ -49,13 +48,6 @@ returns-in_default-clause-done c =
     (content_of c.put_rows.new.tables) x)
     (sym c.forget.invariant.same) c.finish.ensures.changed)
 
-pub returns-in_default-clause-needed : goal.returns-in_default-clause-needed
-returns-in_default-clause-needed c =
-    let end : c.forget.log.items ≡ [] = search rules in
-    let kept = none-left (λ mid. IsKeptBelow c.forget.least mid c.forget.tables) c.forget.log.items
-    c.args.tables.now end c.forget.invariant.left in
-    needed-after c.args.tables.now c.forget.tables kept.spares
-
 pub undo-init : goal.undo-init
 undo-init c =
     c.in-Err.ensures.refused c.args.tables.now
@@ -78,11 +70,3 @@ returns-in_default-pop-clause-indexed c =
     let kept = none-left (λ mid. IsKept mid c.undo.tables) c.undo.log.items c.args.tables.now end
     c.undo.invariant in
     indexed-kept c.args.tables.now c.undo.tables kept.content kept.keeps c.requires.indexed
-
-pub returns-in_default-pop-clause-needed : goal.returns-in_default-pop-clause-needed
-returns-in_default-pop-clause-needed c =
-    let end : c.undo.log.items ≡ [] = search rules in
-    let kept = none-left (λ mid. IsKept mid c.undo.tables) c.undo.log.items c.args.tables.now end
-    c.undo.invariant in
-    needed-after c.args.tables.now c.undo.tables (spares-same c.args.tables.now c.undo.tables
-    kept.content kept.adds)
