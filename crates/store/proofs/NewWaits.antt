@@ -1,20 +1,18 @@
--- Downloads that are added without entries in the log.
-use Rattle.std.proofs.Common.{◌≡◌, List, [], ◌∷◌, ◌++◌, Some, None, refl, ap, sym, ◌∙◌, subst}
+-- Downloads that are added, and taken back.
+use Rattle.std.proofs.Common.{◌≡◌, List, [], ◌∷◌, ◌++◌, map, Some, None, ap, sym, ◌∙◌}
 use Rattle.std.specs.FinMap.{FinMap, get}
 use Rattle.numbers.specs.Subjects.{Subject}
 use Rattle.numbers.specs.Abstraction.{subject_of}
 use Rattle.numbers.specs.declared.ported.Subject.{Subject as SubjectImpl}
-use Rattle.model.specs.Content.{wait_cmp}
+use Rattle.model.specs.Content.{WaitKey, wait_cmp}
 use Rattle.model.proofs.KeyOrders.{wait_total, wait_exact}
 use Rattle.settle.specs.Abstraction.{wait_key_of}
-use Rattle.settle.specs.Changes.{AppliesChanges}
+use Rattle.settle.specs.Changes.{put_rows, same_wait}
 use Rattle.settle.specs.declared.rows.WaitKey.{WaitKey as WaitKeyImpl}
 use Rattle.store.specs.Maps.{set}
-use Rattle.store.specs.Tables.{content_of}
-use Rattle.store.specs.UndoLog.{AreNew, ArePutFrom, with_waits}
-use Rattle.store.specs.declared.tables.Tables.{Tables}
+use Rattle.store.specs.Batch.{AreNew}
 use Rattle.store.proofs.Maps.{set-back}
-use Rattle.store.proofs.Changed.{wait_first}
+use Rattle.store.proofs.Changed.{set_wait}
 
 -- One download more.
 pub new-more : (es : List (WaitKeyImpl × SubjectImpl)) (e : WaitKeyImpl × SubjectImpl)
@@ -38,15 +36,11 @@ new-less [] e old new put =
 new-less (d ∷ ds) e old new put = (put.0, new-less ds e _ new put.1)
 
 -- The downloads are those of the changes.
-pub new-put : (es : List (WaitKeyImpl × SubjectImpl)) (old : Tables)
-    (new : FinMap wait_cmp Subject) → AreNew es old.waits new
-    → ArePutFrom with_waits [] es old (record old { waits = new })
-new-put [] old new same c last was =
-    subst (λ m. AppliesChanges (with_waits [] c) (content_of (record old { waits = m })) last) same
-    was
-new-put (e ∷ es) old new put c last was =
-    let mid : Tables = record old {
-      waits = set old.waits (wait_key_of e.0) (Some (subject_of e.1));
-    } in
-    wait_first (with_waits es c) (content_of old) (content_of mid) last (wait_key_of e.0)
-    (subject_of e.1) refl (new-put es mid new put.1 c last was)
+pub new-rows : (es : List (WaitKeyImpl × SubjectImpl)) (old new : FinMap wait_cmp Subject)
+    → AreNew es old new → (k : WaitKey) → get new k ≡ put_rows same_wait
+    (map (λ e. (wait_key_of e.0, subject_of e.1)) es) k (get old k)
+new-rows [] old new same k = ap (λ m. get m k) same
+new-rows (e ∷ es) old new put k =
+    new-rows es (set old (wait_key_of e.0) (Some (subject_of e.1))) new put.1 k
+    ∙ ap (put_rows same_wait (map (λ x. (wait_key_of x.0, subject_of x.1)) es) k)
+    (set_wait old (wait_key_of e.0) (Some (subject_of e.1)) k)

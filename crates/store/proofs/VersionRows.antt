@@ -43,7 +43,7 @@ module _ {X : Type 0} where
       same n = omega arith
 
   -- Setting one row.
-  pub row-set : (old new : List (Option X)) (k : ℕ) (w : Option X)
+  row-set : (old new : List (Option X)) (k : ℕ) (w : Option X)
       → ((q : ℕ) → get_or new q None ≡ cond (k == q) w (get_or old q None))
       → rows_from 0 new ≡ set (rows_from 0 old) k w
   row-set old new k w is =
@@ -59,15 +59,8 @@ module _ {X : Type 0} where
       same_map nat_cmp_total nat_cmp-IsAntisymmetric (rows_from 0 new) (rows_from 0 old)
       (λ q. row-at new q ∙ is q ∙ sym (row-at old q))
 
-  pub place-added : (os : List (Option X)) (q : ℕ) → get_or (os ++ None ∷ []) q None
-      ≡ get_or os q None
-  place-added [] zero = refl
-  place-added [] (suc q) = refl
-  place-added (o ∷ os) zero = refl
-  place-added (o ∷ os) (suc q) = place-added os q
-
   -- One row written at its place.
-  pub place-written : (os : List (Option X)) (k : ℕ) (w : Option X) → k < length os → (q : ℕ)
+  place-written : (os : List (Option X)) (k : ℕ) (w : Option X) → k < length os → (q : ℕ)
       → get_or (slice_set os k w) q None ≡ cond (k == q) w (get_or os q None)
   place-written os k w inside q = by_cases (k == q) refl
     where
@@ -80,28 +73,9 @@ module _ {X : Type 0} where
           let other : q ≢ k = grind (arith, nat_tests, e) in
           get_or-set_other os k q w None other
 
-  -- A row that is there is at a place in the list.
-  pub row-inside : (os : List (Option X)) (k : ℕ) → IsSome (get_or os k None) → k < length os
-  row-inside [] k is = let f : false ≡ true = is in cc
-  row-inside (o ∷ os) zero is = omega arith
-  row-inside (o ∷ os) (suc k) is = let later : k < length os = row-inside os k is in
-      omega (arith, later)
-
-  -- What the code reads at a place.
-  pub place-read : (os : List (Option X)) (k : ℕ) (o : Option X) → o ≡ get_or os k o
-      → k < length os → o ≡ get_or os k None
-  place-read os k o is inside = get_or_read_under os k (length os) o None is inside refl
-
-  -- A row written where places were added before.
-  pub row-written : (old mid : List (Option X)) (k : ℕ) (w : Option X)
-      → ((q : ℕ) → get_or mid q None ≡ get_or old q None) → k < length mid
-      → rows_from 0 (slice_set mid k w) ≡ set (rows_from 0 old) k w
-  row-written old mid k w same inside = row-set old (slice_set mid k w) k w
-      (λ q. place-written mid k w inside q ∙ ap (cond (k == q) w) (same q))
-
-pub if_err : {V E P : Type 0} (r : Result V E) → P → OnErr r P
-if_err (Ok v) is = tt
-if_err (Err e) is = is
+  pub row-written : (os : List (Option X)) (k : ℕ) (w : Option X) → k < length os
+      → rows_from 0 (slice_set os k w) ≡ set (rows_from 0 os) k w
+  row-written os k w inside = row-set os (slice_set os k w) k w (place-written os k w inside)
 
 -- An empty map has no row.
 pub no_row : {X : Type 0} (m : FinMap nat_cmp X) → m ≡ empty → (k : ℕ) (v : X) → get m k ≡ Some v

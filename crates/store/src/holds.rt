@@ -1,5 +1,5 @@
 //! The versions in force.
-ghost use Rattle.std.specs.Prelude.{◌≡◌, [], IfNone, IfOk, OnOk, OnErr};
+ghost use Rattle.std.specs.Prelude.{◌≡◌, [], IfNone, OnOk};
 ghost use Rattle.std.proofs.Props.{props};
 ghost use Rattle.std.specs.Ordering.{on};
 ghost use Rattle.std.specs.BTreeMap.{ContainsKey};
@@ -49,24 +49,15 @@ impl Holds {
         self.last.get(&Rank::of(subject).number).copied()
     }
 
-    /// Adds the key, if there is one, and returns it if it is new.
-    pub fn put(&mut self, key: Option<SubjectVersion>) -> Result<Option<SubjectVersion>, AllocError>
+    /// Adds the key, if there is one.
+    pub fn put(&mut self, key: Option<SubjectVersion>) -> Result<(), AllocError>
         ensures there { OnOk result
             (Has (on subject_version_of subject_version_cmp) self.new.keys key) }
         ensures keeps { Keeps (on subject_version_of subject_version_cmp) self.old.keys
             self.new.keys }
-        ensures is_new { IfOk result
-            (λ new. Lacks (on subject_version_of subject_version_cmp) self.old.keys new) }
-        ensures adds_key { KeepsOthers (on subject_version_of subject_version_cmp) self.new.keys
-            self.old.keys key }
-        ensures adds_new { IfOk result
-            (λ new. KeepsOthers (on subject_version_of subject_version_cmp) self.new.keys
-            self.old.keys new) }
-        ensures refused { OnErr result
-            (Keeps (on subject_version_of subject_version_cmp) self.new.keys self.old.keys) }
     {
         let Some(held) = key else {
-            return Ok(None);
+            return Ok(());
         };
         let _ = self.last.insert(held.rank.number, held.id)?;
         put_key(&mut self.keys, key)
@@ -76,8 +67,6 @@ impl Holds {
     pub fn delete(&mut self, key: Option<SubjectVersion>)
         ensures others { KeepsOthers (on subject_version_of subject_version_cmp) self.old.keys
             self.new.keys key }
-        ensures adds { Keeps (on subject_version_of subject_version_cmp) self.new.keys
-            self.old.keys }
         ensures gone { Lacks (on subject_version_of subject_version_cmp) self.new.keys key }
     {
         delete_key(&mut self.keys, key);

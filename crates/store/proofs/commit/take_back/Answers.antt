@@ -1,6 +1,6 @@
 use Rattle.std.proofs.Common.{◌≡◌, ◌<◌, ◌+◌, ◌-◌, ◌++◌, ◌∷◌, [], length, take, get_or, sym, ◌∙◌, ap, subst, arith}
 use Rattle.std.proofs.lemmas.List.{take_more}
-use Rattle.store.specs.UndoLog.{AreNew}
+use Rattle.store.specs.Batch.{AreNew}
 use Rattle.store.proofs.NewWaits.{new-less}
 use Rattle.store.proofs.commit.take_back.Goals as goal
 

@@ -2,7 +2,7 @@ use Rattle.std.proofs.Common.{◌≤◌, length, take}
 use Rattle.std.specs.FinMap.{FinMap}
 use Rattle.numbers.specs.Subjects.{Subject}
 use Rattle.model.specs.Content.{wait_cmp}
-use Rattle.store.specs.UndoLog.{AreNew}
+use Rattle.store.specs.Batch.{AreNew}
 use Rattle.store.proofs.commit.take_back.Given as goal
 
 abbrev pub invariant-loop-left : goal.invariant-loop-left

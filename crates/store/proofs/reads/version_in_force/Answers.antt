@@ -11,7 +11,8 @@ returns-in_err-id c =
     let none : c.last.result ≡ None = search rules in
     let nothing : c.from_residual.result ≡ None = search rules in
     subst (IsInForce (content_of c.args.tables.now) (subject_of c.args.subject)) (sym nothing)
-    (none-held c.args.tables.now.versions c.args.tables.now.holds.keys (subject_of c.args.subject)
+    (none-held (content_of c.args.tables.now).versions c.args.tables.now.holds.keys (subject_of
+    c.args.subject)
     (if-none c.last.result none c.last.ensures) c.requires.0)
 
 pub returns-in-None : goal.returns-in-None
