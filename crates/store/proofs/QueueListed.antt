@@ -1,35 +1,30 @@
--- The first downloads of a carrier's queue, as a loop over the index lists them.
+-- The first downloads of a carrier's queue, as a loop over the order lists them.
 use Rattle.std.proofs.Common.{◌≡◌, ◌≤◌, ◌⊎◌, inl, inr, ℕ, Bool, true, false, cond, List, [], ◌∷◌, ◌++◌, length, Option, Some, None, refl, ap, sym, ◌∙◌, subst}
 use Rattle.std.specs.Prelude.{option_map, is_some, IsSome, Contains}
 use Rattle.std.specs.declared.cmp.Ordering.{Ordering}
-use Rattle.std.specs.declared.cmp.Ordering.TheVariants.{Less, Equal}
-use Rattle.std.specs.declared.ops.Bound.TheVariants.{Included}
-use Rattle.std.specs.List.{AllByRecursion, filter_map, cons_option}
+use Rattle.std.specs.declared.cmp.Ordering.TheVariants.{Less}
+use Rattle.std.specs.List.{AllByRecursion, filter_map}
 use Rattle.std.specs.List.Sorted.{IsStrictlySortedBy}
-use Rattle.std.specs.Ordering.{on, nat_cmp, ordering_then}
-use Rattle.std.specs.Cmp.{eq_by_cmp_equiv}
-use Rattle.std.specs.Map.{lookup}
+use Rattle.std.specs.Ordering.{on}
+use Rattle.std.specs.Map.{lookup, keys_of}
 use Rattle.std.specs.BTreeMap as tree
-use Rattle.std.specs.BTreeMap.{BTreeMap, is_at}
-use Rattle.std.specs.BTreeMap.Range.{entries_between}
+use Rattle.std.specs.BTreeMap.{BTreeMap}
 use Rattle.std.specs.FinMap.{FinMap, get}
 use Rattle.numbers.specs.Subjects.{Subject}
 use Rattle.numbers.specs.declared.spid.Spid.{Spid}
 use Rattle.model.specs.Content.{Content, BroadcastRow, WaitKey, wait_cmp, broadcast_cmp, empty_content, broadcast_key, wait_key}
 use Rattle.delivery.specs.declared.broadcast.Broadcast.{Broadcast}
-use Rattle.delivery.specs.declared.download.Download.{Download}
+use Rattle.delivery.specs.declared.download.Download.{Download as DownloadImpl}
+use Rattle.delivery.specs.declared.download.DownloadKey.{DownloadKey as DownloadKeyImpl}
 use Rattle.settle.specs.Reads.{AreFirst, IsBehind, IsQueued, IsWaitingDownload, queue_cmp}
-use Rattle.settle.specs.Abstraction.{broadcast_key_of, broadcast_row_of, spid_of, wait_key_of}
+use Rattle.settle.specs.Abstraction.{broadcast_key_of, broadcast_row_of, spid_of}
 use Rattle.settle.specs.declared.rows.BroadcastKey.{BroadcastKey as BroadcastKeyImpl}
-use Rattle.settle.specs.declared.rows.WaitKey.{WaitKey as WaitKeyImpl}
 use Rattle.store.specs.Maps.{map_of}
-use Rattle.store.specs.WaitRows.{IsDownload}
-use Rattle.store.specs.QueueRows.{AreOrdered, IsOrderedFor, order_of, lowest, highest, download_at, download_from, broadcast_of}
-use Rattle.store.proofs.Maps.{get-map_of, entry-of}
-use Rattle.model.proofs.KeyOrders.{wait_total, wait_exact, broadcast_total, broadcast_exact}
-use Rattle.store.proofs.Listed.{Among, contained, all-places, filter_map-filter, listed-sorted, found-listed, equal_cmp}
-use Rattle.store.proofs.CarrierKeys.{is_between, carrier-is, within}
-use Rattle.numbers.proofs.Small.{tied}
+use Rattle.store.specs.WaitRows.{Download, download_cmp, download_of, wait_for}
+use Rattle.store.specs.QueueRows.{queue_key_of, download_at, download_from, broadcast_of, pending_at}
+use Rattle.store.proofs.Maps.{get-map_of}
+use Rattle.model.proofs.KeyOrders.{broadcast_total, broadcast_exact}
+use Rattle.store.proofs.Listed.{Among, contained, all-places, all-listed, listed-sorted, among-listed}
 
 -- ---- lists
 
@@ -76,19 +71,6 @@ sorted-before D (x ∷ xs) ys y is there = (
   sorted-before D xs ys y is.1 there,
 )
 
-module _ {K X A : Type 0} (F : K → Option A) (P : A → Type 0) where
-  -- What is true of each entry that yields a value is true of the list of values.
-  all-members : (es : List (K × X)) → ((e : K × X) → Among e es → (a : A) → F e.0 ≡ Some a → P a)
-      → AllByRecursion P (filter_map (λ e. F e.0) es)
-  unfolding Among
-  all-members [] each = tt
-  all-members (e ∷ es) each = by_cases (all-members es (λ x there. each x (inr there))) (F e.0) refl
-    where
-      by_cases : AllByRecursion P (filter_map (λ x. F x.0) es) → (o : Option A) → F e.0 ≡ o
-          → AllByRecursion P (cons_option o (filter_map (λ x. F x.0) es))
-      by_cases more None p = more
-      by_cases more (Some a) p = (each e (inl refl) a p, more)
-
 pub found-own : {K X : Type 0} (at : K → Bool) (es : List (K × X)) (e : K × X) → Among e es
     → at e.0 ≡ true → IsSome (lookup at es)
 unfolding Among
@@ -106,25 +88,27 @@ in_part : {A : Type 0} (b : Bool) (o : Option A) (d : A) → cond b o None ≡ S
 in_part true o d e = (refl, e)
 in_part false o d e = let f : None ≡ Some d = e in cc
 
-module _ (ordered_for : List Spid) (waits : FinMap wait_cmp Subject)
-    (order : BTreeMap WaitKeyImpl (Unit {0})) (broadcasts : BTreeMap BroadcastKeyImpl Broadcast)
-    (carrier : Spid) (many : ℕ) where
+-- Holds if the list has each broadcast that is pending for the carrier.
+abbrev pub HasAll : FinMap wait_cmp Subject → (carrier : ℕ) → List (DownloadKeyImpl × Unit {0})
+    → Type 0
+HasAll waits carrier es = (k : WaitKey) → k.carrier ≡ carrier → is_some (get waits k) ≡ true
+    → (e : DownloadKeyImpl × Unit {0}) × Among e es × (queue_key_of e.0 ≡ download_of k)
+
+module _ (waits : FinMap wait_cmp Subject) (broadcasts : BTreeMap BroadcastKeyImpl Broadcast)
+    (carrier : Spid) (many : ℕ) (part : List (DownloadKeyImpl × Unit {0})) where
   abbrev content : Content
   content = record empty_content {
     waits = waits;
     broadcasts = map_of broadcast_key_of broadcast_row_of broadcasts;
   }
 
-  abbrev own : (minute id attempt : ℕ) → WaitKey
-  own minute id attempt = wait_key carrier.number minute id attempt
-
-  row-of : (k : WaitKeyImpl) → get content.broadcasts (broadcast_key k.id k.attempt)
+  row-of : (k : DownloadKeyImpl) → get content.broadcasts (broadcast_key k.id k.attempt)
       ≡ option_map broadcast_row_of (tree.get (on broadcast_key_of broadcast_cmp) broadcasts
       (broadcast_of k))
   row-of k = get-map_of broadcast_key_of broadcast_row_of broadcast_total broadcast_exact broadcasts
       (broadcast_of k)
 
-  download_at-is : (k : WaitKeyImpl) (d : Download) → download_at broadcasts k ≡ Some d →
+  download_at-is : (k : DownloadKeyImpl) (d : DownloadImpl) → download_at broadcasts k ≡ Some d →
       (b : Broadcast) × (get content.broadcasts (broadcast_key k.id k.attempt)
       ≡ Some (broadcast_row_of b)) × (download_from k b ≡ d)
   download_at-is k d e =
@@ -142,7 +126,7 @@ module _ (ordered_for : List Spid) (waits : FinMap wait_cmp Subject)
         (let g : Some (download_from k b) ≡ Some d = f in cc),
       )
 
-  is-download_at : (k : WaitKeyImpl) (row : BroadcastRow)
+  is-download_at : (k : DownloadKeyImpl) (row : BroadcastRow)
       → get content.broadcasts (broadcast_key k.id k.attempt) ≡ Some row
       → (b : Broadcast) × (download_at broadcasts k ≡ Some (download_from k b))
   is-download_at k row e =
@@ -155,93 +139,62 @@ module _ (ordered_for : List Spid) (waits : FinMap wait_cmp Subject)
       by_cases None at f = let no : None ≡ Some row = f in cc
       by_cases (Some b) at f = (b, ap (option_map (download_from k)) at)
 
-  module _ (lo hi : WaitKeyImpl) (low : wait_key_of lo ≡ lowest carrier.number)
-      (high : wait_key_of hi ≡ highest carrier.number)
-      (indexed : AreOrdered ordered_for waits (order_of order))
-      (among : IsOrderedFor ordered_for carrier.number) where
-    abbrev listed : WaitKeyImpl → Option Download
-    listed k = cond (is_between lo hi k) (download_at broadcasts k) None
+  abbrev listed : DownloadKeyImpl → Option DownloadImpl
+  listed = pending_at waits broadcasts carrier.number
 
-    -- A listed entry is a download pending for the carrier.
-    waits-is : (e : WaitKeyImpl × Unit {0}) → Among e order.entries → (d : Download)
-        → listed e.0 ≡ Some d → IsWaitingDownload content carrier.number d
-    waits-is e there d is =
-        let p = in_part (is_between lo hi e.0) (download_at broadcasts e.0) d is in
-        let t = download_at-is e.0 d p.1 in
-        let stands : is_some (get (order_of order) (wait_key_of e.0)) ≡ true =
-        ap is_some (get-map_of wait_key_of (λ (u : Unit {0}). u) wait_total wait_exact order e.0)
-        ∙ present (tree.get (on wait_key_of wait_cmp) order e.0)
-        (found-own (is_at (on wait_key_of wait_cmp e.0)) order.entries e there (here e.0)) in
-        let mine : is_some (get waits (own e.0.minute.number e.0.id e.0.attempt)) ≡ true =
-        ap (λ c. is_some (get waits (wait_key c e.0.minute.number e.0.id e.0.attempt)))
-        (carrier-is carrier.number lo hi low high e.0 p.0)
-        ∙ indexed.pending (wait_key_of e.0) stands in
-        subst (IsWaitingDownload content carrier.number) t.2 (
-          broadcast_row_of t.0,
-          (mine, t.1),
-          record { subject = refl; action = refl; routing = refl },
-        )
-      where
-        present : (o : Option (Unit {0})) → IsSome o → is_some (option_map (λ (u : Unit {0}). u) o)
-            ≡ true
-        present (Some u) s = refl
-        present None s = s
+  -- A listed key is that of a download pending for the carrier.
+  waits-is : (k : DownloadKeyImpl) (d : DownloadImpl) → listed k ≡ Some d
+      → IsWaitingDownload content carrier.number d
+  waits-is k d is =
+      let p = in_part (is_some (get waits (wait_for (queue_key_of k) carrier.number)))
+      (download_at broadcasts k) d is in
+      let t = download_at-is k d p.1 in
+      subst (IsWaitingDownload content carrier.number) t.2 (
+        broadcast_row_of t.0,
+        (p.0, t.1),
+        record { subject = refl; action = refl; routing = refl },
+      )
 
-        here : (k : WaitKeyImpl) → is_at (on wait_key_of wait_cmp k) k ≡ true
-        here k = (eq_by_cmp_equiv wait_total).refl (wait_key_of k)
+  rise : (x y : DownloadKeyImpl) (a b : DownloadImpl) → listed x ≡ Some a → listed y ≡ Some b
+      → on queue_key_of download_cmp x y ≡ Less → queue_cmp a b ≡ Less
+  rise x y a b p q less =
+      let px = in_part (is_some (get waits (wait_for (queue_key_of x) carrier.number)))
+      (download_at broadcasts x) a p in
+      let py = in_part (is_some (get waits (wait_for (queue_key_of y) carrier.number)))
+      (download_at broadcasts y) b q in
+      let tx = download_at-is x a px.1 in
+      let ty = download_at-is y b py.1 in
+      (λ i. queue_cmp (sym tx.2 i) (sym ty.2 i)) ∙ less
 
-    rise : (x y : WaitKeyImpl) (a b : Download) → listed x ≡ Some a → listed y ≡ Some b
-        → on wait_key_of wait_cmp x y ≡ Less → queue_cmp a b ≡ Less
-    rise x y a b p q less =
-        let px = in_part (is_between lo hi x) (download_at broadcasts x) a p in
-        let py = in_part (is_between lo hi y) (download_at broadcasts y) b q in
-        let tx = download_at-is x a px.1 in
-        let ty = download_at-is y b py.1 in
-        let c : nat_cmp x.carrier.number y.carrier.number ≡ Equal =
-        equal_cmp x.carrier.number y.carrier.number
-        (sym (carrier-is carrier.number lo hi low high x px.0) ∙ carrier-is carrier.number lo hi low
-        high y py.0) in
-        (λ i. queue_cmp (sym tx.2 i) (sym ty.2 i))
-        ∙ sym (λ i. ordering_then (c i) (queue_cmp (download_from x tx.0) (download_from y ty.0)))
-        ∙ less
-
-    module _ (found later : List Download) (all : found ++ later
-        ≡ filter_map (λ (e : WaitKeyImpl × Unit {0}). listed e.0) order.entries)
-        (ordered : tree.IsOrdered (on wait_key_of wait_cmp) order) where
+  module _ (whole : HasAll waits carrier.number part)
+      (ordered : IsStrictlySortedBy (on queue_key_of download_cmp) (keys_of part))
+      (found later : List DownloadImpl)
+      (all : found ++ later ≡ filter_map (λ (e : DownloadKeyImpl × Unit {0}). listed e.0) part)
+    where
       sorted : IsStrictlySortedBy queue_cmp (found ++ later)
       sorted = subst (IsStrictlySortedBy queue_cmp) (sym all)
-          (listed-sorted listed (on wait_key_of wait_cmp) queue_cmp rise order.entries ordered)
+          (listed-sorted listed (on queue_key_of download_cmp) queue_cmp rise part ordered)
 
       -- A pending download is listed.
       listed-there : (minute id attempt : ℕ) (row : BroadcastRow)
           → IsQueued content carrier.number minute id attempt row →
-          (d : Download) × Among d (found ++ later) × ((d.minute.number ≡ minute) × (d.id ≡ id)
+          (d : DownloadImpl) × Among d (found ++ later) × ((d.minute.number ≡ minute) × (d.id ≡ id)
           × (d.attempt ≡ attempt))
       listed-there minute id attempt row is =
-          let stands : is_some (get (order_of order) (own minute id attempt)) ≡ true =
-          indexed.whole carrier.number among (own minute id attempt) refl is.0 in
-          let small : IsDownload (record { minute = minute; id = id; attempt = attempt }) =
-          indexed.small (own minute id attempt) stands in
-          let q = entry-of wait_key_of (λ (u : Unit {0}). u) wait_total wait_exact order
-          (own minute id attempt) stands in
-          let m = found-listed listed (is_at (on wait_key_of wait_cmp q.0))
-          (λ x. (x.minute.number ≡ minute) × (x.id ≡ id) × (x.attempt ≡ attempt))
-          (λ k tie.
-          let same : wait_key_of k ≡ own minute id attempt =
-          sym (wait_exact (wait_key_of q.0) (wait_key_of k) (tied _ tie)) ∙ q.1 in
-          let t = is-download_at k row ((λ i. get content.broadcasts (broadcast_key ((same i).id) ((same i).attempt))) ∙ is.1) in (
-            download_from k t.0,
-            ap (λ b. cond b (download_at broadcasts k) None) (within carrier.number lo hi low high k
-                minute
-                id attempt same small.0 small.1 small.2) ∙ t.1,
+          let m = whole (wait_key carrier.number minute id attempt) refl is.0 in
+          let t = is-download_at m.0.0 row ((λ i. get content.broadcasts
+          (broadcast_key ((m.2 i).id) ((m.2 i).attempt))) ∙ is.1) in (
+            download_from m.0.0 t.0,
+            subst (Among (download_from m.0.0 t.0)) (sym all)
+                (among-listed listed part m.0 (download_from m.0.0 t.0) m.1
+                (ap (λ b. cond b (download_at broadcasts m.0.0) None)
+                (ap (λ d. is_some (get waits (wait_for d carrier.number))) m.2 ∙ is.0) ∙ t.1)),
             (
-              ap (λ (v : WaitKey). v.minute) same,
-              ap (λ (v : WaitKey). v.id) same,
-              ap (λ (v : WaitKey). v.attempt) same,
+              ap (λ (v : Download). v.minute) m.2,
+              ap (λ (v : Download). v.id) m.2,
+              ap (λ (v : Download). v.attempt) m.2,
             ),
-          ))
-          order.entries q.2 in
-          (m.0, subst (Among m.0) (sym all) m.1, m.2)
+          )
 
       front-are : (later ≡ []) ⊎ (length found ≡ many) → length found ≤ many
           → AreFirst content (spid_of carrier) many found
@@ -252,16 +205,16 @@ module _ (ordered_for : List Spid) (waits : FinMap wait_cmp Subject)
         only = all-places (IsWaitingDownload content carrier.number) found
             (all-front (IsWaitingDownload content carrier.number) found later
             (subst (AllByRecursion (IsWaitingDownload content carrier.number)) (sym all)
-            (all-members listed (IsWaitingDownload content carrier.number) order.entries
-            waits-is)));
+            (all-listed listed (IsWaitingDownload content carrier.number) waits-is part)));
         rises = sorted-front queue_cmp found later sorted;
         most = most;
       }
         where
-          place : (minute id attempt : ℕ) (d : Download) → (d.minute.number ≡ minute) × (d.id ≡ id)
-              × (d.attempt ≡ attempt) → Among d found ⊎ Among d later → (later ≡ [])
+          place : (minute id attempt : ℕ) (d : DownloadImpl)
+              → (d.minute.number ≡ minute) × (d.id ≡ id) × (d.attempt ≡ attempt)
+              → Among d found ⊎ Among d later → (later ≡ [])
               ⊎ (length found ≡ many) →
-              ((x : Download) × Contains found x × (x.minute.number ≡ minute) × (x.id ≡ id)
+              ((x : DownloadImpl) × Contains found x × (x.minute.number ≡ minute) × (x.id ≡ id)
               × (x.attempt ≡ attempt)) ⊎ ((length found ≡ many) × IsBehind minute id attempt found)
           place minute id attempt d same (inl there) ends =
               inl (d, contained d found there, same.0, same.1, same.2)
@@ -277,26 +230,17 @@ module _ (ordered_for : List Spid) (waits : FinMap wait_cmp Subject)
                   d sorted there))))
 
   -- The loop's list is the list of the part.
-  pub walked : (lo hi : WaitKeyImpl) (found : List Download) (rest part : List (WaitKeyImpl
-      × Unit {0})) → wait_key_of lo ≡ lowest carrier.number
-      → wait_key_of hi ≡ highest carrier.number →
-      AreOrdered ordered_for waits (order_of order) → IsOrderedFor ordered_for carrier.number
-      → tree.IsOrdered (on wait_key_of wait_cmp) order
-      → part ≡ entries_between (on wait_key_of wait_cmp) (Included lo) (Included hi) order.entries →
-      found ++ filter_map (λ e. download_at broadcasts e.0) rest
-      ≡ filter_map (λ e. download_at broadcasts e.0)
-      part → (rest ≡ []) ⊎ (length found ≡ many) → length found ≤ many
+  pub walked : HasAll waits carrier.number part
+      → IsStrictlySortedBy (on queue_key_of download_cmp) (keys_of part)
+      → (found : List DownloadImpl) (rest : List (DownloadKeyImpl × Unit {0}))
+      → found ++ filter_map (λ e. listed e.0) rest ≡ filter_map (λ e. listed e.0) part
+      → (rest ≡ []) ⊎ (length found ≡ many) → length found ≤ many
       → AreFirst content (spid_of carrier) many found
-  walked lo hi found rest part low high indexed among ordered is_part so_far ends most =
-      front-are lo hi low high indexed among found (filter_map (λ e. download_at broadcasts e.0)
-      rest)
-      (so_far ∙ ap (filter_map (λ e. download_at broadcasts e.0)) is_part
-      ∙ filter_map-filter (λ e. download_at broadcasts e.0) (λ e. is_between lo hi e.0)
-      order.entries)
-      ordered (over ends) most
+  walked whole ordered found rest so_far ends most =
+      front-are whole ordered found (filter_map (λ e. listed e.0) rest) so_far (over ends) most
     where
       over : (rest ≡ []) ⊎ (length found ≡ many)
-          → (filter_map (λ (e : WaitKeyImpl × Unit {0}). download_at broadcasts e.0) rest ≡ [])
+          → (filter_map (λ (e : DownloadKeyImpl × Unit {0}). listed e.0) rest ≡ [])
           ⊎ (length found ≡ many)
-      over (inl none) = inl (ap (filter_map (λ e. download_at broadcasts e.0)) none)
+      over (inl none) = inl (ap (filter_map (λ e. listed e.0)) none)
       over (inr full) = inr full

@@ -10,6 +10,7 @@ use Rattle.numbers.proofs.SubjectKeys.{subject_key-exact}
 use Rattle.model.specs.Content.{WaitKey}
 use Rattle.store.specs.Maps.{set}
 use Rattle.store.specs.WaitRows.{Download, download_cmp, download_of, Waiting, waits_of, awaited, SubjectDownload, subject_download_cmp, key_about, download_about, IsDownload, AreAbout, AboutIsNeeded}
+use Rattle.store.specs.QueueRows.{Index, IsKey}
 use Rattle.store.proofs.Maps.{get-set}
 use Rattle.model.proofs.KeyOrders.{both_equal, wait_total, wait_exact}
 use Rattle.store.proofs.RowsFlat.{download_total, download_exact, wait-ties, get-waits_of}
@@ -89,14 +90,6 @@ row-same old new d w row same = same_map wait_total wait_exact (waits_of new) (w
     by_cases q false t = refl
 
 -- ---- the index
-
-abbrev Index : Type 0
-Index = FinMap subject_download_cmp (Unit {0})
-
--- Holds if only one key of the index changes, to `v`.
-abbrev pub IsKey : Index → Index → SubjectDownload → Option (Unit {0}) → Type 0
-IsKey old new k v = (q : SubjectDownload) → get new q ≡ cond (eq_by_cmp subject_download_cmp k q) v
-    (get old q)
 
 -- Holds if the index agrees with the rows.
 abbrev pub Agrees : FinMap download_cmp Waiting → Index → Type 0

@@ -1,7 +1,6 @@
--- The subjects of a carrier's downloads, as a loop over the index gathers them.
+-- The subjects of a carrier's downloads, as a loop over the order gathers them.
 use Rattle.std.proofs.Common.{◌≡◌, ◌⊎◌, inl, inr, ℕ, Bool, true, false, cond, List, [], ◌∷◌, Option, Some, None, refl, ap, sym, ◌∙◌, subst}
 use Rattle.std.specs.Prelude.{is_some, option_map, IsSome, filter, Result, Ok, Err, IfOk}
-use Rattle.std.specs.declared.ops.Bound.TheVariants.{Included}
 use Rattle.std.specs.List.{AllByRecursion}
 use Rattle.std.specs.List.Sorted.{IsStrictlySortedBy}
 use Rattle.std.specs.Ordering.{on, nat_cmp, eq_by_cmp}
@@ -9,25 +8,22 @@ use Rattle.std.specs.Cmp.{nat_cmp_total, eq_by_cmp_equiv}
 use Rattle.std.specs.Map.{lookup, keys_of}
 use Rattle.std.specs.BTreeMap as tree
 use Rattle.std.specs.BTreeMap.{BTreeMap, is_at}
-use Rattle.std.specs.BTreeMap.Range.{entries_between}
 use Rattle.std.specs.FinMap.{FinMap, get, empty, get-empty, nat_cmp-IsAntisymmetric}
 use Rattle.numbers.specs.Subjects.{Subject, subject_key}
 use Rattle.numbers.specs.Abstraction.{subject_of, key_of}
 use Rattle.numbers.specs.declared.ported.Subject.{Subject as SubjectImpl}
 use Rattle.numbers.specs.declared.spid.Spid.{Spid}
 use Rattle.numbers.proofs.SubjectKeys.{subject_key-exact}
-use Rattle.model.specs.Content.{Content, WaitKey, wait_cmp, empty_content, wait_key}
-use Rattle.settle.specs.Abstraction.{spid_of, wait_key_of}
+use Rattle.model.specs.Content.{Content, wait_cmp, empty_content, wait_key}
+use Rattle.settle.specs.Abstraction.{spid_of}
 use Rattle.settle.specs.Reads.{AreWaitingSubjects, IsAwaitedBy}
-use Rattle.settle.specs.declared.rows.WaitKey.{WaitKey as WaitKeyImpl}
-use Rattle.store.specs.WaitRows.{IsDownload}
-use Rattle.store.specs.QueueRows.{AreOrdered, IsOrderedFor, order_of, lowest, highest, gathered, with_subject, subjects_of}
+use Rattle.delivery.specs.declared.download.DownloadKey.{DownloadKey as DownloadKeyImpl}
+use Rattle.store.specs.WaitRows.{wait_for}
+use Rattle.store.specs.QueueRows.{queue_key_of, gathered, with_subject, subjects_of}
 use Rattle.store.specs.Maps.{IsSet}
 use Rattle.store.proofs.Maps.{get-map_of, set_map_of, entry-of, get-set, get-set_here}
-use Rattle.model.proofs.KeyOrders.{wait_total, wait_exact}
 use Rattle.store.proofs.Listed.{Among, contained, all-places}
-use Rattle.store.proofs.CarrierKeys.{is_between, carrier-is, within}
-use Rattle.store.proofs.QueueListed.{found-own}
+use Rattle.store.proofs.QueueListed.{HasAll, found-own}
 use Rattle.numbers.proofs.Small.{tied}
 
 -- ---- what a loop gathers
@@ -64,24 +60,24 @@ with-from (Some s) m k is =
     )
     by_cases false same there = inl there
 
-module _ (waits : FinMap wait_cmp Subject) where
-  abbrev at : WaitKeyImpl × Unit {0} → Option Subject
-  at e = get waits (wait_key_of e.0)
+module _ (waits : FinMap wait_cmp Subject) (carrier : ℕ) where
+  abbrev at : DownloadKeyImpl × Unit {0} → Option Subject
+  at e = get waits (wait_for (queue_key_of e.0) carrier)
 
   -- Holds if one of these places has the subject with this key.
-  abbrev IsPassed : List (WaitKeyImpl × Unit {0}) → ℕ → Type 0
-  IsPassed es k = (e : WaitKeyImpl × Unit {0}) × Among e es × (s : Subject) × (at e ≡ Some s)
+  abbrev IsPassed : List (DownloadKeyImpl × Unit {0}) → ℕ → Type 0
+  IsPassed es k = (e : DownloadKeyImpl × Unit {0}) × Among e es × (s : Subject) × (at e ≡ Some s)
       × (subject_key s ≡ k)
 
-  gathered-keeps : (es : List (WaitKeyImpl × Unit {0})) (m : Gathered) (k : ℕ)
-      → is_some (get m k) ≡ true → is_some (get (gathered waits es m) k) ≡ true
+  gathered-keeps : (es : List (DownloadKeyImpl × Unit {0})) (m : Gathered) (k : ℕ)
+      → is_some (get m k) ≡ true → is_some (get (gathered waits carrier es m) k) ≡ true
   gathered-keeps [] m k is = is
   gathered-keeps (e ∷ es) m k is =
       gathered-keeps es (with_subject (at e) m) k (with-keeps (at e) m k is)
 
-  gathered-has : (es : List (WaitKeyImpl × Unit {0})) (m : Gathered) (e : WaitKeyImpl × Unit {0})
-      → Among e es → (s : Subject) → at e ≡ Some s
-      → is_some (get (gathered waits es m) (subject_key s)) ≡ true
+  gathered-has : (es : List (DownloadKeyImpl × Unit {0})) (m : Gathered)
+      (e : DownloadKeyImpl × Unit {0}) → Among e es → (s : Subject) → at e ≡ Some s
+      → is_some (get (gathered waits carrier es m) (subject_key s)) ≡ true
   unfolding Among
   gathered-has [] m e there s is = absurd there
   gathered-has (x ∷ xs) m e (inl same) s is =
@@ -90,8 +86,9 @@ module _ (waits : FinMap wait_cmp Subject) where
       ∙ ap is_some (get-set_here nat_cmp_total nat_cmp-IsAntisymmetric m (subject_key s) (Some tt)))
   gathered-has (x ∷ xs) m e (inr there) s is = gathered-has xs (with_subject (at x) m) e there s is
 
-  gathered-from : (es : List (WaitKeyImpl × Unit {0})) (m : Gathered) (k : ℕ)
-      → is_some (get (gathered waits es m) k) ≡ true → (is_some (get m k) ≡ true) ⊎ IsPassed es k
+  gathered-from : (es : List (DownloadKeyImpl × Unit {0})) (m : Gathered) (k : ℕ)
+      → is_some (get (gathered waits carrier es m) k) ≡ true
+      → (is_some (get m k) ≡ true) ⊎ IsPassed es k
   unfolding Among
   gathered-from [] m k is = inl is
   gathered-from (x ∷ xs) m k is = by_cases (gathered-from xs (with_subject (at x) m) k is)
@@ -107,21 +104,6 @@ module _ (waits : FinMap wait_cmp Subject) where
       by_cases (inr p) = inr (p.0, inr p.1, p.2, p.3, p.4)
 
 -- ---- lists
-
-among-filtered : {A : Type 0} (b : A → Bool) (x : A) (xs : List A) → Among x (filter b xs)
-    → Among x xs × (b x ≡ true)
-unfolding Among
-among-filtered b x [] is = absurd is
-among-filtered b x (y ∷ ys) is = by_cases (among-filtered b x ys) (b y) refl is
-  where
-    later : Among x ys × (b x ≡ true) → Among x (y ∷ ys) × (b x ≡ true)
-    later p = (inr p.0, p.1)
-
-    by_cases : (Among x (filter b ys) → Among x ys × (b x ≡ true)) → (t : Bool) → b y ≡ t
-        → Among x (cond t (y ∷ filter b ys) (filter b ys)) → Among x (y ∷ ys) × (b x ≡ true)
-    by_cases more true e (inl same) = (inl same, sym (ap b same) ∙ e)
-    by_cases more true e (inr there) = later (more there)
-    by_cases more false e there = later (more there)
 
 pub filtered-among : {A : Type 0} (b : A → Bool) (x : A) (xs : List A) → Among x xs → b x ≡ true
     → Among x (filter b xs)
@@ -170,14 +152,10 @@ all-of P (x ∷ xs) each = (each x (inl refl), all-of P xs (λ y there. each y (
 
 -- ---- the carrier's subjects
 
-module _ (waits : FinMap wait_cmp Subject) (order : BTreeMap WaitKeyImpl (Unit {0}))
-    (subjects : BTreeMap SubjectImpl (Unit {0})) (carrier : Spid) (lo hi : WaitKeyImpl)
-    (low : wait_key_of lo ≡ lowest carrier.number) (high : wait_key_of hi ≡ highest carrier.number)
-    (ordered_for : List Spid) (indexed : AreOrdered ordered_for waits (order_of order))
-    (among : IsOrderedFor ordered_for carrier.number)
-    (part : List (WaitKeyImpl × Unit {0})) (is_part : part ≡ entries_between
-    (on wait_key_of wait_cmp) (Included lo) (Included hi) order.entries)
-    (all : subjects_of subjects ≡ gathered waits part empty) where
+module _ (waits : FinMap wait_cmp Subject) (carrier : Spid)
+    (subjects : BTreeMap SubjectImpl (Unit {0})) (part : List (DownloadKeyImpl × Unit {0}))
+    (whole : HasAll waits carrier.number part)
+    (all : subjects_of subjects ≡ gathered waits carrier.number part empty) where
   abbrev content : Content
   content = record empty_content { waits = waits }
 
@@ -185,52 +163,32 @@ module _ (waits : FinMap wait_cmp Subject) (order : BTreeMap WaitKeyImpl (Unit {
   awaited : (x : SubjectImpl) → is_some (get (subjects_of subjects) (key_of x)) ≡ true
       → IsAwaitedBy content carrier.number (subject_of x)
   awaited x there =
-      by_cases (gathered-from waits part empty (key_of x) (ap (λ m. is_some (get m (key_of x)))
-      (sym all)
-      ∙ there))
+      by_cases (gathered-from waits carrier.number part empty (key_of x)
+      (ap (λ m. is_some (get m (key_of x))) (sym all) ∙ there))
     where
-      own : IsPassed waits part (key_of x) → IsAwaitedBy content carrier.number (subject_of x)
-      own p =
-          let e = p.0 in
-          let inside = among-filtered (λ (d : WaitKeyImpl × Unit {0}). is_between lo hi d.0) e
-          order.entries (subst (Among e) is_part p.1) in
-          let same : p.2 ≡ subject_of x = subject_key-exact p.2 (subject_of x) p.4 in (
-            e.0.minute.number,
-            e.0.id,
-            e.0.attempt,
-            ap (λ c. get waits (wait_key c e.0.minute.number e.0.id e.0.attempt))
-                (carrier-is carrier.number lo hi low high e.0 inside.1)
-                ∙ p.3 ∙ ap (λ s. Some s) same,
-          )
-
       none_at : Gathered
       none_at = empty
 
-      by_cases : (is_some (get none_at (key_of x)) ≡ true) ⊎ IsPassed waits part (key_of x)
+      by_cases : (is_some (get none_at (key_of x)) ≡ true)
+          ⊎ IsPassed waits carrier.number part (key_of x)
           → IsAwaitedBy content carrier.number (subject_of x)
       by_cases (inl none) = let f : false ≡ true = sym (ap is_some (get-empty nat_cmp (key_of x)))
           ∙ none in cc
-      by_cases (inr p) = own p
+      by_cases (inr p) = (
+        p.0.0.minute.number,
+        p.0.0.id,
+        p.0.0.attempt,
+        p.3 ∙ ap (λ s. Some s) (subject_key-exact p.2 (subject_of x) p.4),
+      )
 
   -- The subject of each download pending for the carrier is gathered.
   gathered-there : (s : Subject) → IsAwaitedBy content carrier.number s
       → is_some (get (subjects_of subjects) (subject_key s)) ≡ true
   gathered-there s is =
-      let key : WaitKey = wait_key carrier.number is.0 is.1 is.2 in
-      let stands : is_some (get (order_of order) key) ≡ true =
-      indexed.whole carrier.number among key refl (ap is_some is.3) in
-      let small : IsDownload (record { minute = is.0; id = is.1; attempt = is.2 }) =
-      indexed.small key stands in
-      let q = entry-of wait_key_of (λ (u : Unit {0}). u) wait_total wait_exact order key stands in
-      let e = found-entry (is_at (on wait_key_of wait_cmp q.0)) order.entries q.2 in
-      let same : wait_key_of e.0.0 ≡ key =
-      sym (wait_exact (wait_key_of q.0) (wait_key_of e.0.0) (tied _ e.2)) ∙ q.1 in
-      let there : Among e.0 part =
-      subst (Among e.0) (sym is_part)
-      (filtered-among (λ (d : WaitKeyImpl × Unit {0}). is_between lo hi d.0) e.0 order.entries e.1
-      (within carrier.number lo hi low high e.0.0 is.0 is.1 is.2 same small.0 small.1 small.2)) in
-      ap (λ m. is_some (get m (subject_key s))) all ∙ gathered-has waits part empty e.0 there s
-      (ap (get waits) same ∙ is.3)
+      let e = whole (wait_key carrier.number is.0 is.1 is.2) refl (ap is_some is.3) in
+      ap (λ m. is_some (get m (subject_key s))) all
+      ∙ gathered-has waits carrier.number part empty e.0 e.1 s
+      (ap (λ d. get waits (wait_for d carrier.number)) e.2 ∙ is.3)
 
   pub subjects-are : (found : List SubjectImpl) → found ≡ tree.keys subjects
       → tree.IsOrdered (on key_of nat_cmp) subjects
@@ -269,16 +227,16 @@ module _ (waits : FinMap wait_cmp Subject) (order : BTreeMap WaitKeyImpl (Unit {
           present None s = s
 
 -- A loop step adds the subject of its key.
-pub gathered-step : (waits : FinMap wait_cmp Subject) (e : WaitKeyImpl × Unit {0})
-    (rest : List (WaitKeyImpl × Unit {0})) (old new : BTreeMap SubjectImpl (Unit {0}))
-    (x : SubjectImpl) →
-    Some (subject_of x) ≡ get waits (wait_key_of e.0)
-    → IsSet (on key_of nat_cmp) old new x (Some tt) → gathered waits rest (subjects_of new)
-    ≡ gathered waits (e ∷ rest) (subjects_of old)
-gathered-step waits e rest old new x is written =
-    ap (gathered waits rest) (set_map_of key_of (λ (u : Unit {0}). u) nat_cmp_total
+pub gathered-step : (waits : FinMap wait_cmp Subject) (carrier : ℕ) (e : DownloadKeyImpl × Unit {0})
+    (rest : List (DownloadKeyImpl × Unit {0})) (old new : BTreeMap SubjectImpl (Unit {0}))
+    (x : SubjectImpl) → Some (subject_of x) ≡ get waits (wait_for (queue_key_of e.0) carrier)
+    → IsSet (on key_of nat_cmp) old new x (Some tt)
+    → gathered waits carrier rest (subjects_of new)
+    ≡ gathered waits carrier (e ∷ rest) (subjects_of old)
+gathered-step waits carrier e rest old new x is written =
+    ap (gathered waits carrier rest) (set_map_of key_of (λ (u : Unit {0}). u) nat_cmp_total
     nat_cmp-IsAntisymmetric old new x (Some tt) written)
-    ∙ ap (λ o. gathered waits rest (with_subject o (subjects_of old))) is
+    ∙ ap (λ o. gathered waits carrier rest (with_subject o (subjects_of old))) is
 
 pub if_ok : {V E : Type 0} {P Q : V → Type 0} → ((v : V) → P v → Q v) → (r : Result V E) → IfOk r P
     → IfOk r Q

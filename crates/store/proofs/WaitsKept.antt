@@ -9,17 +9,17 @@ use Rattle.std.proofs.lemmas.Bool.Decides.{nat_tests}
 use Rattle.std.specs.FinMap.{FinMap, get, empty, get-empty, from_entries, same_map}
 use Rattle.numbers.specs.Subjects.{Subject}
 use Rattle.model.specs.Content.{WaitKey, wait_cmp}
-use Rattle.store.specs.Maps.{set, seen_entries, IsSet}
-use Rattle.store.specs.WaitRows.{Download, download_cmp, download_of, row_key_of, row_in, Waiting, waiting_of, rows_of, about_of, waits_of, awaited, subject_download_of, subject_download_cmp, SubjectDownload, IsFirst, IsAdded, IsWithout}
+use Rattle.store.specs.Maps.{set, seen_entries}
+use Rattle.store.specs.WaitRows.{Download, download_cmp, download_of, row_key_of, row_in, Waiting, waiting_of, rows_of, about_of, waits_of, awaited, subject_download_of, subject_download_cmp, IsFirst, IsAdded, IsWithout}
 use Rattle.store.specs.declared.keys.RowKey.{RowKey as RowKeyImpl}
 use Rattle.store.specs.declared.keys.SubjectDownload.{SubjectDownload as SubjectDownloadImpl}
 use Rattle.store.specs.declared.waiting.Waiting.{Waiting as WaitingImpl}
-use Rattle.store.proofs.Maps.{get-seen, set_seen, set_map_of, get-set}
+use Rattle.store.proofs.Maps.{get-seen, set_seen, get-set, set-gone}
 use Rattle.store.proofs.Orders.{no_key}
 use Rattle.model.proofs.KeyOrders.{wait_total, wait_exact}
 use Rattle.store.proofs.RowsFlat.{download_total, download_exact, get-waits_of}
 use Rattle.numbers.proofs.Small.{tied}
-use Rattle.store.proofs.RowsChanged.{IsRow, IsKey, Agrees, row-changed, subject_download_total, subject_download_exact}
+use Rattle.store.proofs.RowsChanged.{IsRow, Agrees, row-changed}
 
 -- ---- no rows
 
@@ -92,7 +92,7 @@ pub wait-at : (rows : List (RowKeyImpl × WaitingImpl)) (b : RowKeyImpl) (k : Wa
 wait-at rows b k w e is =
     get-waits_of (rows_of rows) k ∙ ap (λ o. awaited o k.carrier) (row-at rows b k w e is)
 
--- ---- one row, or one key, of the code
+-- ---- one row of the code
 
 pub row-written : (old new : List (RowKeyImpl × WaitingImpl)) (b : RowKeyImpl) (k : WaitKey)
     (w : Option WaitingImpl) → row_key_of b ≡ download_of k → IsPut old new b w →
@@ -103,34 +103,12 @@ row-written old new b k w e is q =
     ∙ get-set download_total download_exact (rows_of old) (row_key_of b) (option_map waiting_of w) q
     ∙ ap (λ d. cond (eq_by_cmp download_cmp d q) (option_map waiting_of w) (get (rows_of old) q)) e
 
-pub key-written : (old new : BTreeMap SubjectDownloadImpl (Unit {0})) (key : SubjectDownloadImpl)
-    (k : SubjectDownload) (v : Option (Unit {0})) → subject_download_of key ≡ k
-    → IsSet (on subject_download_of subject_download_cmp) old new key v →
-    IsKey (about_of old) (about_of new) k (option_map (λ u. u) v)
-key-written old new key k v e is q =
-    ap (λ m. get m q) (set_map_of subject_download_of (λ (u : Unit {0}). u) subject_download_total
-    subject_download_exact old new key v is)
-    ∙ get-set subject_download_total subject_download_exact (about_of old) (subject_download_of key)
-    (option_map (λ u. u) v) q
-    ∙ ap (λ d. cond (eq_by_cmp subject_download_cmp d q) (option_map (λ u. u) v)
-    (get (about_of old) q)) e
-
--- Writing a row and deleting it amounts to deleting it.
-row-gone : (old mid new : FinMap download_cmp Waiting) (d : Download) (w : Option Waiting)
-    → IsRow old mid d w → IsRow mid new d None → IsRow old new d None
-row-gone old mid new d w put taken q = taken q ∙ by_cases (eq_by_cmp download_cmp d q) refl
-  where
-    by_cases : (b : Bool) → eq_by_cmp download_cmp d q ≡ b
-        → cond b None (get mid q) ≡ cond b None (get old q)
-    by_cases true t = refl
-    by_cases false t = put q ∙ ap (λ b. cond b w (get old q)) t
-
 -- A row that was written is deleted.
 pub row-taken : (old mid new : List (RowKeyImpl × WaitingImpl)) (b : RowKeyImpl) (k : WaitKey)
     (w : WaitingImpl) → row_key_of b ≡ download_of k → IsPut old mid b (Some w)
     → IsPut mid new b None → IsRow (rows_of old) (rows_of new) (download_of k) None
 row-taken old mid new b k w e put taken =
-    row-gone (rows_of old) (rows_of mid) (rows_of new) (download_of k) (Some (waiting_of w))
+    set-gone (rows_of old) (rows_of mid) (rows_of new) (download_of k) (Some (waiting_of w))
     (row-written old mid b k (Some w) e put) (row-written mid new b k None e taken)
 
 -- ---- the clauses of a result

@@ -1,54 +1,88 @@
--- The index of pending downloads in queue order.
-use Rattle.std.specs.Prelude.{◌≡◌, ◌==◌, ℕ, true, List, [], ◌∷◌, Option, Some, None, is_some, option_map}
-use Rattle.std.specs.List.{list_any}
-use Rattle.std.specs.Ordering.{on, nat_cmp}
+-- The order of pending downloads, and the carriers' cursors in it.
+use Rattle.std.specs.Prelude.{◌≡◌, ◌==◌, ◌⊎◌, ℕ, true, List, [], ◌∷◌, Option, Some, None, IfSome, cond, is_some, option_map}
+use Rattle.std.specs.Ordering.{on, nat_cmp, is_le, eq_by_cmp}
+use Rattle.std.specs.Map.{lookup}
 use Rattle.std.specs.BTreeMap as tree
 use Rattle.std.specs.BTreeMap.{BTreeMap}
 use Rattle.std.specs.FinMap.{FinMap, get}
 use Rattle.numbers.specs.Subjects.{Subject, subject_key}
 use Rattle.numbers.specs.Abstraction.{key_of}
-use Rattle.numbers.specs.declared.spid.Spid.{Spid}
 use Rattle.numbers.specs.declared.ported.Subject.{Subject as SubjectImpl}
-use Rattle.model.specs.Content.{WaitKey, wait_cmp, broadcast_cmp, wait_key}
+use Rattle.model.specs.Content.{WaitKey, wait_cmp, broadcast_cmp}
 use Rattle.delivery.specs.declared.broadcast.Broadcast.{Broadcast}
-use Rattle.delivery.specs.declared.download.Download.{Download}
-use Rattle.settle.specs.Abstraction.{broadcast_key_of, wait_key_of}
+use Rattle.delivery.specs.declared.download.Download.{Download as DownloadImpl}
+use Rattle.delivery.specs.declared.download.DownloadKey.{DownloadKey as DownloadKeyImpl}
+use Rattle.settle.specs.Abstraction.{broadcast_key_of}
 use Rattle.settle.specs.declared.rows.BroadcastKey.{BroadcastKey as BroadcastKeyImpl}
-use Rattle.settle.specs.declared.rows.WaitKey.{WaitKey as WaitKeyImpl}
 use Rattle.store.specs.Maps.{map_of, set}
-use Rattle.store.specs.WaitRows.{IsDownload, download_of}
+use Rattle.store.specs.WaitRows.{Download, download_cmp, download_of, wait_for, Waiting, SubjectDownload, subject_download_cmp, key_about}
 
-abbrev pub order_of : BTreeMap WaitKeyImpl (Unit {0}) → FinMap wait_cmp (Unit {0})
-order_of m = map_of wait_key_of (λ u. u) m
+-- The key of a broadcast in queue order.
+abbrev pub queue_key_of : DownloadKeyImpl → Download
+queue_key_of k = record { minute = k.minute.number; id = k.id; attempt = k.attempt }
 
--- Holds if the carrier is among those whose downloads are all in the index.
-abbrev pub IsOrderedFor : List Spid → (carrier : ℕ) → Type 0
-IsOrderedFor ordered carrier = list_any (λ (c : Spid). carrier == c.number) ordered ≡ true
+abbrev pub order_of : BTreeMap DownloadKeyImpl (Unit {0}) → FinMap download_cmp (Unit {0})
+order_of m = map_of queue_key_of (λ u. u) m
 
--- Holds if the index has each pending download of the carrier.
-abbrev pub HasQueue : (carrier : ℕ) → FinMap wait_cmp Subject → FinMap wait_cmp (Unit {0}) → Type 0
-HasQueue carrier waits order = (k : WaitKey) → k.carrier ≡ carrier
-    → is_some (get waits k) ≡ true → is_some (get order k) ≡ true
+-- Holds if the order has the key of each row, and no other key.
+abbrev pub HasKeysOf : FinMap download_cmp Waiting → FinMap download_cmp (Unit {0}) → Type 0
+HasKeysOf rows order = (d : Download) → is_some (get order d) ≡ is_some (get rows d)
 
--- Holds if the index has keys of pending downloads only, all in the range of the code, and each
--- pending download of these carriers.
-pub record AreOrdered (ordered : List Spid) (waits : FinMap wait_cmp Subject)
-    (order : FinMap wait_cmp (Unit {0})) : Type 0 where
-  pub pending : (k : WaitKey) → is_some (get order k) ≡ true → is_some (get waits k) ≡ true
-  pub small : (k : WaitKey) → is_some (get order k) ≡ true → IsDownload (download_of k)
-  pub whole : (carrier : ℕ) → IsOrderedFor ordered carrier → HasQueue carrier waits order
+-- ---- the indexes of broadcasts
 
--- The least key that a download of the carrier can have; then the greatest.
-abbrev pub lowest : ℕ → WaitKey
-lowest carrier = wait_key carrier 0 0 0
+abbrev pub Index : Type 0
+Index = FinMap subject_download_cmp (Unit {0})
 
-abbrev pub highest : ℕ → WaitKey
-highest carrier = wait_key carrier 1099511627775 18446744073709551615 18446744073709551615
+abbrev pub Order : Type 0
+Order = FinMap download_cmp (Unit {0})
 
-abbrev pub broadcast_of : WaitKeyImpl → BroadcastKeyImpl
+-- Holds if only one key of the index changes, to `v`.
+abbrev pub IsKey : Index → Index → SubjectDownload → Option (Unit {0}) → Type 0
+IsKey old new k v = (q : SubjectDownload) → get new q ≡ cond (eq_by_cmp subject_download_cmp k q) v
+    (get old q)
+
+-- Holds if only one key of the order changes, to `v`.
+abbrev pub IsOrderKey : Order → Order → Download → Option (Unit {0}) → Type 0
+IsOrderKey old new d v = (q : Download) → get new q ≡ cond (eq_by_cmp download_cmp d q) v
+    (get old q)
+
+-- Holds if the broadcast is added to both indexes.
+abbrev pub AreKeysAdded : Subject → Download → Index → Index → Order → Order → Type 0
+AreKeysAdded s d about about' order order' =
+    IsKey about about' (key_about s d) (Some tt) × IsOrderKey order order' d (Some tt)
+
+-- Holds if the broadcast is deleted from both indexes.
+abbrev pub AreKeysRemoved : Subject → Download → Index → Index → Order → Order → Type 0
+AreKeysRemoved s d about about' order order' =
+    IsKey about about' (key_about s d) None × IsOrderKey order order' d None
+
+-- Holds if the indexes stay, except that the broadcast may be deleted from the order.
+abbrev pub AreKeysKept : Download → Index → Index → Order → Order → Type 0
+AreKeysKept d about about' order order' =
+    (about' ≡ about) × ((order' ≡ order) ⊎ IsOrderKey order order' d None)
+
+-- ---- cursors
+
+-- Holds if no download pending for the carrier is before `from`.
+abbrev pub IsCursor : FinMap wait_cmp Subject → (carrier : ℕ) → (from : Download) → Type 0
+IsCursor waits carrier from = (k : WaitKey) → k.carrier ≡ carrier → is_some (get waits k) ≡ true
+    → is_le (download_cmp from (download_of k)) ≡ true
+
+-- The carrier's cursor.
+abbrev pub cursor_in : List (ℕ × DownloadKeyImpl) → (carrier : ℕ) → Option DownloadKeyImpl
+cursor_in cursors carrier = lookup (λ c. carrier == c) cursors
+
+-- Holds if no download is before the cursor of its carrier.
+abbrev pub AreCursors : List (ℕ × DownloadKeyImpl) → FinMap wait_cmp Subject → Type 0
+AreCursors cursors waits = (carrier : ℕ)
+    → IfSome (cursor_in cursors carrier) (λ k. IsCursor waits carrier (queue_key_of k))
+
+-- ---- a carrier's downloads
+
+abbrev pub broadcast_of : DownloadKeyImpl → BroadcastKeyImpl
 broadcast_of k = record { id = k.id; attempt = k.attempt }
 
-abbrev pub download_from : WaitKeyImpl → Broadcast → Download
+abbrev pub download_from : DownloadKeyImpl → Broadcast → DownloadImpl
 download_from k b = record {
   id = k.id;
   attempt = k.attempt;
@@ -59,10 +93,16 @@ download_from k b = record {
 }
 
 -- The download with what its broadcast says of it, if the broadcast is there.
-abbrev pub download_at : BTreeMap BroadcastKeyImpl Broadcast → WaitKeyImpl → Option Download
+abbrev pub download_at : BTreeMap BroadcastKeyImpl Broadcast → DownloadKeyImpl → Option DownloadImpl
 download_at broadcasts k =
     option_map (download_from k) (tree.get (on broadcast_key_of broadcast_cmp) broadcasts
     (broadcast_of k))
+
+-- The same, if the download is pending for the carrier.
+abbrev pub pending_at : FinMap wait_cmp Subject → BTreeMap BroadcastKeyImpl Broadcast
+    → (carrier : ℕ) → DownloadKeyImpl → Option DownloadImpl
+pending_at waits broadcasts carrier k =
+    cond (is_some (get waits (wait_for (queue_key_of k) carrier))) (download_at broadcasts k) None
 
 -- ---- subjects
 
@@ -72,10 +112,11 @@ with_subject None m = m
 with_subject (Some s) m = set m (subject_key s) (Some tt)
 
 -- The keys with those of the subjects at these places added.
-abbrev pub gathered : FinMap wait_cmp Subject → List (WaitKeyImpl × Unit {0})
+abbrev pub gathered : FinMap wait_cmp Subject → (carrier : ℕ) → List (DownloadKeyImpl × Unit {0})
     → FinMap nat_cmp (Unit {0}) → FinMap nat_cmp (Unit {0})
-gathered waits [] m = m
-gathered waits (e ∷ es) m = gathered waits es (with_subject (get waits (wait_key_of e.0)) m)
+gathered waits carrier [] m = m
+gathered waits carrier (e ∷ es) m =
+    gathered waits carrier es (with_subject (get waits (wait_for (queue_key_of e.0) carrier)) m)
 
 abbrev pub subjects_of : BTreeMap SubjectImpl (Unit {0}) → FinMap nat_cmp (Unit {0})
 subjects_of m = map_of key_of (λ u. u) m

@@ -3,37 +3,38 @@ ghost use Rattle.std.specs.Prelude.{◌≡◌, ◌==◌, ℕ, Some, None, IfSome
 ghost use Rattle.std.specs.List.{list_any};
 ghost use Rattle.numbers.specs.declared.spid.Spid.{Spid as SpidImpl};
 ghost use Rattle.store.specs.WaitRows.{download_of, wait_for};
-ghost use Rattle.std.specs.FinMap.{get, empty};
-ghost use Rattle.numbers.specs.Abstraction.{subject_of, key_of};
-ghost use Rattle.std.specs.Ordering.{on, nat_cmp};
-ghost use Rattle.std.specs.BTreeMap.{keys, IsOrdered};
-ghost use Rattle.model.specs.Content.{empty_content};
+ghost use Rattle.std.specs.FinMap.{FinMap, get, empty};
+ghost use Rattle.numbers.specs.Abstraction.{subject_of};
+ghost use Rattle.numbers.specs.Subjects.{Subject as SubjectModel};
+ghost use Rattle.model.specs.Content.{wait_cmp, empty_content};
 ghost use Rattle.settle.specs.Lists.{items_of};
 ghost use Rattle.settle.specs.Reads.{AreWaitingSubjects, AreFirst, AreWaitsAbout};
 ghost use Rattle.settle.specs.Abstraction.{broadcast_row_of, broadcast_key_of, spid_of, wait_key_of};
 ghost use Rattle.store.specs.Maps.{map_of, set};
-ghost use Rattle.store.specs.QueueRows.{lowest, highest, download_at, order_of, AreOrdered, IsOrderedFor};
+ghost use Rattle.store.specs.QueueRows.{queue_key_of, AreCursors, IsCursor};
 
-use crate::waiting::is_among;
-use crate::waits::Waits;
+use crate::waits::{Waits, queue_key};
 use delivery::{Broadcast, Download, DownloadKey};
 use numbers::{Minute, Spid, Subject};
 use settle::{BroadcastKey, Few, WaitKey};
 use std::alloc::{AllocError, Global};
-use std::collections::BTreeMap;
+use std::collections::{BTreeMap, HashMap};
 use std::marker::Model;
 
-/// The pending downloads, and an index that has those of some carriers in the order of their
-/// queues.
+/// The pending downloads, and a cursor for each carrier whose queue was read.
 ///
-/// A carrier's downloads are in the index once its queue has been read. Until then a download costs
-/// no more than its place in the row of its broadcast.
+/// All broadcasts that are pending for someone have one order, by their minutes. Each download that
+/// is pending for a carrier is at the carrier's cursor or after it. A look-up in a queue begins at
+/// the cursor and moves it to the carrier's first pending download. So a look-up reads the
+/// carrier's downloads, and skips those broadcasts after its first one that are pending for others
+/// only. A carrier that keeps up skips each of them once. A download before the cursor, which
+/// registers rarely send, moves the cursor back.
 #[derive(Drop)]
 pub struct Queues {
     waits: Waits,
-    order: BTreeMap<WaitKey, ()>,
-    /// The carriers whose downloads are all in `order`.
-    ordered: Vec<Spid>,
+    // By the number of the carrier. Without a cursor a carrier's queue is read from the first
+    // broadcast on.
+    cursors: HashMap<u32, DownloadKey>,
 }
 
 impl Model for Queues {
@@ -41,7 +42,7 @@ impl Model for Queues {
     ghost use Rattle.numbers.specs.Subjects.{Subject};
     ghost use Rattle.model.specs.Content.{wait_cmp};
     ghost use Rattle.store.specs.WaitRows.{coded_waits};
-    ghost use Rattle.store.specs.QueueRows.{AreOrdered, order_of};
+    ghost use Rattle.store.specs.QueueRows.{AreCursors};
 
     ghost Value = { FinMap wait_cmp Subject };
 
@@ -49,82 +50,54 @@ impl Model for Queues {
 
     ghost view = { λ q. q.waits };
 
-    ghost invariant = { λ q. AreOrdered q.ordered.items q.waits (order_of q.order) };
+    ghost invariant = { λ q. AreCursors q.cursors.entries q.waits };
 }
 
-// Returns the least key that a download of the carrier can have.
-fn lowest(carrier: Spid) -> WaitKey
-    ensures { wait_key_of result ≡ lowest carrier.number }
+// The least key that a broadcast can have.
+const FIRST: DownloadKey = DownloadKey {
+    minute: Minute::ZERO,
+    id: 0,
+    attempt: 0,
+};
+
+// Moves the carrier's cursor back to a new download, if the download is before it.
+fn move_back(cursors: &mut HashMap<u32, DownloadKey>, key: WaitKey)
+    ensures { (waits : FinMap wait_cmp SubjectModel) (s : SubjectModel)
+        → AreCursors cursors.old.entries waits
+        → AreCursors cursors.new.entries (set waits (wait_key_of key) (Some s)) }
 {
-    WaitKey {
-        carrier,
-        minute: Minute::ZERO,
-        id: 0,
-        attempt: 0,
+    let own = queue_key(key);
+    if let Some(cursor) = cursors.get_mut(&key.carrier.number) {
+        if own < *cursor {
+            *cursor = own;
+        }
     }
 }
 
-// Returns the greatest key that a download of the carrier can have.
-fn highest(carrier: Spid) -> WaitKey
-    ensures { wait_key_of result ≡ highest carrier.number }
+// Returns a key that no download pending for the carrier is before.
+fn cursor_of(cursors: &HashMap<u32, DownloadKey>, carrier: Spid) -> DownloadKey
+    ensures { (waits : FinMap wait_cmp SubjectModel) → AreCursors cursors.now.entries waits
+        → IsCursor waits carrier.number (queue_key_of result) }
 {
-    WaitKey {
-        carrier,
-        minute: Minute {
-            number: Minute::LIMIT - 1,
-        },
-        id: u64::MAX,
-        attempt: u64::MAX,
+    match cursors.get(&carrier.number) {
+        None => FIRST,
+        Some(cursor) => *cursor,
     }
 }
 
-// Returns the download with what its broadcast says of it, if the broadcast is there.
-fn download_at(broadcasts: &BTreeMap<BroadcastKey, Broadcast>, wait: WaitKey) -> Option<Download>
-    ensures { result ≡ download_at broadcasts.now wait }
+// Moves the carrier's cursor to its first pending download, and returns the download's key. If none
+// is pending, moves it to the last broadcast. If an allocation fails, the cursor stays.
+fn move_cursor(waits: &Waits, cursors: &mut HashMap<u32, DownloadKey>, carrier: Spid) -> DownloadKey
+    requires { AreCursors cursors.old.entries waits.now }
+    ensures cursors { AreCursors cursors.new.entries waits.now }
+    ensures own { IsCursor waits.now carrier.number (queue_key_of result) }
 {
-    let broadcast = broadcasts.get(&BroadcastKey {
-        id: wait.id,
-        attempt: wait.attempt,
-    })?;
-    Some(Download {
-        id: wait.id,
-        attempt: wait.attempt,
-        minute: wait.minute,
-        subject: broadcast.subject,
-        action: broadcast.action,
-        routing: broadcast.routing,
-    })
-}
-
-// Returns the subjects, ascending.
-fn ascending(alloc: Global, subjects: &BTreeMap<Subject, ()>) -> Result<Vec<Subject>, AllocError>
-    ensures { IfOk result (λ found. (found.items ≡ keys subjects.now)
-        × IsOrdered (on key_of nat_cmp) subjects.now) }
-{
-    let mut found = Vec::new(alloc);
-    for subject in subjects.keys() {
-        found.push(*subject)?;
+    let cursor = cursor_of(cursors, carrier);
+    let first = waits.first_from(cursor, carrier);
+    if first != cursor {
+        let _ = cursors.insert(carrier.number, first);
     }
-    Ok(found)
-}
-
-// Adds the carrier's downloads to the index, if they are not in it yet.
-fn order_queue(
-    waits: &Waits,
-    order: &mut BTreeMap<WaitKey, ()>,
-    ordered: &mut Vec<Spid>,
-    carrier: Spid,
-) -> Result<(), AllocError>
-    requires { AreOrdered ordered.old.items waits.now (order_of order.old) }
-    ensures ordered { AreOrdered ordered.new.items waits.now (order_of order.new) }
-    ensures own { OnOk result (IsOrderedFor ordered.new.items carrier.number) }
-{
-    if is_among(carrier, ordered) {
-        return Ok(());
-    }
-    waits.add_queue(carrier, order)?;
-    ordered.push(carrier)?;
-    Ok(())
+    first
 }
 
 impl Queues {
@@ -134,8 +107,7 @@ impl Queues {
     {
         Queues {
             waits: Waits::new(alloc),
-            order: BTreeMap::new(alloc),
-            ordered: Vec::new(alloc),
+            cursors: HashMap::new(alloc),
         }
     }
 
@@ -166,19 +138,8 @@ impl Queues {
             (self.new ≡ set self.old (wait_key_of key) (Some (subject_of subject))) }
         ensures err { OnErr result (self.new ≡ self.old) }
     {
-        if !is_among(key.carrier, &self.ordered) {
-            return self.waits.put(key, subject);
-        }
-        let was_there = self.order.insert(key, ())?;
-        match self.waits.put(key, subject) {
-            Ok(before) => Ok(before),
-            Err(refused) => {
-                if was_there.is_none() {
-                    let _ = self.order.remove(&key);
-                }
-                Err(refused)
-            }
-        }
+        move_back(&mut self.cursors, key);
+        self.waits.put(key, subject)
     }
 
     /// Deletes a download, and returns its subject if it was pending.
@@ -186,7 +147,6 @@ impl Queues {
         ensures before { option_map subject_of result ≡ get self.old (wait_key_of key) }
         ensures taken { self.new ≡ set self.old (wait_key_of key) None }
     {
-        let _ = self.order.remove(&key);
         self.waits.take(key)
     }
 
@@ -211,14 +171,8 @@ impl Queues {
             subjects.items) }
         ensures same { self.new ≡ self.old }
     {
-        order_queue(&self.waits, &mut self.order, &mut self.ordered, carrier)?;
-        let mut subjects = BTreeMap::new(alloc);
-        for (key, _) in self.order.range(lowest(carrier)..=highest(carrier)) {
-            if let Some(subject) = self.waits.get(*key) {
-                let _ = subjects.insert(subject, ())?;
-            }
-        }
-        ascending(alloc, &subjects)
+        let start = move_cursor(&self.waits, &mut self.cursors, carrier);
+        self.waits.subjects_from(alloc, start, carrier)
     }
 
     /// Returns the first `many` downloads of the carrier's queue, or all if there are fewer. Reads
@@ -237,16 +191,8 @@ impl Queues {
             }) (spid_of carrier) many downloads.items) }
         ensures same { self.new ≡ self.old }
     {
-        order_queue(&self.waits, &mut self.order, &mut self.ordered, carrier)?;
-        let mut found = Vec::new(alloc);
-        for (key, _) in self.order.range(lowest(carrier)..=highest(carrier)) {
-            if found.len() == many {
-                return Ok(found);
-            }
-            if let Some(download) = download_at(broadcasts, *key) {
-                found.push(download)?;
-            }
-        }
-        Ok(found)
+        let start = move_cursor(&self.waits, &mut self.cursors, carrier);
+        self.waits
+            .front_from(alloc, broadcasts, start, carrier, many)
     }
 }

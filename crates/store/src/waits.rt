@@ -1,28 +1,30 @@
 //! The pending downloads.
-ghost use Rattle.std.specs.Prelude.{◌≡◌, ◌==◌, ℕ, List, Some, None, IfSome, IfOk, OnOk, OnErr, is_some, option_map};
+ghost use Rattle.std.specs.Prelude.{◌≡◌, ◌==◌, ℕ, Some, None, IfSome, IfOk, OnOk, OnErr, is_some, option_map};
 ghost use Rattle.std.specs.List.{list_any};
 ghost use Rattle.std.specs.FinMap.{get, empty};
-ghost use Rattle.numbers.specs.Abstraction.{subject_of};
+ghost use Rattle.std.specs.Ordering.{on, nat_cmp};
+ghost use Rattle.std.specs.BTreeMap.{keys, IsOrdered};
+ghost use Rattle.numbers.specs.Abstraction.{subject_of, key_of};
 ghost use Rattle.numbers.specs.declared.spid.Spid.{Spid as SpidImpl};
 ghost use Rattle.model.specs.Content.{empty_content};
 ghost use Rattle.settle.specs.Lists.{items_of};
-ghost use Rattle.settle.specs.Reads.{AreWaitsAbout};
-ghost use Rattle.settle.specs.Abstraction.{spid_of, wait_key_of};
-ghost use Rattle.store.specs.Maps.{set};
-ghost use Rattle.store.specs.QueueRows.{order_of, AreOrdered, HasQueue};
-ghost use Rattle.store.specs.WaitRows.{row_key_of, download_of, wait_for, subject_download_of, key_about, is_for};
+ghost use Rattle.settle.specs.Reads.{AreWaitingSubjects, AreFirst, AreWaitsAbout};
+ghost use Rattle.settle.specs.Abstraction.{broadcast_row_of, broadcast_key_of, spid_of, wait_key_of};
+ghost use Rattle.store.specs.Maps.{map_of, set};
+ghost use Rattle.store.specs.QueueRows.{queue_key_of, order_of, download_at, pending_at, IsCursor, AreKeysAdded, AreKeysKept, AreKeysRemoved};
+ghost use Rattle.store.specs.WaitRows.{row_key_of, about_of, download_of, wait_for, subject_download_of, key_about, is_for};
 
 use crate::keys::{Rank, RowKey, SubjectDownload};
 use crate::waiting::Waiting;
-use delivery::DownloadKey;
+use delivery::{Broadcast, Download, DownloadKey};
 use numbers::{Minute, Spid, Subject};
-use settle::{Few, WaitKey};
+use settle::{BroadcastKey, Few, WaitKey};
 use std::alloc::{AllocError, Global};
 use std::collections::{BTreeMap, HashMap};
 use std::marker::Model;
 
-/// The pending downloads: for each broadcast one row with its subject and carriers, and an index of
-/// the broadcasts by subject.
+/// The pending downloads: for each broadcast one row with its subject and carriers, and indexes of
+/// the broadcasts by subject and in the order of queues.
 ///
 /// A broadcast has one subject. No register writes downloads of one broadcast under two subjects; a
 /// second subject is refused like a failed allocation.
@@ -31,6 +33,7 @@ pub struct Waits {
     alloc: Global,
     rows: HashMap<RowKey, Waiting>,
     about: BTreeMap<SubjectDownload, ()>,
+    order: BTreeMap<DownloadKey, ()>,
 }
 
 impl Model for Waits {
@@ -39,6 +42,7 @@ impl Model for Waits {
     ghost use Rattle.model.specs.Content.{wait_cmp};
     ghost use Rattle.store.specs.WaitRows.{AreAbout, AboutIsNeeded, waits_of, rows_of};
     ghost use Rattle.store.specs.WaitRows.{about_of, coded_waits};
+    ghost use Rattle.store.specs.QueueRows.{HasKeysOf, order_of};
 
     ghost Value = { FinMap wait_cmp Subject };
 
@@ -46,8 +50,9 @@ impl Model for Waits {
 
     ghost view = { λ w. waits_of (rows_of w.rows.entries) };
 
-    ghost invariant = { λ w. AreAbout (rows_of w.rows.entries) (about_of w.about)
-        × AboutIsNeeded (rows_of w.rows.entries) (about_of w.about) };
+    ghost invariant = { λ w. (AreAbout (rows_of w.rows.entries) (about_of w.about)
+        × AboutIsNeeded (rows_of w.rows.entries) (about_of w.about))
+        × HasKeysOf (rows_of w.rows.entries) (order_of w.order) };
 }
 
 // Returns the key of the download's broadcast.
@@ -61,8 +66,31 @@ fn broadcast_of(key: WaitKey) -> RowKey
     }
 }
 
+/// Returns the key of the download's broadcast in queue order.
+pub fn queue_key(key: WaitKey) -> DownloadKey
+    ensures { queue_key_of result ≡ download_of (wait_key_of key) }
+{
+    DownloadKey {
+        minute: key.minute,
+        id: key.id,
+        attempt: key.attempt,
+    }
+}
+
+// Returns the key of the carrier's download of the broadcast.
+fn wait_key(key: DownloadKey, carrier: Spid) -> WaitKey
+    ensures { wait_key_of result ≡ wait_for (queue_key_of key) carrier.number }
+{
+    WaitKey {
+        carrier,
+        minute: key.minute,
+        id: key.id,
+        attempt: key.attempt,
+    }
+}
+
 // Returns the key of the download's broadcast in the index by subjects.
-fn about(subject: Subject, key: WaitKey) -> SubjectDownload
+fn broadcast_about(subject: Subject, key: WaitKey) -> SubjectDownload
     ensures { subject_download_of result
         ≡ key_about (subject_of subject) (download_of (wait_key_of key)) }
 {
@@ -94,6 +122,75 @@ fn is_for(
     }
 }
 
+// Adds the download's broadcast to both indexes, or to none if an allocation fails.
+fn add_keys(
+    about: &mut BTreeMap<SubjectDownload, ()>,
+    order: &mut BTreeMap<DownloadKey, ()>,
+    subject: Subject,
+    key: WaitKey,
+) -> Result<(), AllocError>
+    ensures ok { OnOk result
+        (AreKeysAdded (subject_of subject) (download_of (wait_key_of key)) (about_of about.old)
+        (about_of about.new) (order_of order.old) (order_of order.new)) }
+    ensures err { OnErr result
+        (AreKeysKept (download_of (wait_key_of key)) (about_of about.old)
+        (about_of about.new) (order_of order.old) (order_of order.new)) }
+{
+    let own = queue_key(key);
+    let _ = order.insert(own, ())?;
+    match about.insert(broadcast_about(subject, key), ()) {
+        Ok(_) => Ok(()),
+        Err(_) => {
+            let _ = order.remove(&own);
+            Err(AllocError)
+        }
+    }
+}
+
+// Deletes the download's broadcast from both indexes.
+fn remove_keys(
+    about: &mut BTreeMap<SubjectDownload, ()>,
+    order: &mut BTreeMap<DownloadKey, ()>,
+    subject: Subject,
+    key: WaitKey,
+)
+    ensures { AreKeysRemoved (subject_of subject) (download_of (wait_key_of key)) (about_of about.old)
+        (about_of about.new) (order_of order.old) (order_of order.new) }
+{
+    let _ = about.remove(&broadcast_about(subject, key));
+    let _ = order.remove(&queue_key(key));
+}
+
+// Returns the download with what its broadcast says of it, if the broadcast is there.
+fn download_at(broadcasts: &BTreeMap<BroadcastKey, Broadcast>, key: DownloadKey) -> Option<Download>
+    ensures { result ≡ download_at broadcasts.now key }
+{
+    let broadcast = broadcasts.get(&BroadcastKey {
+        id: key.id,
+        attempt: key.attempt,
+    })?;
+    Some(Download {
+        id: key.id,
+        attempt: key.attempt,
+        minute: key.minute,
+        subject: broadcast.subject,
+        action: broadcast.action,
+        routing: broadcast.routing,
+    })
+}
+
+// Returns the subjects, ascending.
+fn ascending(alloc: Global, subjects: &BTreeMap<Subject, ()>) -> Result<Vec<Subject>, AllocError>
+    ensures { IfOk result (λ found. (found.items ≡ keys subjects.now)
+        × IsOrdered (on key_of nat_cmp) subjects.now) }
+{
+    let mut found = Vec::new(alloc);
+    for subject in subjects.keys() {
+        found.push(*subject)?;
+    }
+    Ok(found)
+}
+
 impl Waits {
     /// Creates an empty table.
     pub fn new(alloc: Global) -> Waits
@@ -103,6 +200,7 @@ impl Waits {
             alloc,
             rows: HashMap::new(alloc),
             about: BTreeMap::new(alloc),
+            order: BTreeMap::new(alloc),
         }
     }
 
@@ -141,11 +239,11 @@ impl Waits {
             return row.add(key.carrier, subject);
         }
         let row = Waiting::of(self.alloc, key.carrier, subject)?;
-        let _ = self.about.insert(about(subject, key), ())?;
+        add_keys(&mut self.about, &mut self.order, subject, key)?;
         match self.rows.insert(broadcast, row) {
             Ok(_) => Ok(None),
             Err(_) => {
-                let _ = self.about.remove(&about(subject, key));
+                remove_keys(&mut self.about, &mut self.order, subject, key);
                 Err(AllocError)
             }
         }
@@ -165,33 +263,9 @@ impl Waits {
         if row.carriers.is_empty() {
             let subject = row.subject;
             let _ = self.rows.remove(&broadcast);
-            let _ = self.about.remove(&about(subject, key));
+            remove_keys(&mut self.about, &mut self.order, subject, key);
         }
         before
-    }
-
-    /// Adds the carrier's downloads to `order`. If an allocation fails, it may add only some.
-    pub fn add_queue(
-        &self,
-        carrier: Spid,
-        order: &mut BTreeMap<WaitKey, ()>,
-    ) -> Result<(), AllocError>
-        ensures kept { (ordered : List SpidImpl) → AreOrdered ordered self.now (order_of order.old)
-            → AreOrdered ordered self.now (order_of order.new) }
-        ensures added { OnOk result (HasQueue carrier.number self.now (order_of order.new)) }
-    {
-        for (key, _) in self.about.iter() {
-            let wait = WaitKey {
-                carrier,
-                minute: key.minute,
-                id: key.id,
-                attempt: key.attempt,
-            };
-            if self.get(wait).is_some() {
-                let _ = order.insert(wait, ())?;
-            }
-        }
-        Ok(())
     }
 
     /// Returns the downloads of the subject that are pending for the carrier, earliest first.
@@ -229,6 +303,90 @@ impl Waits {
             };
             if key.rank == rank && is_for(&self.rows, broadcast, carrier, subject) {
                 found.push(alloc, broadcast)?;
+            }
+        }
+        Ok(found)
+    }
+
+    /// Returns the key of the first broadcast from `start` on that is pending for the carrier. If
+    /// there is none, returns the last key, or `start` if no key is from `start` on.
+    pub fn first_from(&self, start: DownloadKey, carrier: Spid) -> DownloadKey
+        requires { IsCursor self.now carrier.number (queue_key_of start) }
+        ensures { IsCursor self.now carrier.number (queue_key_of result) }
+    {
+        let mut last = start;
+        for (key, _) in self.order.range(start..) {
+            last = *key;
+            if self.get(wait_key(*key, carrier)).is_some() {
+                return last;
+            }
+        }
+        last
+    }
+
+    /// Returns the subjects with downloads pending for the carrier, ascending, without duplicates.
+    /// All these downloads are from `start` on.
+    pub fn subjects_from(
+        &self,
+        alloc: Global,
+        start: DownloadKey,
+        carrier: Spid,
+    ) -> Result<Vec<Subject>, AllocError>
+        requires { IsCursor self.now carrier.number (queue_key_of start) }
+        ensures { IfOk result (λ subjects.
+            AreWaitingSubjects (record empty_content { waits = self.now }) (spid_of carrier)
+            subjects.items) }
+    {
+        let mut subjects = BTreeMap::new(alloc);
+        for (key, _) in self.order.range(start..) {
+            if let Some(subject) = self.get(wait_key(*key, carrier)) {
+                let _ = subjects.insert(subject, ())?;
+            }
+        }
+        ascending(alloc, &subjects)
+    }
+
+    // Returns the download of the broadcast, if it is pending for the carrier and its row is in
+    // `broadcasts`.
+    fn pending_at(
+        &self,
+        broadcasts: &BTreeMap<BroadcastKey, Broadcast>,
+        key: DownloadKey,
+        carrier: Spid,
+    ) -> Option<Download>
+        ensures { result ≡ pending_at self.now broadcasts.now carrier.number key }
+    {
+        if self.get(wait_key(key, carrier)).is_some() {
+            download_at(broadcasts, key)
+        } else {
+            None
+        }
+    }
+
+    /// Returns the first `many` downloads of the carrier's queue, or all if there are fewer. All
+    /// pending ones are from `start` on.
+    pub fn front_from(
+        &self,
+        alloc: Global,
+        broadcasts: &BTreeMap<BroadcastKey, Broadcast>,
+        start: DownloadKey,
+        carrier: Spid,
+        many: usize,
+    ) -> Result<Vec<Download>, AllocError>
+        requires { IsCursor self.now carrier.number (queue_key_of start) }
+        ensures { IfOk result (λ downloads.
+            AreFirst (record empty_content {
+              waits = self.now;
+              broadcasts = map_of broadcast_key_of broadcast_row_of broadcasts.now;
+            }) (spid_of carrier) many downloads.items) }
+    {
+        let mut found = Vec::new(alloc);
+        for (key, _) in self.order.range(start..) {
+            if found.len() == many {
+                return Ok(found);
+            }
+            if let Some(download) = self.pending_at(broadcasts, *key, carrier) {
+                found.push(download)?;
             }
         }
         Ok(found)

@@ -33,7 +33,8 @@ returns c =
     (about-are c.self.inside.rows.entries c.args.carrier c.args.subject c.self.inside.about
     c.new.result.start c.new.result.end (items_of c.loop-key.found) c.loop-key.key-iterator
     c.into_iter-key-iterator.result
-    c.self.invariant.0 c.range-key-items.ensures.ordered (ap subject_download_of c.new.ensures.start
+    c.self.invariant.0.0 c.range-key-items.ensures.ordered
+    (ap subject_download_of c.new.ensures.start
     ∙ (λ i. record {
       subject = c.of-rank.ensures i;
       minute = 0;

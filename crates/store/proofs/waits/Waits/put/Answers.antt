@@ -1,13 +1,16 @@
-use Rattle.std.proofs.Common.{rules, ◌≡◌, Some, None, ap, sym, ◌∙◌, subst}
-use Rattle.std.specs.FinMap.{FinMap, get, from_entries}
+use Rattle.std.proofs.Common.{rules, ◌≡◌, Some, None, inr, refl, ap, sym, ◌∙◌, subst}
+use Rattle.std.specs.FinMap.{FinMap, get}
 use Rattle.numbers.specs.Subjects.{Subject}
 use Rattle.numbers.specs.Abstraction.{subject_of}
 use Rattle.model.specs.Content.{wait_cmp}
 use Rattle.settle.specs.Abstraction.{wait_key_of}
-use Rattle.store.specs.Maps.{set, seen_entries}
-use Rattle.store.specs.WaitRows.{row_key_of, download_of, waiting_of, rows_of, about_of, key_about, subject_download_of, IsDownload}
+use Rattle.store.specs.Maps.{set}
+use Rattle.store.specs.QueueRows.{IsKey, HasKeysOf, order_of}
+use Rattle.store.specs.WaitRows.{download_of, waiting_of, rows_of, about_of, key_about, IsDownload}
+use Rattle.store.proofs.Maps.{set-gone}
+use Rattle.store.proofs.QueueOrder.{keys-stay, keys-changed, keys-kept}
 use Rattle.store.proofs.RowsChanged.{Agrees, agrees-kept, agrees-new, agrees-back, row-same}
-use Rattle.store.proofs.WaitsKept.{IsPut, row-at, wait-at, row-written, key-written, if-ok-then, on-ok-from, subject-stays, added-waits, first-waits}
+use Rattle.store.proofs.WaitsKept.{IsPut, row-at, wait-at, row-written, if-ok-then, on-ok-from, subject-stays, added-waits, first-waits}
 use Rattle.store.proofs.Steps.{err-then}
 use Rattle.store.proofs.waits.Waits.put.Goals as goal
 
@@ -19,15 +22,21 @@ invariant_of-self c =
     (c.get_mut.follows.lender c.add.new.self).entries c.broadcast_of-broadcast.result
     (wait_key_of c.args.key) (Some c.add.new.self) c.broadcast_of-broadcast.ensures
     (search rules) in
-    agrees-kept (rows_of c.self.inside.rows.entries)
-    (rows_of (c.get_mut.follows.lender c.add.new.self).entries) (about_of c.self.inside.about)
-    (download_of (wait_key_of c.args.key)) (waiting_of c.in-Some.row.now)
-    (waiting_of c.add.new.self) row
-    (row-at c.self.inside.rows.entries c.broadcast_of-broadcast.result (wait_key_of c.args.key)
-    (Some c.in-Some.row.now) c.broadcast_of-broadcast.ensures (search rules))
-    (subject-stays c.add.result c.args.key.carrier.number (subject_of c.args.subject)
-    (waiting_of c.in-Some.row.now) (waiting_of c.add.new.self) c.add.ensures.added
-    c.add.ensures.refused) c.self.invariant
+    let there = row-at c.self.inside.rows.entries c.broadcast_of-broadcast.result
+    (wait_key_of c.args.key) (Some c.in-Some.row.now) c.broadcast_of-broadcast.ensures
+    (search rules) in (
+      agrees-kept (rows_of c.self.inside.rows.entries)
+          (rows_of (c.get_mut.follows.lender c.add.new.self).entries) (about_of c.self.inside.about)
+          (download_of (wait_key_of c.args.key)) (waiting_of c.in-Some.row.now)
+          (waiting_of c.add.new.self) row there
+          (subject-stays c.add.result c.args.key.carrier.number (subject_of c.args.subject)
+          (waiting_of c.in-Some.row.now) (waiting_of c.add.new.self) c.add.ensures.added
+          c.add.ensures.refused) c.self.invariant.0,
+      keys-stay (rows_of c.self.inside.rows.entries) (order_of c.self.inside.order)
+          c.self.invariant.1 (download_of (wait_key_of c.args.key))
+          (rows_of (c.get_mut.follows.lender c.add.new.self).entries)
+          (waiting_of c.in-Some.row.now) (waiting_of c.add.new.self) row there,
+    )
 
 pub returns-in-Some-clause-before : goal.returns-in-Some-clause-before
 returns-in-Some-clause-before c =
@@ -75,23 +84,27 @@ returns-in-Some-clause-err c =
 pub invariant_of-self-in-Ok : goal.invariant_of-self-in-Ok
 invariant_of-self-in-Ok c =
     let small : IsDownload (download_of (wait_key_of c.args.key)) = search rules in
-    let row = row-written c.self.inside.rows.entries c.insert-2.new.self.entries
+    let row = row-written c.self.inside.rows.entries c.insert.new.self.entries
     c.broadcast_of-broadcast.result (wait_key_of c.args.key) (Some c.in_ok-row.row)
     c.broadcast_of-broadcast.ensures
-    (subst (λ m. IsPut m.entries c.insert-2.new.self.entries c.broadcast_of-broadcast.result
+    (subst (λ m. IsPut m.entries c.insert.new.self.entries c.broadcast_of-broadcast.result
     (Some c.in_ok-row.row)) c.get_mut.follows.holds-at-none c.in-Ok.ensures.updates.0) in
-    let own : subject_download_of c.about.result ≡ key_about (waiting_of c.in_ok-row.row).0
-    (download_of (wait_key_of c.args.key)) =
-    c.about.ensures ∙ ap (λ s. key_about s (download_of (wait_key_of c.args.key)))
-    (sym c.in_ok-row.ensures.same) in
-    agrees-new (rows_of c.self.inside.rows.entries) (rows_of c.insert-2.new.self.entries)
-    (about_of c.self.inside.about) (about_of c.insert.new.self)
-    (download_of (wait_key_of c.args.key)) (waiting_of c.in_ok-row.row) row
-    (row-at c.self.inside.rows.entries c.broadcast_of-broadcast.result (wait_key_of c.args.key) None
-    c.broadcast_of-broadcast.ensures (search rules)) small
-    (key-written c.self.inside.about c.insert.new.self c.about.result
-    (key_about (waiting_of c.in_ok-row.row).0 (download_of (wait_key_of c.args.key))) (Some tt) own
-    (search rules)) c.self.invariant
+    let own : IsKey (about_of c.self.inside.about) (about_of c.add_keys.new.about)
+    (key_about (waiting_of c.in_ok-row.row).0 (download_of (wait_key_of c.args.key))) (Some tt) =
+    subst (λ s. IsKey (about_of c.self.inside.about) (about_of c.add_keys.new.about)
+    (key_about s (download_of (wait_key_of c.args.key))) (Some tt)) (sym c.in_ok-row.ensures.same)
+    c.in_ok-add_keys.ensures.ok.0 in (
+      agrees-new (rows_of c.self.inside.rows.entries) (rows_of c.insert.new.self.entries)
+          (about_of c.self.inside.about) (about_of c.add_keys.new.about)
+          (download_of (wait_key_of c.args.key)) (waiting_of c.in_ok-row.row) row
+          (row-at c.self.inside.rows.entries c.broadcast_of-broadcast.result
+          (wait_key_of c.args.key) None c.broadcast_of-broadcast.ensures (search rules)) small own
+          c.self.invariant.0,
+      keys-changed (rows_of c.self.inside.rows.entries) (order_of c.self.inside.order)
+          c.self.invariant.1 (download_of (wait_key_of c.args.key))
+          (rows_of c.insert.new.self.entries) (order_of c.add_keys.new.order)
+          (Some (waiting_of c.in_ok-row.row)) (Some tt) row c.in_ok-add_keys.ensures.ok.1 refl,
+    )
 
 pub returns-in-Ok-clause-before : goal.returns-in-Ok-clause-before
 returns-in-Ok-clause-before c =
@@ -101,12 +114,12 @@ returns-in-Ok-clause-before c =
 
 pub returns-in-Ok-clause-ok : goal.returns-in-Ok-clause-ok
 returns-in-Ok-clause-ok c =
-    let row = row-written c.self.inside.rows.entries c.insert-2.new.self.entries
+    let row = row-written c.self.inside.rows.entries c.insert.new.self.entries
     c.broadcast_of-broadcast.result (wait_key_of c.args.key) (Some c.in_ok-row.row)
     c.broadcast_of-broadcast.ensures
-    (subst (λ m. IsPut m.entries c.insert-2.new.self.entries c.broadcast_of-broadcast.result
+    (subst (λ m. IsPut m.entries c.insert.new.self.entries c.broadcast_of-broadcast.result
     (Some c.in_ok-row.row)) c.get_mut.follows.holds-at-none c.in-Ok.ensures.updates.0) in
-    first-waits (rows_of c.self.inside.rows.entries) (rows_of c.insert-2.new.self.entries)
+    first-waits (rows_of c.self.inside.rows.entries) (rows_of c.insert.new.self.entries)
     (wait_key_of c.args.key) (subject_of c.args.subject) (waiting_of c.in_ok-row.row)
     (row-at c.self.inside.rows.entries c.broadcast_of-broadcast.result (wait_key_of c.args.key) None
     c.broadcast_of-broadcast.ensures (search rules)) row c.in_ok-row.ensures
@@ -115,36 +128,41 @@ returns-in-Ok-clause-ok c =
 
 pub invariant_of-self-in-Err : goal.invariant_of-self-in-Err
 invariant_of-self-in-Err c =
-    let same : c.insert-2.new.self.entries ≡ c.self.inside.rows.entries = search rules in
-    let own : subject_download_of c.about.result ≡ key_about (subject_of c.args.subject)
-    (download_of (wait_key_of c.args.key)) = c.about.ensures in
-    let again : subject_download_of c.about-in-Err.result ≡ key_about (subject_of c.args.subject)
-    (download_of (wait_key_of c.args.key)) = c.about-in-Err.ensures in
-    subst (λ es. Agrees (from_entries (seen_entries row_key_of waiting_of es))
-    (about_of c.remove.new.self)) (sym same)
-    (agrees-back (rows_of c.self.inside.rows.entries) (about_of c.self.inside.about)
-    (about_of c.insert.new.self) (about_of c.remove.new.self) (download_of (wait_key_of c.args.key))
-    (subject_of c.args.subject)
-    (row-at c.self.inside.rows.entries c.broadcast_of-broadcast.result (wait_key_of c.args.key) None
-    c.broadcast_of-broadcast.ensures (search rules))
-    (key-written c.self.inside.about c.insert.new.self c.about.result
-    (key_about (subject_of c.args.subject) (download_of (wait_key_of c.args.key))) (Some tt) own
-    (search rules))
-    (key-written c.insert.new.self c.remove.new.self c.about-in-Err.result
-    (key_about (subject_of c.args.subject) (download_of (wait_key_of c.args.key))) None again
-    c.remove.ensures.updates.0) c.self.invariant)
+    let same : c.insert.new.self.entries ≡ c.self.inside.rows.entries = search rules in
+    let none = row-at c.self.inside.rows.entries c.broadcast_of-broadcast.result
+    (wait_key_of c.args.key) None c.broadcast_of-broadcast.ensures (search rules) in
+    subst (λ es. Agrees (rows_of es) (about_of c.remove_keys.new.about)
+    × HasKeysOf (rows_of es) (order_of c.remove_keys.new.order)) (sym same) (
+      agrees-back (rows_of c.self.inside.rows.entries) (about_of c.self.inside.about)
+          (about_of c.add_keys.new.about) (about_of c.remove_keys.new.about)
+          (download_of (wait_key_of c.args.key)) (subject_of c.args.subject) none
+          c.in_ok-add_keys.ensures.ok.0 c.remove_keys.ensures.0 c.self.invariant.0,
+      keys-kept (rows_of c.self.inside.rows.entries) (order_of c.self.inside.order)
+          c.self.invariant.1 (download_of (wait_key_of c.args.key))
+          (order_of c.remove_keys.new.order) none
+          (inr (set-gone (order_of c.self.inside.order) (order_of c.add_keys.new.order)
+          (order_of c.remove_keys.new.order) (download_of (wait_key_of c.args.key)) (Some tt)
+          c.in_ok-add_keys.ensures.ok.1 c.remove_keys.ensures.1)),
+    )
 
 -- ---- nothing is added
 
 pub invariant_of-self-in_err-row : goal.invariant_of-self-in_err-row
 invariant_of-self-in_err-row c =
-    subst (λ m. Agrees (rows_of m.entries) (about_of c.self.inside.about))
+    subst (λ m. Agrees (rows_of m.entries) (about_of c.self.inside.about)
+    × HasKeysOf (rows_of m.entries) (order_of c.self.inside.order))
     (sym c.get_mut.follows.holds-at-none) c.self.invariant
 
-pub invariant_of-self-in_err-insert : goal.invariant_of-self-in_err-insert
-invariant_of-self-in_err-insert c =
-    let same : c.insert.new.self.entries ≡ c.self.inside.about.entries = search rules in
-    subst (λ es. Agrees (rows_of c.get_mut.follows.lender-at-none.entries)
-    (from_entries (seen_entries subject_download_of (λ u. u) es))) (sym same)
-    (subst (λ m. Agrees (rows_of m.entries) (about_of c.self.inside.about))
-    (sym c.get_mut.follows.holds-at-none) c.self.invariant)
+pub invariant_of-self-in_err-add_keys : goal.invariant_of-self-in_err-add_keys
+invariant_of-self-in_err-add_keys c =
+    let none = row-at c.self.inside.rows.entries c.broadcast_of-broadcast.result
+    (wait_key_of c.args.key) None c.broadcast_of-broadcast.ensures (search rules) in
+    subst (λ m. Agrees (rows_of m.entries) (about_of c.add_keys.new.about)
+    × HasKeysOf (rows_of m.entries) (order_of c.add_keys.new.order))
+    (sym c.get_mut.follows.holds-at-none) (
+      subst (Agrees (rows_of c.self.inside.rows.entries)) (sym c.in_err-add_keys.ensures.err.0)
+          c.self.invariant.0,
+      keys-kept (rows_of c.self.inside.rows.entries) (order_of c.self.inside.order)
+          c.self.invariant.1 (download_of (wait_key_of c.args.key)) (order_of c.add_keys.new.order)
+          none c.in_err-add_keys.ensures.err.1,
+    )

@@ -1,0 +1,372 @@
+-- The order of broadcasts when a row changes, its part from a cursor on, and the cursors.
+use Rattle.std.proofs.Common.{◌≡◌, ◌⊎◌, inl, inr, ℕ, Bool, true, false, cond, List, [], ◌∷◌, Option, Some, None, refl, ap, sym, ◌∙◌, subst, arith}
+use Rattle.std.specs.Prelude.{◌==◌, ◌&&◌, is_some, filter, IfSome, Result, Ok, Err, OnOk, OnErr}
+use Rattle.std.specs.declared.cmp.Ordering.{Ordering}
+use Rattle.std.specs.declared.cmp.Ordering.TheVariants.{Less, Equal, Greater}
+use Rattle.std.specs.declared.ops.Bound.TheVariants.{Included, Unbounded}
+use Rattle.std.specs.List.{AllByRecursion}
+use Rattle.std.specs.List.Sorted.{IsStrictlySortedBy}
+use Rattle.std.specs.Ordering.{on, is_le, is_lt, is_eq, eq_by_cmp, nat_cmp, ordering_then}
+use Rattle.std.specs.Cmp.{tied_itself}
+use Rattle.std.specs.Map.{lookup, keys_of}
+use Rattle.std.specs.BTreeMap as tree
+use Rattle.std.specs.BTreeMap.{BTreeMap, is_at}
+use Rattle.std.specs.BTreeMap.Range.{entries_between, range_contains}
+use Rattle.std.specs.FinMap.{FinMap, get, get-empty, from_entries}
+use Rattle.std.proofs.lemmas.Bool.Decides.{nat_tests}
+use Rattle.std.proofs.lemmas.List.Kept.{IsStrictlySortedBy-filter}
+use Rattle.numbers.specs.Subjects.{Subject}
+use Rattle.model.specs.Content.{WaitKey, wait_cmp}
+use Rattle.delivery.specs.declared.download.DownloadKey.{DownloadKey as DownloadKeyImpl}
+use Rattle.store.specs.Maps.{set, seen_entries}
+use Rattle.store.specs.WaitRows.{Download, download_cmp, download_of, wait_for, Waiting, waits_of, rows_of, awaited}
+use Rattle.store.specs.QueueRows.{queue_key_of, order_of, Order, HasKeysOf, IsOrderKey, IsCursor, AreCursors, cursor_in}
+use Rattle.store.specs.declared.keys.RowKey.{RowKey as RowKeyImpl}
+use Rattle.store.specs.declared.waiting.Waiting.{Waiting as WaitingImpl}
+use Rattle.store.proofs.Maps.{entry-of, get-set}
+use Rattle.store.proofs.Listed.{Among}
+use Rattle.store.proofs.QueueListed.{HasAll}
+use Rattle.store.proofs.SubjectsListed.{found-entry, filtered-among}
+use Rattle.store.proofs.RowsFlat.{download_total, download_exact, get-waits_of}
+use Rattle.store.proofs.RowsChanged.{IsRow}
+use Rattle.model.proofs.KeyOrders.{wait_total, wait_exact}
+use Rattle.numbers.proofs.Small.{tied, true_both, equal_number, number_equal}
+
+pub no-keys : (rows : List (RowKeyImpl × WaitingImpl)) (order : BTreeMap DownloadKeyImpl (Unit {0}))
+    → rows ≡ [] → order.entries ≡ [] → HasKeysOf (rows_of rows) (order_of order)
+no-keys rows order none nothing d =
+    ap (λ es. is_some (get (from_entries {R = download_cmp} (seen_entries queue_key_of
+    (λ (u : Unit {0}). u) es)) d)) nothing
+    ∙ ap is_some (get-empty download_cmp d) ∙ sym (ap is_some (get-empty download_cmp d))
+    ∙ ap (λ es. is_some (get (rows_of es) d)) (sym none)
+
+-- ---- a row changed
+
+module _ (rows : FinMap download_cmp Waiting) (order : Order) (keys : HasKeysOf rows order)
+    (d : Download) where
+  -- Writing a row and its key, or deleting both, keeps the keys those of the rows.
+  pub keys-changed : (new : FinMap download_cmp Waiting) (next : Order) (w : Option Waiting)
+      (v : Option (Unit {0})) → IsRow rows new d w → IsOrderKey order next d v
+      → is_some v ≡ is_some w → HasKeysOf new next
+  keys-changed new next w v row key same q =
+      ap is_some (key q) ∙ by_cases (eq_by_cmp download_cmp d q) ∙ sym (ap is_some (row q))
+    where
+      by_cases : (b : Bool) → is_some (cond b v (get order q)) ≡ is_some (cond b w (get rows q))
+      by_cases true = same
+      by_cases false = keys q
+
+  -- A row that is written again has its key.
+  pub keys-stay : (new : FinMap download_cmp Waiting) (was now : Waiting)
+      → IsRow rows new d (Some now) → get rows d ≡ Some was → HasKeysOf new order
+  keys-stay new was now row there q =
+      keys q ∙ by_cases (eq_by_cmp download_cmp d q) refl ∙ sym (ap is_some (row q))
+    where
+      by_cases : (b : Bool) → eq_by_cmp download_cmp d q ≡ b
+          → is_some (get rows q) ≡ is_some (cond b (Some now) (get rows q))
+      by_cases true t =
+          ap is_some (ap (get rows) (sym (download_exact d q (tied _ t))) ∙ there)
+      by_cases false t = refl
+
+  -- Deleting the key of no row changes nothing.
+  pub keys-kept : (next : Order) → get rows d ≡ None
+      → (next ≡ order) ⊎ IsOrderKey order next d None → HasKeysOf rows next
+  keys-kept next none (inl same) = subst (HasKeysOf rows) (sym same) keys
+  keys-kept next none (inr gone) =
+      λ q. ap is_some (gone q) ∙ by_cases q (eq_by_cmp download_cmp d q) refl
+    where
+      by_cases : (q : Download) (b : Bool) → eq_by_cmp download_cmp d q ≡ b
+          → is_some (cond b None (get order q)) ≡ is_some (get rows q)
+      by_cases q true t =
+          sym (ap is_some (ap (get rows) (sym (download_exact d q (tied _ t))) ∙ none))
+      by_cases q false t = keys q
+
+-- ---- the part of the order from a cursor on
+
+keys-filtered : {K X : Type 0} (p : K → Bool) (es : List (K × X))
+    → keys_of (filter (λ e. p e.0) es) ≡ filter p (keys_of es)
+keys-filtered p [] = refl
+keys-filtered {K} {X} p (e ∷ es) = by_cases (keys-filtered p es) (p e.0)
+  where
+    by_cases : keys_of (filter (λ (x : K × X). p x.0) es) ≡ filter p (keys_of es) → (b : Bool)
+        → keys_of (cond b (e ∷ filter (λ (x : K × X). p x.0) es) (filter (λ (x : K × X). p x.0) es))
+        ≡ cond b (e.0 ∷ filter p (keys_of es)) (filter p (keys_of es))
+    by_cases more true = ap (λ ks. e.0 ∷ ks) more
+    by_cases more false = more
+
+awaited-there : (c : ℕ) (o : Option Waiting) → is_some (awaited o c) ≡ true → is_some o ≡ true
+awaited-there c None e = e
+awaited-there c (Some w) e = refl
+
+module _ (order : BTreeMap DownloadKeyImpl (Unit {0})) (start : DownloadKeyImpl)
+    (part : List (DownloadKeyImpl × Unit {0})) (is_part : part ≡ entries_between
+    (on queue_key_of download_cmp) (Included start) Unbounded order.entries) where
+  abbrev inside : DownloadKeyImpl → Bool
+  inside k = range_contains (on queue_key_of download_cmp) (Included start) Unbounded k
+
+  part-rises : tree.IsOrdered (on queue_key_of download_cmp) order
+      → IsStrictlySortedBy (on queue_key_of download_cmp) (keys_of part)
+  part-rises ordered =
+      subst (IsStrictlySortedBy (on queue_key_of download_cmp))
+      (sym (ap keys_of is_part ∙ keys-filtered inside order.entries))
+      (IsStrictlySortedBy-filter (on queue_key_of download_cmp) inside (keys_of order.entries)
+      ordered)
+
+  -- Each broadcast that is pending for the carrier is in the part.
+  part-whole : (rows : FinMap download_cmp Waiting) (carrier : ℕ)
+      → HasKeysOf rows (order_of order) → IsCursor (waits_of rows) carrier (queue_key_of start)
+      → HasAll (waits_of rows) carrier part
+  part-whole rows carrier keys cursor k mine there =
+      let stands : is_some (get (order_of order) (download_of k)) ≡ true =
+      keys (download_of k) ∙ awaited-there k.carrier (get rows (download_of k))
+      (ap is_some (sym (get-waits_of rows k)) ∙ there) in
+      let q = entry-of queue_key_of (λ (u : Unit {0}). u) download_total download_exact order
+      (download_of k) stands in
+      let e = found-entry (is_at (on queue_key_of download_cmp q.0)) order.entries q.2 in
+      let same : queue_key_of e.0.0 ≡ download_of k =
+      sym (download_exact (queue_key_of q.0) (queue_key_of e.0.0) (tied _ e.2)) ∙ q.1 in (
+        e.0,
+        subst (Among e.0) (sym is_part) (filtered-among (λ (x : DownloadKeyImpl × Unit {0}).
+            inside x.0) e.0 order.entries e.1
+            (true_both _ _ (ap (λ d. is_le (download_cmp (queue_key_of start) d)) same
+            ∙ cursor k mine there) refl)),
+        same,
+      )
+
+  -- The part rises, and has all that is pending for the carrier.
+  pub part-is : (rows : FinMap download_cmp Waiting) (carrier : ℕ) (waits : FinMap wait_cmp Subject)
+      → HasKeysOf rows (order_of order) → waits_of rows ≡ waits
+      → tree.IsOrdered (on queue_key_of download_cmp) order
+      → IsCursor waits carrier (queue_key_of start) → HasAll waits carrier part
+      × IsStrictlySortedBy (on queue_key_of download_cmp) (keys_of part)
+  part-is rows carrier waits keys view ordered cursor = (
+    subst (λ m. HasAll m carrier part) view (part-whole rows carrier keys
+        (subst (λ m. IsCursor m carrier (queue_key_of start)) (sym view) cursor)),
+    part-rises ordered,
+  )
+
+-- ---- a loop from a cursor on
+
+pub not-after-itself : (a : Download) → is_le (download_cmp a a) ≡ true
+not-after-itself a = ap is_le (tied_itself download_total a)
+
+pub rest-rises : (x : DownloadKeyImpl × Unit {0}) (rest : List (DownloadKeyImpl × Unit {0}))
+    → IsStrictlySortedBy (on queue_key_of download_cmp) (keys_of (x ∷ rest))
+    → IsStrictlySortedBy (on queue_key_of download_cmp) (keys_of rest)
+unfolding IsStrictlySortedBy
+rest-rises x rest rises = rises.1
+
+module _ (waits : FinMap wait_cmp Subject) (carrier : ℕ) (x : DownloadKeyImpl × Unit {0})
+    (rest : List (DownloadKeyImpl × Unit {0})) (whole : HasAll waits carrier (x ∷ rest)) where
+  -- A broadcast that is not pending for the carrier is passed over.
+  pub passed : is_some (get waits (wait_for (queue_key_of x.0) carrier)) ≡ false
+      → HasAll waits carrier rest
+  unfolding Among
+  passed gone k mine there = by_cases (whole k mine there)
+    where
+      by_cases : (e : DownloadKeyImpl × Unit {0}) × Among e (x ∷ rest)
+          × (queue_key_of e.0 ≡ download_of k) → (e : DownloadKeyImpl × Unit {0}) × Among e rest
+          × (queue_key_of e.0 ≡ download_of k)
+      by_cases (e, inr later, same) = (e, later, same)
+      by_cases (e, inl here, same) =
+          let at : queue_key_of x.0 ≡ download_of k =
+          ap (λ (y : DownloadKeyImpl × Unit {0}). queue_key_of y.0) here ∙ same in
+          let is : wait_for (queue_key_of x.0) carrier ≡ k =
+          (λ i. wait_for (at i) (sym mine i)) in
+          let f : false ≡ true = sym gone ∙ ap (λ z. is_some (get waits z)) is ∙ there in
+          cc
+
+  -- No pending download is before the first key of the list.
+  pub first-is : IsStrictlySortedBy (on queue_key_of download_cmp) (keys_of (x ∷ rest))
+      → IsCursor waits carrier (queue_key_of x.0)
+  unfolding Among IsStrictlySortedBy
+  first-is ordered k mine there = by_cases (whole k mine there)
+    where
+      later : (es : List (DownloadKeyImpl × Unit {0})) (e : DownloadKeyImpl × Unit {0})
+          → AllByRecursion (λ y. on queue_key_of download_cmp x.0 y ≡ Less) (keys_of es)
+          → Among e es → is_le (download_cmp (queue_key_of x.0) (queue_key_of e.0)) ≡ true
+      later [] e less is = absurd is
+      later (y ∷ ys) e less (inl same) =
+          ap (λ (z : DownloadKeyImpl × Unit {0}). is_le (download_cmp (queue_key_of x.0)
+          (queue_key_of z.0))) (sym same) ∙ ap is_le less.0
+      later (y ∷ ys) e less (inr is) = later ys e less.1 is
+
+      by_cases : (e : DownloadKeyImpl × Unit {0}) × Among e (x ∷ rest)
+          × (queue_key_of e.0 ≡ download_of k)
+          → is_le (download_cmp (queue_key_of x.0) (download_of k)) ≡ true
+      by_cases (e, inl here, same) =
+          ap (λ d. is_le (download_cmp (queue_key_of x.0) d))
+          (sym (ap (λ (y : DownloadKeyImpl × Unit {0}). queue_key_of y.0) here ∙ same))
+          ∙ not-after-itself (queue_key_of x.0)
+      by_cases (e, inr is, same) =
+          ap (λ d. is_le (download_cmp (queue_key_of x.0) d)) (sym same)
+          ∙ later rest e ordered.0 is
+
+-- If the list is empty, no download is pending, so any key will do.
+pub none-left : (waits : FinMap wait_cmp Subject) (carrier : ℕ)
+    (rest : List (DownloadKeyImpl × Unit {0})) → rest ≡ [] → HasAll waits carrier rest
+    → (from : Download) → IsCursor waits carrier from
+unfolding Among
+none-left waits carrier rest end whole from k mine there =
+    let e = whole k mine there in absurd (subst (Among e.0) end e.1)
+
+-- ---- cursors
+
+-- The cursors stay while no download is added.
+pub cursors-kept : (cursors : List (ℕ × DownloadKeyImpl)) (old new : FinMap wait_cmp Subject)
+    → ((k : WaitKey) → is_some (get new k) ≡ true → is_some (get old k) ≡ true)
+    → AreCursors cursors old → AreCursors cursors new
+cursors-kept cursors old new fewer are carrier = by_cases (cursor_in cursors carrier) (are carrier)
+  where
+    by_cases : (o : Option DownloadKeyImpl)
+        → IfSome o (λ c. IsCursor old carrier (queue_key_of c))
+        → IfSome o (λ c. IsCursor new carrier (queue_key_of c))
+    by_cases None is = is
+    by_cases (Some c) is = λ k mine there. is k mine (fewer k there)
+
+-- Deleting a download adds none.
+pub fewer-taken : (waits : FinMap wait_cmp Subject) (k q : WaitKey)
+    → is_some (get (set waits k None) q) ≡ true → is_some (get waits q) ≡ true
+fewer-taken waits k q there =
+    by_cases (eq_by_cmp wait_cmp k q)
+    (sym (ap is_some (get-set wait_total wait_exact waits k None q)) ∙ there)
+  where
+    by_cases : (b : Bool) → is_some (cond b None (get waits q)) ≡ true
+        → is_some (get waits q) ≡ true
+    by_cases true is = let f : false ≡ true = is in cc
+    by_cases false is = is
+
+-- A download that is put leaves the others.
+pub more-put : (waits : FinMap wait_cmp Subject) (k q : WaitKey) (s : Subject)
+    → is_some (get waits q) ≡ true → is_some (get (set waits k (Some s)) q) ≡ true
+more-put waits k q s there =
+    ap is_some (get-set wait_total wait_exact waits k (Some s) q)
+    ∙ by_cases (eq_by_cmp wait_cmp k q)
+  where
+    by_cases : (b : Bool) → is_some (cond b (Some s) (get waits q)) ≡ true
+    by_cases true = refl
+    by_cases false = there
+
+pub not-after : (a b : Download) → is_lt (download_cmp a b) ≡ false
+    → is_le (download_cmp b a) ≡ true
+not-after a b e = numbers a.minute a.id a.attempt b.minute b.id b.attempt e
+  where
+    numbers : (m i n p j q : ℕ)
+        → is_lt (ordering_then (nat_cmp m p) (ordering_then (nat_cmp i j) (nat_cmp n q))) ≡ false
+        → is_le (ordering_then (nat_cmp p m) (ordering_then (nat_cmp j i) (nat_cmp q n))) ≡ true
+    numbers m i n p j q e = grind (arith, nat_tests)
+
+pub less-before : (a b : Download) → is_lt (download_cmp a b) ≡ true
+    → is_le (download_cmp a b) ≡ true
+less-before a b e = by_cases (download_cmp a b) e
+  where
+    by_cases : (r : Ordering) → is_lt r ≡ true → is_le r ≡ true
+    by_cases Less f = refl
+    by_cases Equal f = refl
+    by_cases Greater f = f
+
+before-both : (a b c : Download) → is_le (download_cmp a b) ≡ true
+    → is_le (download_cmp b c) ≡ true → is_le (download_cmp a c) ≡ true
+before-both a b c e f =
+    numbers a.minute a.id a.attempt b.minute b.id b.attempt c.minute c.id c.attempt e f
+  where
+    numbers : (m i n p j q s k t : ℕ)
+        → is_le (ordering_then (nat_cmp m p) (ordering_then (nat_cmp i j) (nat_cmp n q))) ≡ true
+        → is_le (ordering_then (nat_cmp p s) (ordering_then (nat_cmp j k) (nat_cmp q t))) ≡ true
+        → is_le (ordering_then (nat_cmp m s) (ordering_then (nat_cmp i k) (nat_cmp n t))) ≡ true
+    numbers m i n p j q s k t e f = grind (arith, nat_tests)
+
+-- Holds if one cursor changes.
+abbrev pub IsCursorSet : (old new : List (ℕ × DownloadKeyImpl)) → (carrier : ℕ)
+    → Option DownloadKeyImpl → Type 0
+IsCursorSet old new carrier o = (c : ℕ) → cursor_in new c ≡ cond (carrier == c) o (cursor_in old c)
+
+-- Holds if the cursor is not after the download, nor after the cursor that the carrier had.
+abbrev pub IsLower : List (ℕ × DownloadKeyImpl) → WaitKey → DownloadKeyImpl → Type 0
+IsLower cursors k c = (is_le (download_cmp (queue_key_of c) (download_of k)) ≡ true)
+    × (b : DownloadKeyImpl) × (cursor_in cursors k.carrier ≡ Some b)
+    × (is_le (download_cmp (queue_key_of c) (queue_key_of b)) ≡ true)
+
+-- The cursors hold for a new download if that of its carrier is low enough.
+pub moved-back : (old new : List (ℕ × DownloadKeyImpl)) (k : WaitKey) (o : Option DownloadKeyImpl)
+    (waits : FinMap wait_cmp Subject) (s : Subject) → IsCursorSet old new k.carrier o
+    → IfSome o (IsLower old k) → AreCursors old waits → AreCursors new (set waits k (Some s))
+moved-back old new k o waits s is low are carrier =
+    subst (λ x. IfSome x (λ c. IsCursor (set waits k (Some s)) carrier (queue_key_of c)))
+    (sym (is carrier)) (by_cases (k.carrier == carrier) refl)
+  where
+    was : (q : WaitKey) → is_some (get (set waits k (Some s)) q) ≡ true
+        → eq_by_cmp wait_cmp k q ≡ false → is_some (get waits q) ≡ true
+    was q there other =
+        sym (ap is_some (get-set wait_total wait_exact waits k (Some s) q
+        ∙ ap (λ b. cond b (Some s) (get waits q)) other)) ∙ there
+
+    here : (c : DownloadKeyImpl) → IsLower old k c → (q : WaitKey) → q.carrier ≡ carrier
+        → k.carrier ≡ carrier → is_some (get waits q) ≡ true
+        → is_le (download_cmp (queue_key_of c) (download_of q)) ≡ true
+    here c lower q mine own there =
+        before-both (queue_key_of c) (queue_key_of lower.1) (download_of q) lower.3
+        (subst (λ x. IfSome x (λ y. IsCursor waits k.carrier (queue_key_of y))) lower.2
+        (are k.carrier) q (mine ∙ sym own) there)
+
+    mine_too : k.carrier ≡ carrier → (x : Option DownloadKeyImpl) → IfSome x (IsLower old k)
+        → IfSome x (λ c. IsCursor (set waits k (Some s)) carrier (queue_key_of c))
+    mine_too own None lower = tt
+    mine_too own (Some c) lower = λ q mine there. tie q mine there (eq_by_cmp wait_cmp k q) refl
+      where
+        tie : (q : WaitKey) → q.carrier ≡ carrier
+            → is_some (get (set waits k (Some s)) q) ≡ true
+            → (b : Bool) → eq_by_cmp wait_cmp k q ≡ b
+            → is_le (download_cmp (queue_key_of c) (download_of q)) ≡ true
+        tie q mine there true e =
+            subst (λ x. is_le (download_cmp (queue_key_of c) (download_of x)) ≡ true)
+            (wait_exact k q (tied (wait_cmp k q) e)) lower.0
+        tie q mine there false e =
+            here c lower q mine own (was q there e)
+
+    others : (k.carrier == carrier) ≡ false → (x : Option DownloadKeyImpl)
+        → IfSome x (λ c. IsCursor waits carrier (queue_key_of c))
+        → IfSome x (λ c. IsCursor (set waits k (Some s)) carrier (queue_key_of c))
+    others strange None from = tt
+    others strange (Some c) from = λ q mine there. from q mine (was q there
+        (by_tie q mine (eq_by_cmp wait_cmp k q) refl))
+      where
+        by_tie : (q : WaitKey) → q.carrier ≡ carrier → (b : Bool) → eq_by_cmp wait_cmp k q ≡ b
+            → eq_by_cmp wait_cmp k q ≡ false
+        by_tie q mine false e = e
+        by_tie q mine true e =
+            let same : k.carrier ≡ carrier =
+            ap (λ (x : WaitKey). x.carrier) (wait_exact k q (tied (wait_cmp k q) e)) ∙ mine in
+            let f : true ≡ false = sym (number_equal k.carrier carrier same) ∙ strange in cc
+
+    by_cases : (b : Bool) → (k.carrier == carrier) ≡ b
+        → IfSome (cond b o (cursor_in old carrier))
+        (λ c. IsCursor (set waits k (Some s)) carrier (queue_key_of c))
+    by_cases true e = mine_too (equal_number k.carrier carrier e) o low
+    by_cases false e = others e (cursor_in old carrier) (are carrier)
+
+-- The cursors hold after one is moved to a key that no pending download is before.
+pub moved : {V E : Type 0} (r : Result V E) (old new : List (ℕ × DownloadKeyImpl)) (carrier : ℕ)
+    (c : DownloadKeyImpl) (waits : FinMap wait_cmp Subject)
+    → OnOk r (IsCursorSet old new carrier (Some c)) → OnErr r (new ≡ old)
+    → IsCursor waits carrier (queue_key_of c) → AreCursors old waits → AreCursors new waits
+moved (Err e) old new carrier c waits is same own are =
+    subst (λ cs. AreCursors cs waits) (sym same) are
+moved (Ok v) old new carrier c waits is same own are =
+    λ q. subst (λ x. IfSome x (λ y. IsCursor waits q (queue_key_of y))) (sym (is q))
+    (by_cases q (carrier == q) refl)
+  where
+    by_cases : (q : ℕ) (b : Bool) → (carrier == q) ≡ b
+        → IfSome (cond b (Some c) (cursor_in old q)) (λ y. IsCursor waits q (queue_key_of y))
+    by_cases q true e =
+        subst (λ n. IsCursor waits n (queue_key_of c)) (equal_number carrier q e) own
+    by_cases q false e = are q
+
+-- The cursors hold after a put, whether it succeeds or not, if they hold with the new download.
+pub cursors-put : {V E : Type 0} (r : Result V E) (cursors : List (ℕ × DownloadKeyImpl))
+    (old new : FinMap wait_cmp Subject) (k : WaitKey) (s : Subject)
+    → OnOk r (new ≡ set old k (Some s)) → OnErr r (new ≡ old)
+    → AreCursors cursors (set old k (Some s)) → AreCursors cursors new
+cursors-put (Ok v) cursors old new k s put same are = subst (AreCursors cursors) (sym put) are
+cursors-put (Err e) cursors old new k s put same are =
+    subst (AreCursors cursors) (sym same)
+    (cursors-kept cursors (set old k (Some s)) old (λ q there. more-put old k q s there) are)

@@ -1,9 +1,0 @@
-use Rattle.std.proofs.Common.{◌≡◌}
-use Rattle.std.specs.FinMap.{empty}
-use Rattle.store.specs.QueueRows.{gathered, subjects_of}
-use Rattle.store.proofs.queues.Queues.subjects.Given as goal
-
-abbrev pub invariant-loop-key : goal.invariant-loop-key
-invariant-loop-key l = gathered l.fn.self l.key-iterator (subjects_of l.subjects)
-    ≡ gathered l.fn.self
-    l.initial.key-iterator empty

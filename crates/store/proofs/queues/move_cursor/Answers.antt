@@ -1,0 +1,9 @@
+use Rattle.std.proofs.Common.{rules}
+use Rattle.store.proofs.QueueOrder.{moved}
+use Rattle.store.proofs.queues.move_cursor.Goals as goal
+
+pub returns-then-ne-clause-cursors : goal.returns-then-ne-clause-cursors
+returns-then-ne-clause-cursors c =
+    moved c.insert.result c.args.cursors.now.entries c.insert.new.self.entries
+    c.args.carrier.number c.first_from-first.result c.args.waits.now (search rules) (search rules)
+    c.first_from-first.ensures c.requires
