@@ -138,7 +138,7 @@ among-key k [] is = absurd is
 among-key k (e ∷ es) (inl same) = (e, inl refl, same)
 among-key k (e ∷ es) (inr there) = let p = among-key k es there in (p.0, inr p.1, p.2)
 
-key-among : {K X : Type 0} (e : K × X) (es : List (K × X)) → Among e es → Among e.0 (keys_of es)
+pub key-among : {K X : Type 0} (e : K × X) (es : List (K × X)) → Among e es → Among e.0 (keys_of es)
 unfolding Among
 key-among e [] is = absurd is
 key-among e (x ∷ xs) (inl same) = inl (ap (λ z. z.0) same)

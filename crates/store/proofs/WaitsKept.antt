@@ -4,21 +4,21 @@ use Rattle.std.specs.Prelude.{◌==◌, ◌&&◌, Result, Ok, Err, IfOk, OnOk, O
 use Rattle.std.specs.List.{list_any}
 use Rattle.std.specs.Ordering.{on, eq_by_cmp, is_eq, nat_cmp, ordering_then}
 use Rattle.std.specs.Map.{lookup}
-use Rattle.std.specs.BTreeMap.{BTreeMap, is_at}
+use Rattle.std.specs.BTreeMap.{is_at}
 use Rattle.std.proofs.lemmas.Bool.Decides.{nat_tests}
 use Rattle.std.specs.FinMap.{FinMap, get, empty, get-empty, from_entries, same_map}
-use Rattle.numbers.specs.Subjects.{Subject}
+use Rattle.numbers.specs.Subjects.{Subject, subject_key}
 use Rattle.model.specs.Content.{WaitKey, wait_cmp}
 use Rattle.store.specs.Maps.{set, seen_entries}
-use Rattle.store.specs.WaitRows.{Download, download_cmp, download_of, row_key_of, row_in, Waiting, waiting_of, rows_of, about_of, waits_of, awaited, subject_download_of, subject_download_cmp, IsFirst, IsAdded, IsWithout}
+use Rattle.store.specs.WaitRows.{Download, download_cmp, download_of, row_key_of, row_in, Waiting, waiting_of, rows_of, waits_of, awaited, IsFirst, IsAdded, IsWithout}
 use Rattle.store.specs.declared.keys.RowKey.{RowKey as RowKeyImpl}
-use Rattle.store.specs.declared.keys.SubjectDownload.{SubjectDownload as SubjectDownloadImpl}
+use Rattle.store.specs.declared.about.Broadcasts.{Broadcasts}
+use Rattle.store.specs.About.{about_of, broadcasts_of, has_at}
 use Rattle.store.specs.declared.waiting.Waiting.{Waiting as WaitingImpl}
 use Rattle.store.proofs.Maps.{get-seen, set_seen, get-set, set-gone}
-use Rattle.store.proofs.Orders.{no_key}
 use Rattle.model.proofs.KeyOrders.{wait_total, wait_exact}
 use Rattle.store.proofs.RowsFlat.{download_total, download_exact, get-waits_of}
-use Rattle.numbers.proofs.Small.{tied}
+use Rattle.numbers.proofs.Small.{impossible, tied}
 use Rattle.store.proofs.RowsChanged.{IsRow, Agrees, row-changed}
 
 -- ---- no rows
@@ -30,11 +30,12 @@ no_row rows none d w at =
     ∙ at in
     cc
 
-pub none-agree : (rows : List (RowKeyImpl × WaitingImpl)) (about : BTreeMap SubjectDownloadImpl
-    (Unit {0})) → rows ≡ [] → about.entries ≡ [] → Agrees (rows_of rows) (about_of about)
+pub none-agree : (rows : List (RowKeyImpl × WaitingImpl)) (about : List (ℕ × Broadcasts))
+    → rows ≡ [] → about ≡ [] → Agrees (rows_of rows) (about_of about)
 none-agree rows about none empty_index = (
   λ d w at. absurd (no_row rows none d w at),
-  λ k stands. absurd (no_key subject_download_cmp subject_download_of about empty_index k stands),
+  λ s d has. impossible (sym has
+      ∙ ap (λ es. has_at (broadcasts_of es (subject_key s)) d) empty_index),
 )
 
 pub none-wait : (rows : List (RowKeyImpl × WaitingImpl)) → rows ≡ []

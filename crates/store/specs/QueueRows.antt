@@ -1,5 +1,5 @@
 -- The order of pending downloads, and the carriers' cursors in it.
-use Rattle.std.specs.Prelude.{◌≡◌, ◌==◌, ◌⊎◌, ℕ, true, List, [], ◌∷◌, Option, Some, None, IfSome, cond, is_some, option_map}
+use Rattle.std.specs.Prelude.{◌≡◌, ◌==◌, ℕ, true, List, [], ◌∷◌, Option, Some, None, IfSome, cond, is_some, option_map}
 use Rattle.std.specs.Ordering.{on, nat_cmp, is_le, eq_by_cmp}
 use Rattle.std.specs.Map.{lookup}
 use Rattle.std.specs.BTreeMap as tree
@@ -15,7 +15,7 @@ use Rattle.delivery.specs.declared.download.DownloadKey.{DownloadKey as Download
 use Rattle.settle.specs.Abstraction.{broadcast_key_of}
 use Rattle.settle.specs.declared.rows.BroadcastKey.{BroadcastKey as BroadcastKeyImpl}
 use Rattle.store.specs.Maps.{map_of, set}
-use Rattle.store.specs.WaitRows.{Download, download_cmp, download_of, wait_for, Waiting, SubjectDownload, subject_download_cmp, key_about}
+use Rattle.store.specs.WaitRows.{Download, download_cmp, download_of, wait_for, Waiting}
 
 -- The key of a broadcast in queue order.
 abbrev pub queue_key_of : DownloadKeyImpl → Download
@@ -28,38 +28,13 @@ order_of m = map_of queue_key_of (λ u. u) m
 abbrev pub HasKeysOf : FinMap download_cmp Waiting → FinMap download_cmp (Unit {0}) → Type 0
 HasKeysOf rows order = (d : Download) → is_some (get order d) ≡ is_some (get rows d)
 
--- ---- the indexes of broadcasts
-
-abbrev pub Index : Type 0
-Index = FinMap subject_download_cmp (Unit {0})
-
 abbrev pub Order : Type 0
 Order = FinMap download_cmp (Unit {0})
-
--- Holds if only one key of the index changes, to `v`.
-abbrev pub IsKey : Index → Index → SubjectDownload → Option (Unit {0}) → Type 0
-IsKey old new k v = (q : SubjectDownload) → get new q ≡ cond (eq_by_cmp subject_download_cmp k q) v
-    (get old q)
 
 -- Holds if only one key of the order changes, to `v`.
 abbrev pub IsOrderKey : Order → Order → Download → Option (Unit {0}) → Type 0
 IsOrderKey old new d v = (q : Download) → get new q ≡ cond (eq_by_cmp download_cmp d q) v
     (get old q)
-
--- Holds if the broadcast is added to both indexes.
-abbrev pub AreKeysAdded : Subject → Download → Index → Index → Order → Order → Type 0
-AreKeysAdded s d about about' order order' =
-    IsKey about about' (key_about s d) (Some tt) × IsOrderKey order order' d (Some tt)
-
--- Holds if the broadcast is deleted from both indexes.
-abbrev pub AreKeysRemoved : Subject → Download → Index → Index → Order → Order → Type 0
-AreKeysRemoved s d about about' order order' =
-    IsKey about about' (key_about s d) None × IsOrderKey order order' d None
-
--- Holds if the indexes stay, except that the broadcast may be deleted from the order.
-abbrev pub AreKeysKept : Download → Index → Index → Order → Order → Type 0
-AreKeysKept d about about' order order' =
-    (about' ≡ about) × ((order' ≡ order) ⊎ IsOrderKey order order' d None)
 
 -- ---- cursors
 

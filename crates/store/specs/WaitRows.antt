@@ -1,26 +1,24 @@
 -- The carriers for which each broadcast is pending, one row a broadcast, and the downloads that the
 -- rows mean.
-use Rattle.std.specs.Prelude.{◌≡◌, ℕ, Bool, true, List, [], ◌∷◌, ◌++◌, map, Option, Some, None, ◌==◌, cond, is_some, option_map, ◌⊎◌, ◌<◌, ◌&&◌, if◌then◌else◌, refl}
+use Rattle.std.specs.Prelude.{◌≡◌, ℕ, Bool, true, List, [], ◌∷◌, ◌++◌, map, Option, Some, None, ◌==◌, cond, option_map, ◌⊎◌, refl}
 use Rattle.std.specs.List.{list_any}
 use Rattle.std.specs.declared.cmp.Ordering.{Ordering}
 use Rattle.std.specs.Ordering.{nat_cmp, ordering_then, on}
 use Rattle.std.specs.Map.{lookup}
-use Rattle.std.specs.BTreeMap.{BTreeMap, is_at}
+use Rattle.std.specs.BTreeMap.{is_at}
 use Rattle.std.specs.FinMap.{FinMap, from_entries, entries, get, code}
 use mathlib.Core.Logic.{inl, inr}
 use Rattle.std.specs.Coded.{Coded, code_by, coded×, coded⊎, coded_ℕ}
-use Rattle.numbers.specs.Subjects.{Subject, Number, Block, subject_key}
-use Rattle.numbers.specs.Abstraction.{subject_of, key_of}
+use Rattle.numbers.specs.Subjects.{Subject, Number, Block}
+use Rattle.numbers.specs.Abstraction.{subject_of}
 use Rattle.numbers.specs.declared.ported.Subject.{Subject as SubjectImpl}
 use Rattle.numbers.specs.declared.spid.Spid.{Spid}
 use Rattle.model.specs.Content.{WaitKey, wait_cmp, wait_key}
 use Rattle.delivery.specs.declared.download.DownloadKey.{DownloadKey as DownloadKeyImpl}
 use Rattle.settle.specs.Abstraction.{spid_of}
 use Rattle.store.specs.Lists.{is_subject}
-use Rattle.store.specs.Maps.{map_of, seen_entries}
-use Rattle.store.specs.Ranks.{subject_at, rank_key}
+use Rattle.store.specs.Maps.{seen_entries}
 use Rattle.store.specs.declared.keys.RowKey.{RowKey as RowKeyImpl}
-use Rattle.store.specs.declared.keys.SubjectDownload.{SubjectDownload as SubjectDownloadImpl}
 use Rattle.store.specs.declared.waiting.Waiting.{Waiting as WaitingImpl}
 
 -- A download without its carrier.
@@ -77,52 +75,18 @@ row_in es k = lookup (is_at (on row_key_of download_cmp k)) es
 
 -- ---- the index by subjects
 
--- A broadcast by its subject.
-pub record SubjectDownload : Type 0 where
-  pub subject : Subject
-  pub minute : ℕ
-  pub id : ℕ
-  pub attempt : ℕ
-
-abbrev pub subject_download_cmp : SubjectDownload → SubjectDownload → Ordering
-subject_download_cmp a b =
-    ordering_then (nat_cmp (subject_key a.subject) (subject_key b.subject))
-    (ordering_then (nat_cmp a.minute b.minute) (ordering_then (nat_cmp a.id b.id)
-    (nat_cmp a.attempt b.attempt)))
-
-abbrev pub subject_download_of : SubjectDownloadImpl → SubjectDownload
-subject_download_of k = record {
-  subject = subject_at k.rank;
-  minute = k.minute.number;
-  id = k.id;
-  attempt = k.attempt;
-}
-
-abbrev pub about_of : BTreeMap SubjectDownloadImpl (Unit {0})
-    → FinMap subject_download_cmp (Unit {0})
-about_of m = map_of subject_download_of (λ u. u) m
-
-abbrev pub key_about : Subject → Download → SubjectDownload
-key_about s d = record { subject = s; minute = d.minute; id = d.id; attempt = d.attempt }
-
-abbrev pub download_about : SubjectDownload → Download
-download_about k = record { minute = k.minute; id = k.id; attempt = k.attempt }
-
--- Holds if the numbers of the key are in the range of the code.
-abbrev pub IsDownload : Download → Type 0
-IsDownload d = (d.minute < 1099511627776) × (d.id < 18446744073709551616)
-    × (d.attempt < 18446744073709551616)
+-- Whether the index has a broadcast under a subject.
+abbrev pub Index : Type 0
+Index = Subject → Download → Bool
 
 -- Holds if each broadcast's row is in the index under its subject.
-abbrev pub AreAbout : FinMap download_cmp Waiting → FinMap subject_download_cmp (Unit {0}) → Type 0
-AreAbout rows about = (d : Download) (w : Waiting) → get rows d ≡ Some w → IsDownload d
-    × (is_some (get about (key_about w.0 d)) ≡ true)
+abbrev pub AreAbout : FinMap download_cmp Waiting → Index → Type 0
+AreAbout rows about = (d : Download) (w : Waiting) → get rows d ≡ Some w → about w.0 d ≡ true
 
 -- Holds if a row needs each key of the index.
-abbrev pub AboutIsNeeded : FinMap download_cmp Waiting → FinMap subject_download_cmp (Unit {0})
-    → Type 0
-AboutIsNeeded rows about = (k : SubjectDownload) → is_some (get about k) ≡ true
-    → option_map (λ (w : Waiting). w.0) (get rows (download_about k)) ≡ Some k.subject
+abbrev pub AboutIsNeeded : FinMap download_cmp Waiting → Index → Type 0
+AboutIsNeeded rows about = (s : Subject) (d : Download) → about s d ≡ true
+    → option_map (λ (w : Waiting). w.0) (get rows d) ≡ Some s
 
 -- ---- one row changed
 
@@ -169,10 +133,7 @@ coded_subject = code_by (ℕ ⊎ ℕ) (coded⊎ coded_ℕ coded_ℕ) subject_cas
 abbrev pub coded_waits : Coded (FinMap wait_cmp Subject)
 coded_waits = code coded_wait_key coded_subject
 
--- ---- look-ups through the index
-
-abbrev pub download_in : SubjectDownloadImpl → DownloadKeyImpl
-download_in k = record { minute = k.minute; id = k.id; attempt = k.attempt }
+-- ---- look-ups of rows
 
 -- The key of the broadcast's row. `is_for` is whether the broadcast is of the subject and pending
 -- for the carrier.
@@ -183,10 +144,3 @@ abbrev pub is_for : List (RowKeyImpl × WaitingImpl) → DownloadKeyImpl → Spi
 is_for rows b carrier subject =
     is_subject (subject_of subject) (awaited (option_map waiting_of (row_in rows (row_key_in b)))
     carrier.number)
-
--- The broadcast of a key, if it is of the subject and pending for the carrier.
-abbrev pub listed_about : List (RowKeyImpl × WaitingImpl) → Spid → SubjectImpl → SubjectDownloadImpl
-    → Option DownloadKeyImpl
-listed_about rows carrier subject k =
-    if (rank_key k.rank == key_of subject) && is_for rows (download_in k) carrier subject
-    then Some (download_in k) else None

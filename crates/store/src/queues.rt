@@ -13,7 +13,8 @@ ghost use Rattle.settle.specs.Abstraction.{broadcast_row_of, broadcast_key_of, s
 ghost use Rattle.store.specs.Maps.{map_of, set};
 ghost use Rattle.store.specs.QueueRows.{queue_key_of, AreCursors, IsCursor};
 
-use crate::waits::{Waits, queue_key};
+use crate::keys::queue_key;
+use crate::waits::Waits;
 use delivery::{Broadcast, Download, DownloadKey};
 use numbers::{Minute, Spid, Subject};
 use settle::{BroadcastKey, Few, WaitKey};

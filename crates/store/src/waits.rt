@@ -11,13 +11,15 @@ ghost use Rattle.settle.specs.Lists.{items_of};
 ghost use Rattle.settle.specs.Reads.{AreWaitingSubjects, AreFirst, AreWaitsAbout};
 ghost use Rattle.settle.specs.Abstraction.{broadcast_row_of, broadcast_key_of, spid_of, wait_key_of};
 ghost use Rattle.store.specs.Maps.{map_of, set};
-ghost use Rattle.store.specs.QueueRows.{queue_key_of, order_of, download_at, pending_at, IsCursor, AreKeysAdded, AreKeysKept, AreKeysRemoved};
-ghost use Rattle.store.specs.WaitRows.{row_key_of, about_of, download_of, wait_for, subject_download_of, key_about, is_for};
+ghost use Rattle.store.specs.QueueRows.{queue_key_of, order_of, download_at, pending_at, IsCursor};
+ghost use Rattle.store.specs.About.{about_of, AreKeysAdded, AreKeysKept, AreKeysRemoved};
+ghost use Rattle.store.specs.WaitRows.{row_key_of, download_of, wait_for};
 
-use crate::keys::{Rank, RowKey, SubjectDownload};
+use crate::about::{Broadcasts, add_broadcast, pending_among, rank_of, remove_broadcast};
+use crate::keys::{RowKey, queue_key};
 use crate::waiting::Waiting;
 use delivery::{Broadcast, Download, DownloadKey};
-use numbers::{Minute, Spid, Subject};
+use numbers::{Spid, Subject};
 use settle::{BroadcastKey, Few, WaitKey};
 use std::alloc::{AllocError, Global};
 use std::collections::{BTreeMap, HashMap};
@@ -32,7 +34,7 @@ use std::marker::Model;
 pub struct Waits {
     alloc: Global,
     rows: HashMap<RowKey, Waiting>,
-    about: BTreeMap<SubjectDownload, ()>,
+    about: HashMap<u64, Broadcasts>,
     order: BTreeMap<DownloadKey, ()>,
 }
 
@@ -41,7 +43,8 @@ impl Model for Waits {
     ghost use Rattle.numbers.specs.Subjects.{Subject};
     ghost use Rattle.model.specs.Content.{wait_cmp};
     ghost use Rattle.store.specs.WaitRows.{AreAbout, AboutIsNeeded, waits_of, rows_of};
-    ghost use Rattle.store.specs.WaitRows.{about_of, coded_waits};
+    ghost use Rattle.store.specs.WaitRows.{coded_waits};
+    ghost use Rattle.store.specs.About.{about_of};
     ghost use Rattle.store.specs.QueueRows.{HasKeysOf, order_of};
 
     ghost Value = { FinMap wait_cmp Subject };
@@ -50,8 +53,8 @@ impl Model for Waits {
 
     ghost view = { λ w. waits_of (rows_of w.rows.entries) };
 
-    ghost invariant = { λ w. (AreAbout (rows_of w.rows.entries) (about_of w.about)
-        × AboutIsNeeded (rows_of w.rows.entries) (about_of w.about))
+    ghost invariant = { λ w. (AreAbout (rows_of w.rows.entries) (about_of w.about.entries)
+        × AboutIsNeeded (rows_of w.rows.entries) (about_of w.about.entries))
         × HasKeysOf (rows_of w.rows.entries) (order_of w.order) };
 }
 
@@ -61,17 +64,6 @@ fn broadcast_of(key: WaitKey) -> RowKey
 {
     RowKey {
         minute: key.minute.number,
-        id: key.id,
-        attempt: key.attempt,
-    }
-}
-
-/// Returns the key of the download's broadcast in queue order.
-pub fn queue_key(key: WaitKey) -> DownloadKey
-    ensures { queue_key_of result ≡ download_of (wait_key_of key) }
-{
-    DownloadKey {
-        minute: key.minute,
         id: key.id,
         attempt: key.attempt,
     }
@@ -89,56 +81,25 @@ fn wait_key(key: DownloadKey, carrier: Spid) -> WaitKey
     }
 }
 
-// Returns the key of the download's broadcast in the index by subjects.
-fn broadcast_about(subject: Subject, key: WaitKey) -> SubjectDownload
-    ensures { subject_download_of result
-        ≡ key_about (subject_of subject) (download_of (wait_key_of key)) }
-{
-    SubjectDownload {
-        rank: Rank::of(subject),
-        minute: key.minute,
-        id: key.id,
-        attempt: key.attempt,
-    }
-}
-
-// Returns whether the broadcast is of this subject and pending for the carrier.
-fn is_for(
-    rows: &HashMap<RowKey, Waiting>,
-    broadcast: DownloadKey,
-    carrier: Spid,
-    subject: Subject,
-) -> bool
-    ensures { result ≡ is_for rows.now.entries broadcast carrier subject }
-{
-    let key = RowKey {
-        minute: broadcast.minute.number,
-        id: broadcast.id,
-        attempt: broadcast.attempt,
-    };
-    match rows.get(&key) {
-        None => false,
-        Some(row) => row.subject_for(carrier) == Some(subject),
-    }
-}
-
 // Adds the download's broadcast to both indexes, or to none if an allocation fails.
 fn add_keys(
-    about: &mut BTreeMap<SubjectDownload, ()>,
+    about: &mut HashMap<u64, Broadcasts>,
     order: &mut BTreeMap<DownloadKey, ()>,
+    alloc: Global,
     subject: Subject,
     key: WaitKey,
 ) -> Result<(), AllocError>
     ensures ok { OnOk result
-        (AreKeysAdded (subject_of subject) (download_of (wait_key_of key)) (about_of about.old)
-        (about_of about.new) (order_of order.old) (order_of order.new)) }
+        (AreKeysAdded (subject_of subject) (download_of (wait_key_of key))
+        (about_of about.old.entries) (about_of about.new.entries) (order_of order.old)
+        (order_of order.new)) }
     ensures err { OnErr result
-        (AreKeysKept (download_of (wait_key_of key)) (about_of about.old)
-        (about_of about.new) (order_of order.old) (order_of order.new)) }
+        (AreKeysKept (download_of (wait_key_of key)) (about_of about.old.entries)
+        (about_of about.new.entries) (order_of order.old) (order_of order.new)) }
 {
     let own = queue_key(key);
     let _ = order.insert(own, ())?;
-    match about.insert(broadcast_about(subject, key), ()) {
+    match add_broadcast(about, alloc, subject, own) {
         Ok(_) => Ok(()),
         Err(_) => {
             let _ = order.remove(&own);
@@ -149,15 +110,16 @@ fn add_keys(
 
 // Deletes the download's broadcast from both indexes.
 fn remove_keys(
-    about: &mut BTreeMap<SubjectDownload, ()>,
+    about: &mut HashMap<u64, Broadcasts>,
     order: &mut BTreeMap<DownloadKey, ()>,
     subject: Subject,
     key: WaitKey,
 )
-    ensures { AreKeysRemoved (subject_of subject) (download_of (wait_key_of key)) (about_of about.old)
-        (about_of about.new) (order_of order.old) (order_of order.new) }
+    ensures { AreKeysRemoved (subject_of subject) (download_of (wait_key_of key))
+        (about_of about.old.entries) (about_of about.new.entries) (order_of order.old)
+        (order_of order.new) }
 {
-    let _ = about.remove(&broadcast_about(subject, key));
+    remove_broadcast(about, subject, queue_key(key));
     let _ = order.remove(&queue_key(key));
 }
 
@@ -199,7 +161,7 @@ impl Waits {
         Waits {
             alloc,
             rows: HashMap::new(alloc),
-            about: BTreeMap::new(alloc),
+            about: HashMap::new(alloc),
             order: BTreeMap::new(alloc),
         }
     }
@@ -239,7 +201,7 @@ impl Waits {
             return row.add(key.carrier, subject);
         }
         let row = Waiting::of(self.alloc, key.carrier, subject)?;
-        add_keys(&mut self.about, &mut self.order, subject, key)?;
+        add_keys(&mut self.about, &mut self.order, self.alloc, subject, key)?;
         match self.rows.insert(broadcast, row) {
             Ok(_) => Ok(None),
             Err(_) => {
@@ -279,33 +241,10 @@ impl Waits {
             AreWaitsAbout (record empty_content { waits = self.now }) (spid_of carrier)
             (subject_of subject) (items_of downloads)) }
     {
-        let rank = Rank::of(subject);
-        let first = SubjectDownload {
-            rank,
-            minute: Minute::ZERO,
-            id: 0,
-            attempt: 0,
-        };
-        let last = SubjectDownload {
-            rank,
-            minute: Minute {
-                number: Minute::LIMIT - 1,
-            },
-            id: u64::MAX,
-            attempt: u64::MAX,
-        };
-        let mut found = Few::Empty;
-        for (key, _) in self.about.range(first..=last) {
-            let broadcast = DownloadKey {
-                minute: key.minute,
-                id: key.id,
-                attempt: key.attempt,
-            };
-            if key.rank == rank && is_for(&self.rows, broadcast, carrier, subject) {
-                found.push(alloc, broadcast)?;
-            }
+        match self.about.get(&rank_of(subject)) {
+            None => Ok(Few::Empty),
+            Some(broadcasts) => pending_among(alloc, &self.rows, broadcasts, carrier, subject),
         }
-        Ok(found)
     }
 
     /// Returns the key of the first broadcast from `start` on that is pending for the carrier. If

@@ -4,7 +4,7 @@ use Rattle.store.proofs.waits.Waits.new.Goals as goal
 
 pub invariant_of-result : goal.invariant_of-result
 invariant_of-result c = (
-  none-agree c.new.result.entries c.new-2.result c.new.ensures.empty c.new-2.ensures.empty,
+  none-agree c.new.result.entries c.new-2.result.entries c.new.ensures.empty c.new-2.ensures.empty,
   no-keys c.new.result.entries c.new-3.result c.new.ensures.empty c.new-3.ensures.empty,
 )
 

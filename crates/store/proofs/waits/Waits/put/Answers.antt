@@ -1,15 +1,16 @@
-use Rattle.std.proofs.Common.{rules, ◌≡◌, Some, None, inr, refl, ap, sym, ◌∙◌, subst}
+use Rattle.std.proofs.Common.{rules, ◌≡◌, true, Some, None, inr, refl, ap, sym, ◌∙◌, subst}
 use Rattle.std.specs.FinMap.{FinMap, get}
 use Rattle.numbers.specs.Subjects.{Subject}
 use Rattle.numbers.specs.Abstraction.{subject_of}
 use Rattle.model.specs.Content.{wait_cmp}
 use Rattle.settle.specs.Abstraction.{wait_key_of}
 use Rattle.store.specs.Maps.{set}
-use Rattle.store.specs.QueueRows.{IsKey, HasKeysOf, order_of}
-use Rattle.store.specs.WaitRows.{download_of, waiting_of, rows_of, about_of, key_about, IsDownload}
+use Rattle.store.specs.About.{IsKey, about_of}
+use Rattle.store.specs.QueueRows.{HasKeysOf, order_of}
+use Rattle.store.specs.WaitRows.{download_of, waiting_of, rows_of}
 use Rattle.store.proofs.Maps.{set-gone}
 use Rattle.store.proofs.QueueOrder.{keys-stay, keys-changed, keys-kept}
-use Rattle.store.proofs.RowsChanged.{Agrees, agrees-kept, agrees-new, agrees-back, row-same}
+use Rattle.store.proofs.RowsChanged.{Agrees, agrees-same, agrees-kept, agrees-new, agrees-back, row-same}
 use Rattle.store.proofs.WaitsKept.{IsPut, row-at, wait-at, row-written, if-ok-then, on-ok-from, subject-stays, added-waits, first-waits}
 use Rattle.store.proofs.Steps.{err-then}
 use Rattle.store.proofs.waits.Waits.put.Goals as goal
@@ -26,7 +27,8 @@ invariant_of-self c =
     (wait_key_of c.args.key) (Some c.in-Some.row.now) c.broadcast_of-broadcast.ensures
     (search rules) in (
       agrees-kept (rows_of c.self.inside.rows.entries)
-          (rows_of (c.get_mut.follows.lender c.add.new.self).entries) (about_of c.self.inside.about)
+          (rows_of (c.get_mut.follows.lender c.add.new.self).entries)
+          (about_of c.self.inside.about.entries)
           (download_of (wait_key_of c.args.key)) (waiting_of c.in-Some.row.now)
           (waiting_of c.add.new.self) row there
           (subject-stays c.add.result c.args.key.carrier.number (subject_of c.args.subject)
@@ -83,23 +85,19 @@ returns-in-Some-clause-err c =
 
 pub invariant_of-self-in-Ok : goal.invariant_of-self-in-Ok
 invariant_of-self-in-Ok c =
-    let small : IsDownload (download_of (wait_key_of c.args.key)) = search rules in
     let row = row-written c.self.inside.rows.entries c.insert.new.self.entries
     c.broadcast_of-broadcast.result (wait_key_of c.args.key) (Some c.in_ok-row.row)
     c.broadcast_of-broadcast.ensures
     (subst (λ m. IsPut m.entries c.insert.new.self.entries c.broadcast_of-broadcast.result
-    (Some c.in_ok-row.row)) c.get_mut.follows.holds-at-none c.in-Ok.ensures.updates.0) in
-    let own : IsKey (about_of c.self.inside.about) (about_of c.add_keys.new.about)
-    (key_about (waiting_of c.in_ok-row.row).0 (download_of (wait_key_of c.args.key))) (Some tt) =
-    subst (λ s. IsKey (about_of c.self.inside.about) (about_of c.add_keys.new.about)
-    (key_about s (download_of (wait_key_of c.args.key))) (Some tt)) (sym c.in_ok-row.ensures.same)
-    c.in_ok-add_keys.ensures.ok.0 in (
-      agrees-new (rows_of c.self.inside.rows.entries) (rows_of c.insert.new.self.entries)
-          (about_of c.self.inside.about) (about_of c.add_keys.new.about)
-          (download_of (wait_key_of c.args.key)) (waiting_of c.in_ok-row.row) row
+    (Some c.in_ok-row.row)) c.get_mut.follows.holds-at-none c.in-Ok.ensures.updates.0) in (
+      agrees-new (rows_of c.self.inside.rows.entries) (about_of c.self.inside.about.entries)
+          (about_of c.add_keys.new.about.entries) (download_of (wait_key_of c.args.key))
+          c.self.invariant.0 (rows_of c.insert.new.self.entries) (waiting_of c.in_ok-row.row) row
           (row-at c.self.inside.rows.entries c.broadcast_of-broadcast.result
-          (wait_key_of c.args.key) None c.broadcast_of-broadcast.ensures (search rules)) small own
-          c.self.invariant.0,
+          (wait_key_of c.args.key) None c.broadcast_of-broadcast.ensures (search rules))
+          (subst (λ s. IsKey (about_of c.self.inside.about.entries)
+          (about_of c.add_keys.new.about.entries) s (download_of (wait_key_of c.args.key)) true)
+          (sym c.in_ok-row.ensures.same) c.in_ok-add_keys.ensures.ok.0),
       keys-changed (rows_of c.self.inside.rows.entries) (order_of c.self.inside.order)
           c.self.invariant.1 (download_of (wait_key_of c.args.key))
           (rows_of c.insert.new.self.entries) (order_of c.add_keys.new.order)
@@ -131,10 +129,10 @@ invariant_of-self-in-Err c =
     let same : c.insert.new.self.entries ≡ c.self.inside.rows.entries = search rules in
     let none = row-at c.self.inside.rows.entries c.broadcast_of-broadcast.result
     (wait_key_of c.args.key) None c.broadcast_of-broadcast.ensures (search rules) in
-    subst (λ es. Agrees (rows_of es) (about_of c.remove_keys.new.about)
+    subst (λ es. Agrees (rows_of es) (about_of c.remove_keys.new.about.entries)
     × HasKeysOf (rows_of es) (order_of c.remove_keys.new.order)) (sym same) (
-      agrees-back (rows_of c.self.inside.rows.entries) (about_of c.self.inside.about)
-          (about_of c.add_keys.new.about) (about_of c.remove_keys.new.about)
+      agrees-back (rows_of c.self.inside.rows.entries) (about_of c.self.inside.about.entries)
+          (about_of c.add_keys.new.about.entries) (about_of c.remove_keys.new.about.entries)
           (download_of (wait_key_of c.args.key)) (subject_of c.args.subject) none
           c.in_ok-add_keys.ensures.ok.0 c.remove_keys.ensures.0 c.self.invariant.0,
       keys-kept (rows_of c.self.inside.rows.entries) (order_of c.self.inside.order)
@@ -149,7 +147,7 @@ invariant_of-self-in-Err c =
 
 pub invariant_of-self-in_err-row : goal.invariant_of-self-in_err-row
 invariant_of-self-in_err-row c =
-    subst (λ m. Agrees (rows_of m.entries) (about_of c.self.inside.about)
+    subst (λ m. Agrees (rows_of m.entries) (about_of c.self.inside.about.entries)
     × HasKeysOf (rows_of m.entries) (order_of c.self.inside.order))
     (sym c.get_mut.follows.holds-at-none) c.self.invariant
 
@@ -157,10 +155,11 @@ pub invariant_of-self-in_err-add_keys : goal.invariant_of-self-in_err-add_keys
 invariant_of-self-in_err-add_keys c =
     let none = row-at c.self.inside.rows.entries c.broadcast_of-broadcast.result
     (wait_key_of c.args.key) None c.broadcast_of-broadcast.ensures (search rules) in
-    subst (λ m. Agrees (rows_of m.entries) (about_of c.add_keys.new.about)
+    subst (λ m. Agrees (rows_of m.entries) (about_of c.add_keys.new.about.entries)
     × HasKeysOf (rows_of m.entries) (order_of c.add_keys.new.order))
     (sym c.get_mut.follows.holds-at-none) (
-      subst (Agrees (rows_of c.self.inside.rows.entries)) (sym c.in_err-add_keys.ensures.err.0)
+      agrees-same (rows_of c.self.inside.rows.entries) (about_of c.self.inside.about.entries)
+          (about_of c.add_keys.new.about.entries) c.in_err-add_keys.ensures.err.0
           c.self.invariant.0,
       keys-kept (rows_of c.self.inside.rows.entries) (order_of c.self.inside.order)
           c.self.invariant.1 (download_of (wait_key_of c.args.key)) (order_of c.add_keys.new.order)

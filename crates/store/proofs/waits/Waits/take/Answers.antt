@@ -1,11 +1,12 @@
-use Rattle.std.proofs.Common.{rules, ◌≡◌, Some, None, refl, ap, sym, ◌∙◌, subst, [], map}
+use Rattle.std.proofs.Common.{rules, ◌≡◌, false, Some, None, refl, ap, sym, ◌∙◌, subst, [], map}
 use Rattle.std.specs.FinMap.{FinMap, get}
 use Rattle.numbers.specs.Subjects.{Subject}
 use Rattle.model.specs.Content.{wait_cmp}
 use Rattle.settle.specs.Abstraction.{spid_of, wait_key_of}
 use Rattle.store.specs.Maps.{set}
-use Rattle.store.specs.QueueRows.{IsKey, HasKeysOf, order_of}
-use Rattle.store.specs.WaitRows.{download_of, waiting_of, rows_of, about_of, key_about, waits_of}
+use Rattle.store.specs.About.{IsKey, about_of}
+use Rattle.store.specs.QueueRows.{HasKeysOf, order_of}
+use Rattle.store.specs.WaitRows.{download_of, waiting_of, rows_of, waits_of}
 use Rattle.store.proofs.QueueOrder.{keys-stay, keys-changed}
 use Rattle.store.proofs.RowsChanged.{Agrees, agrees-kept, agrees-gone}
 use Rattle.store.proofs.WaitsKept.{row-at, wait-at, row-written, row-taken, without-waits, gone-waits, not-there}
@@ -33,18 +34,16 @@ invariant_of-self-then-is_empty c =
     let gone = row-taken c.self.inside.rows.entries
     (c.get_mut.follows.lender c.take.new.self).entries c.remove.new.self.entries
     c.broadcast_of-broadcast.result (wait_key_of c.args.key) c.take.new.self
-    c.broadcast_of-broadcast.ensures (search rules) c.remove.ensures.updates.0 in
-    let own : IsKey (about_of c.self.inside.about) (about_of c.remove_keys.new.about)
-    (key_about (waiting_of c.in-Some.row.now).0 (download_of (wait_key_of c.args.key))) None =
-    subst (λ s. IsKey (about_of c.self.inside.about) (about_of c.remove_keys.new.about)
-    (key_about s (download_of (wait_key_of c.args.key))) None) c.take.ensures.same
-    c.remove_keys.ensures.0 in (
-      agrees-gone (rows_of c.self.inside.rows.entries) (rows_of c.remove.new.self.entries)
-          (about_of c.self.inside.about) (about_of c.remove_keys.new.about)
-          (download_of (wait_key_of c.args.key)) (waiting_of c.in-Some.row.now) gone
+    c.broadcast_of-broadcast.ensures (search rules) c.remove.ensures.updates.0 in (
+      agrees-gone (rows_of c.self.inside.rows.entries) (about_of c.self.inside.about.entries)
+          (about_of c.remove_keys.new.about.entries) (download_of (wait_key_of c.args.key))
+          c.self.invariant.0 (rows_of c.remove.new.self.entries) (waiting_of c.in-Some.row.now) gone
           (row-at c.self.inside.rows.entries c.broadcast_of-broadcast.result
           (wait_key_of c.args.key) (Some c.in-Some.row.now) c.broadcast_of-broadcast.ensures
-          (search rules)) own c.self.invariant.0,
+          (search rules))
+          (subst (λ s. IsKey (about_of c.self.inside.about.entries)
+          (about_of c.remove_keys.new.about.entries) s (download_of (wait_key_of c.args.key)) false)
+          c.take.ensures.same c.remove_keys.ensures.0),
       keys-changed (rows_of c.self.inside.rows.entries) (order_of c.self.inside.order)
           c.self.invariant.1 (download_of (wait_key_of c.args.key))
           (rows_of c.remove.new.self.entries) (order_of c.remove_keys.new.order) None None gone
@@ -87,7 +86,7 @@ invariant_of-self-else-is_empty c =
     (search rules) in (
       agrees-kept (rows_of c.self.inside.rows.entries)
           (rows_of (c.get_mut.follows.lender c.take.new.self).entries)
-          (about_of c.self.inside.about) (download_of (wait_key_of c.args.key))
+          (about_of c.self.inside.about.entries) (download_of (wait_key_of c.args.key))
           (waiting_of c.in-Some.row.now) (waiting_of c.take.new.self) row there
           c.take.ensures.same c.self.invariant.0,
       keys-stay (rows_of c.self.inside.rows.entries) (order_of c.self.inside.order)
@@ -121,6 +120,6 @@ returns-else-is_empty-clause-taken c =
 
 pub invariant_of-self : goal.invariant_of-self
 invariant_of-self c =
-    subst (λ m. Agrees (rows_of m.entries) (about_of c.self.inside.about)
+    subst (λ m. Agrees (rows_of m.entries) (about_of c.self.inside.about.entries)
     × HasKeysOf (rows_of m.entries) (order_of c.self.inside.order))
     (sym c.get_mut.follows.holds-at-none) c.self.invariant

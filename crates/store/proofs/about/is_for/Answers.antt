@@ -4,7 +4,7 @@ use Rattle.store.specs.Lists.{is_subject}
 use Rattle.store.specs.WaitRows.{row_in, row_key_in, waiting_of, awaited}
 use Rattle.store.proofs.AboutListed.{compared}
 use Rattle.store.proofs.WaitsKept.{hash-at}
-use Rattle.store.proofs.waits.is_for.Goals as goal
+use Rattle.store.proofs.about.is_for.Goals as goal
 
 pub returns-in-None : goal.returns-in-None
 returns-in-None c =

@@ -1,0 +1,161 @@
+//! The pending broadcasts of each subject.
+ghost use Rattle.std.specs.Prelude.{◌≡◌, true, false, IfOk, OnOk, OnErr, filter};
+ghost use Rattle.std.specs.List.Sorted.{IsStrictlySortedBy};
+ghost use Rattle.std.specs.Ordering.{on};
+ghost use Rattle.numbers.specs.Abstraction.{subject_of, key_of};
+ghost use Rattle.settle.specs.Lists.{items_of};
+ghost use Rattle.store.specs.QueueRows.{queue_key_of};
+ghost use Rattle.store.specs.WaitRows.{Download as BroadcastModel, download_cmp, is_for};
+ghost use Rattle.store.specs.About.{has, keys_in, about_of, IsKey, IsSameIndex, IsPresence};
+
+use crate::keys::{Rank, RowKey};
+use crate::waiting::Waiting;
+use delivery::DownloadKey;
+use numbers::{Spid, Subject};
+use settle::Few;
+use std::alloc::{AllocError, Global};
+use std::collections::{BTreeMap, HashMap};
+
+/// The pending broadcasts of one subject. Most subjects have one.
+#[derive(Drop)]
+pub enum Broadcasts {
+    One(DownloadKey),
+    More(BTreeMap<DownloadKey, ()>),
+}
+
+impl Broadcasts {
+    // Adds a broadcast. Changes nothing if an allocation fails.
+    fn add(&mut self, alloc: Global, key: DownloadKey) -> Result<(), AllocError>
+        ensures ok { OnOk result
+            (IsPresence (has self.old) (has self.new) (queue_key_of key) true) }
+        ensures err { OnErr result
+            ((q : BroadcastModel) → has self.new q ≡ has self.old q) }
+    {
+        match self {
+            Broadcasts::One(own) => {
+                if *own != key {
+                    let mut more = BTreeMap::new(alloc);
+                    let _ = more.insert(*own, ())?;
+                    let _ = more.insert(key, ())?;
+                    *self = Broadcasts::More(more);
+                }
+            }
+            Broadcasts::More(more) => {
+                let _ = more.insert(key, ())?;
+            }
+        }
+        Ok(())
+    }
+
+    // Deletes a broadcast if another one stays. Returns whether none stays.
+    fn remove(&mut self, key: DownloadKey) -> bool
+        ensures others { result ≡ false
+            → IsPresence (has self.old) (has self.new) (queue_key_of key) false }
+        ensures none { result ≡ true
+            → IsPresence (has self.old) (λ _. false) (queue_key_of key) false }
+    {
+        match self {
+            Broadcasts::One(own) => *own == key,
+            Broadcasts::More(more) => {
+                let _ = more.remove(&key);
+                more.is_empty()
+            }
+        }
+    }
+}
+
+/// Returns the subject's key in the index.
+pub fn rank_of(subject: Subject) -> u64
+    ensures { result ≡ key_of subject }
+{
+    Rank::of(subject).number
+}
+
+/// Adds a broadcast of the subject. Changes nothing if an allocation fails.
+pub fn add_broadcast(
+    about: &mut HashMap<u64, Broadcasts>,
+    alloc: Global,
+    subject: Subject,
+    key: DownloadKey,
+) -> Result<(), AllocError>
+    ensures ok { OnOk result (IsKey (about_of about.old.entries) (about_of about.new.entries)
+        (subject_of subject) (queue_key_of key) true) }
+    ensures err { OnErr result
+        (IsSameIndex (about_of about.old.entries) (about_of about.new.entries)) }
+{
+    let rank = rank_of(subject);
+    if let Some(broadcasts) = about.get_mut(&rank) {
+        return broadcasts.add(alloc, key);
+    }
+    match about.insert(rank, Broadcasts::One(key)) {
+        Ok(_) => Ok(()),
+        Err(_) => Err(AllocError),
+    }
+}
+
+/// Deletes a broadcast of the subject.
+pub fn remove_broadcast(about: &mut HashMap<u64, Broadcasts>, subject: Subject, key: DownloadKey)
+    ensures { IsKey (about_of about.old.entries) (about_of about.new.entries)
+        (subject_of subject) (queue_key_of key) false }
+{
+    let rank = rank_of(subject);
+    if let Some(broadcasts) = about.get_mut(&rank) {
+        if broadcasts.remove(key) {
+            let _ = about.remove(&rank);
+        }
+    }
+}
+
+// Returns whether the broadcast is of this subject and pending for the carrier.
+fn is_for(
+    rows: &HashMap<RowKey, Waiting>,
+    broadcast: DownloadKey,
+    carrier: Spid,
+    subject: Subject,
+) -> bool
+    ensures { result ≡ is_for rows.now.entries broadcast carrier subject }
+{
+    let key = RowKey {
+        minute: broadcast.minute.number,
+        id: broadcast.id,
+        attempt: broadcast.attempt,
+    };
+    match rows.get(&key) {
+        None => false,
+        Some(row) => row.subject_for(carrier) == Some(subject),
+    }
+}
+
+/// Returns those of the broadcasts that are of the subject and pending for the carrier, earliest
+/// first.
+pub fn pending_among(
+    alloc: Global,
+    rows: &HashMap<RowKey, Waiting>,
+    broadcasts: &Broadcasts,
+    carrier: Spid,
+    subject: Subject,
+) -> Result<Few<DownloadKey>, AllocError>
+    ensures { IfOk result (λ found.
+        (items_of found ≡ filter (λ k. is_for rows.now.entries k carrier subject)
+        (keys_in broadcasts.now))
+        × IsStrictlySortedBy (on queue_key_of download_cmp) (keys_in broadcasts.now)) }
+{
+    match broadcasts {
+        Broadcasts::One(key) => {
+            if is_for(rows, *key, carrier, subject) {
+                Ok(Few::One([*key]))
+            } else {
+                Ok(Few::Empty)
+            }
+        }
+        Broadcasts::More(more) => {
+            let mut found = Few::Empty;
+            for key in more.keys() {
+                if is_for(rows, *key, carrier, subject) {
+                    found.push(alloc, *key)?;
+                }
+            }
+            Ok(found)
+        }
+    }
+}
