@@ -1,5 +1,5 @@
 //! The carriers for which one broadcast is pending.
-ghost use Rattle.std.specs.Prelude.{◌≡◌, ◌==◌, Some, IfOk, OnErr, not, filter, option_map};
+ghost use Rattle.std.specs.Prelude.{◌≡◌, ◌==◌, ◌++◌, ◌∷◌, [], Some, IfOk, OnOk, OnErr, not, filter, option_map};
 ghost use Rattle.std.specs.List.{list_any};
 ghost use Rattle.numbers.specs.Abstraction.{subject_of};
 ghost use Rattle.numbers.specs.declared.spid.Spid.{Spid};
@@ -8,8 +8,11 @@ ghost use Rattle.store.specs.WaitRows.{waiting_of, awaited, IsFirst, IsAdded, Is
 use numbers::{Spid, Subject};
 use std::alloc::{AllocError, Global};
 
-// The carriers that a new row has room for. Most broadcasts are pending for several.
-const ROOM: usize = 16;
+// The carriers that a new row has room for.
+const FEW: usize = 4;
+
+// The carriers for which a row with `FEW` gets more room at once, so that most rows grow once.
+const MORE: usize = 12;
 
 /// A broadcast's subject, and the carriers for which the broadcast is pending.
 #[derive(Drop)]
@@ -32,13 +35,25 @@ fn remove_carrier(carrier: Spid, carriers: &mut Vec<Spid>)
     carriers.retain(|each| carrier.number != each.number);
 }
 
+// Adds a carrier. Changes nothing if an allocation fails.
+fn push_carrier(carrier: Spid, carriers: &mut Vec<Spid>) -> Result<(), AllocError>
+    ensures ok { OnOk result (carriers.new.items ≡ carriers.old.items ++ carrier ∷ []) }
+    ensures err { OnErr result (carriers.new.items ≡ carriers.old.items) }
+{
+    if carriers.len() == FEW {
+        carriers.reserve(MORE)?;
+    }
+    carriers.push(carrier)?;
+    Ok(())
+}
+
 impl Waiting {
     /// Creates the row of a broadcast that is pending for one carrier.
     pub fn of(alloc: Global, carrier: Spid, subject: Subject) -> Result<Waiting, AllocError>
         ensures { IfOk result
             (λ row. IsFirst carrier.number (subject_of subject) (waiting_of row)) }
     {
-        let mut carriers = Vec::with_capacity(alloc, ROOM)?;
+        let mut carriers = Vec::with_capacity(alloc, FEW)?;
         carriers.push(carrier)?;
         Ok(Waiting { subject, carriers })
     }
@@ -70,7 +85,7 @@ impl Waiting {
         }
         let before = self.subject_for(carrier);
         if before.is_none() {
-            self.carriers.push(carrier)?;
+            push_carrier(carrier, &mut self.carriers)?;
         }
         Ok(before)
     }

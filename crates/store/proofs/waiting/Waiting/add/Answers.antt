@@ -8,8 +8,8 @@ use Rattle.numbers.proofs.Small.{equal_number, denied}
 use Rattle.store.proofs.OneRow.{added}
 use Rattle.store.proofs.waiting.Waiting.add.Goals as goal
 
-pub returns-in_ok-push-clause-added : goal.returns-in_ok-push-clause-added
-returns-in_ok-push-clause-added c =
+pub returns-in_ok-push_carrier-clause-added : goal.returns-in_ok-push_carrier-clause-added
+returns-in_ok-push_carrier-clause-added c =
     let keys : (key_of c.args.self.now.subject == key_of c.args.subject) ≡ true =
     denied _ (sym c.ne.ensures ∙ c.if-ne.false) in
     let same : subject_of c.args.self.now.subject ≡ subject_of c.args.subject =
@@ -19,6 +19,6 @@ returns-in_ok-push-clause-added c =
       subject_of c.args.self.now.subject,
       map spid_of c.args.self.now.carriers.items,
     ) (subject_of c.args.self.now.subject, map spid_of ks))
-    (sym c.in_ok-push.ensures.items)
+    (sym c.in_ok-push_carrier.ensures.ok)
     (added (subject_of c.args.subject) c.args.carrier.number c.args.self.now.carriers.items
     c.args.carrier (subject_of c.args.self.now.subject) refl same)
