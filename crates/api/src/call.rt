@@ -174,8 +174,11 @@ fn answer_admitted<S: Store>(
         (response_text result (string_bytes response.new.body)) }
 {
     let bounds = reserve_reply(register, call, response)?;
-    let reply = register.answer(caller, call)?;
-    put_reply(response, &reply, bounds)
+    // A reply is large: `?` would move it more often.
+    match register.answer(caller, call) {
+        Ok(reply) => put_reply(response, &reply, bounds),
+        Err(refusal) => Err(Failure::Refused(refusal)),
+    }
 }
 
 // Makes a call if its caller may make it.
@@ -201,6 +204,31 @@ fn answer<S: Store>(
     answer_admitted(register, caller, call, response)
 }
 
+// Executes what a body asks.
+fn answer_asked<S: Store>(
+    alloc: Global,
+    register: &mut Register<S>,
+    caller: Spid,
+    asked: &ApiCall<'_>,
+    response: &mut ResponseBuffer,
+) -> Result<(), Failure>
+    requires empty { IsEmpty response.old }
+    requires capacity { HasCapacity 512 response.old }
+    ensures ok { OnOk result (IsWritten response.new) }
+    ensures capacity { HasCapacity 512 response.new }
+    ensures preserves { PreservesStore S.StoreModel register.old.store
+        register.new.store (IsReplyAvailable result) ⊥ }
+    ensures performs { S.IsUsable register.new.store
+        → Performs (S.failed register.old.store) (S.failed register.new.store)
+        (S.content register.old.store) (S.content register.new.store) caller.number
+        (asked_model asked.now) (response_text result (string_bytes response.new.body)) }
+{
+    match asked {
+        ApiCall::Call(call) => answer(register, caller, call, response),
+        ApiCall::Uri(uri) => query(alloc, register, caller, uri, response),
+    }
+}
+
 // Executes what the members of a body ask on a route.
 fn answer_fields<S: Store, F: Fields>(
     alloc: Global,
@@ -223,8 +251,7 @@ fn answer_fields<S: Store, F: Fields>(
         caller.number (response_text result (string_bytes response.new.body)) }
 {
     match api_call_of(alloc, route, fields) {
-        Ok(Some(ApiCall::Call(call))) => answer(register, caller, &call, response),
-        Ok(Some(ApiCall::Uri(uri))) => query(alloc, register, caller, uri, response),
+        Ok(Some(asked)) => answer_asked(alloc, register, caller, &asked, response),
         Ok(None) => Err(Failure::Message(MessageFault::BadRequest)),
         Err(_) => Err(Failure::Refused(Refusal::NoMemory)),
     }
@@ -259,6 +286,35 @@ fn answer_tree<S: Store>(
     }
 }
 
+// Parses a body that is not written plainly, and executes what it asks.
+#[inline(never)]
+fn answer_parsed<S: Store>(
+    alloc: Global,
+    register: &mut Register<S>,
+    route: Route,
+    caller: Spid,
+    body: &[u8],
+    response: &mut ResponseBuffer,
+) -> Result<(), Failure>
+    requires empty { IsEmpty response.old }
+    requires capacity { HasCapacity 512 response.old }
+    ensures ok { OnOk result (IsWritten response.new) }
+    ensures capacity { HasCapacity 512 response.new }
+    ensures preserves { PreservesStore S.StoreModel register.old.store
+        register.new.store (IsReplyAvailable result) ⊥ }
+    ensures calls { S.IsUsable register.new.store
+        → DispatchesCallOn (S.failed register.old.store) (S.failed register.new.store)
+        (S.content register.old.store) (S.content register.new.store) (BodyAsks route body.now)
+        caller.number (response_text result (string_bytes response.new.body)) }
+{
+    let mut flat = Flat::new();
+    if flat.read(body) {
+        answer_fields(alloc, register, route, caller, &flat, response)
+    } else {
+        answer_tree(alloc, register, route, caller, body, response)
+    }
+}
+
 // Parses the body of a message on a route, and executes what it asks.
 fn answer_body<S: Store>(
     alloc: Global,
@@ -279,18 +335,10 @@ fn answer_body<S: Store>(
         (S.content register.old.store) (S.content register.new.store) (BodyAsks route body.now)
         caller.number (response_text result (string_bytes response.new.body)) }
 {
-    if let Some(asked) = plain_call(route, body) {
-        return match asked {
-            ApiCall::Call(call) => answer(register, caller, &call, response),
-            ApiCall::Uri(uri) => query(alloc, register, caller, uri, response),
-        };
+    if let Some(asked) = &plain_call(route, body) {
+        return answer_asked(alloc, register, caller, asked, response);
     }
-    let mut flat = Flat::new();
-    if flat.read(body) {
-        answer_fields(alloc, register, route, caller, &flat, response)
-    } else {
-        answer_tree(alloc, register, route, caller, body, response)
-    }
+    answer_parsed(alloc, register, route, caller, body, response)
 }
 
 // Returns the call of a version's path. Refuses a path without an id, and a body that is not empty.

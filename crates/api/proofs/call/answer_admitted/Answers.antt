@@ -17,30 +17,28 @@ returns-in_err-bounds-clause-performs g c = λ u st s admits.
     (called_of c.args.call.now) c.in_err-bounds.field-0.0
     (c.in_err-bounds.ensures.kept u st s) (c.in_err-bounds.ensures.unavailable u st s))
 
-pub returns-in_err-reply-clause-performs : goal.returns-in_err-reply-clause-performs
-returns-in_err-reply-clause-performs g c = λ u st s admits.
+pub returns-in-Err-clause-performs : goal.returns-in-Err-clause-performs
+returns-in-Err-clause-performs g c = λ u st s admits.
     let from = g.S.StoreModel.failed c.args.register.now.store in
     let to = g.S.StoreModel.failed c.answer.new.self.store in
     let mid = g.S.StoreModel.content c.reserve_reply.new.register.store in
     let new = g.S.StoreModel.content c.answer.new.self.store in
-    let refusal = c.in_err-reply.field-0.0 in
-    refused_as from to new st c.args.caller.number (RegisterCall (called_of c.args.call.now))
-    c.from_residual-in_err-reply.result _ refusal (search rules)
-    (refused_carried from to new st c.args.caller.number (called_of c.args.call.now) admits refusal
-    mid (c.in_err-reply.ensures.answers u)
+    let refusal = c.in-Err.refusal in
+    refused_carried from to new st c.args.caller.number (called_of c.args.call.now) admits refusal
+    mid (c.in-Err.ensures.answers u)
     (blames_since from (g.S.StoreModel.failed c.reserve_reply.new.register.store) to mid mid refusal
-    c.in_ok-bounds.ensures.preserves.rises c.in_err-reply.ensures.preserves.rises (λ x y. y)
-    (λ st s e. blamed c.in_err-reply.ensures.preserves u st s (ap Err e)))
-    (c.in_ok-bounds.ensures.kept (c.answer.ensures.preserves.usable u) st s))
+    c.in_ok-bounds.ensures.preserves.rises c.in-Err.ensures.preserves.rises (λ x y. y)
+    (λ st s e. blamed c.in-Err.ensures.preserves u st s (ap Err e)))
+    (c.in_ok-bounds.ensures.kept (c.answer.ensures.preserves.usable u) st s)
 
-pub returns-clause-performs : goal.returns-clause-performs
-returns-clause-performs g c = λ u st s admits.
+pub returns-in-Ok-clause-performs : goal.returns-in-Ok-clause-performs
+returns-in-Ok-clause-performs g c = λ u st s admits.
     let middle = c.answer.ensures.preserves.usable u in
     reply_carried (g.S.StoreModel.failed c.args.register.now.store)
     (g.S.StoreModel.failed c.answer.new.self.store) (g.S.StoreModel.content c.answer.new.self.store)
     st
     c.args.caller.number (called_of c.args.call.now) admits
-    (g.S.StoreModel.content c.reserve_reply.new.register.store) (reply_of c.in_ok-reply.reply)
+    (g.S.StoreModel.content c.reserve_reply.new.register.store) (reply_of c.in-Ok.reply)
     c.in_ok-bounds.bounds c.put_reply.result _
     (c.in_ok-bounds.ensures.kept middle st s) (c.in_ok-bounds.ensures.bounds middle st s)
-    (c.in_ok-reply.ensures.answers u) c.put_reply.ensures.text c.put_reply.ensures.more
+    (c.in-Ok.ensures.answers u) c.put_reply.ensures.text c.put_reply.ensures.more
