@@ -10,6 +10,7 @@ use Rattle.http_messages.specs.declared.arrived.Arrived.TheVariants.{Message, Re
 use Rattle.http_messages.specs.declared.fault.MessageFault.{MessageFault}
 use Rattle.http_messages.specs.declared.message.NextMessage.{NextMessage}
 use Rattle.http_messages.specs.declared.message.NextMessage.TheVariants as next
+use Rattle.http_messages.specs.declared.message.Request.{Request}
 use Rattle.http_messages.proofs.AtHandLemmas.{message_at, nothing_at, refused_at}
 use Rattle.api.specs.Executing.{IsNextOf, IsReady, body_of}
 use Rattle.api.proofs.Going.{ReadsFor, buffered_ahead}
@@ -40,11 +41,20 @@ err_is a b e = cc
 
 -- A ready message is at hand.
 pub ready_at_hand : (bytes : List ℕ) (unread : Option (List ℕ)) (arrived : Arrived)
-    → IsReady bytes arrived → IsAtHand bytes unread arrived
-ready_at_hand bytes unread (Message request head) ready = (false, (λ e. cc), ready)
-ready_at_hand bytes unread (Refused fault) ready = absurd ready
-ready_at_hand bytes unread Nothing ready = absurd ready
-ready_at_hand bytes unread (Part wanted) ready = absurd ready
+    (request : Request) (head : ℕ) → arrived ≡ Message request head → IsReady bytes arrived
+    → IsAtHand bytes unread arrived
+ready_at_hand bytes unread arrived request head is ready = rw is (
+  false,
+  (λ e. cc),
+  subst (IsReady bytes) is ready,
+)
+
+pub is_ready : (bytes : List ℕ) (arrived : Arrived) → HasArrived bytes false arrived
+    → IsReady bytes arrived
+is_ready bytes (Message request head) at = at
+is_ready bytes (Refused fault) at = tt
+is_ready bytes Nothing at = tt
+is_ready bytes (Part wanted) at = tt
 
 -- The body and the message are within the bytes.
 pub next_within : (bytes : List ℕ) (has_ended : Bool) (arrived : Arrived) (n : Next)

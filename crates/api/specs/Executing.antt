@@ -2,13 +2,14 @@
 --
 -- It begins in the state `st`. `from` and `to` count the device's failures before and after;
 -- `offered` says whether `POST /clock` is served; `new` is the content afterwards.
-use Rattle.std.specs.Prelude.{◌≡◌, ℕ, ◌+◌, ◌-◌, List, take, drop, Option, Result, Ok, Err, Bool, false}
+use Rattle.std.specs.Prelude.{◌≡◌, ℕ, ◌+◌, ◌-◌, List, take, drop, Option, Result, Ok, Err, Bool, false, ⊤}
 use Rattle.model.specs.Content.{Content}
 use Rattle.model.specs.State.{State}
 use Rattle.http_messages.specs.Arrived.{HasArrived}
 use Rattle.http_messages.specs.declared.arrived.Arrived.{Arrived}
 use Rattle.http_messages.specs.declared.arrived.Arrived.TheVariants as arrived
 use Rattle.http_messages.specs.declared.message.NextMessage.TheVariants as next
+use Rattle.http_messages.specs.declared.next.NextFault.{NextFault}
 use Rattle.api.specs.Serving.{AfterClose, AfterExchanges, AfterPartialResponse, AfterRefusal, IoTrace}
 use Rattle.api.specs.declared.executor.Executed.{Executed}
 use Rattle.api.specs.declared.executor.Lost.{Lost}
@@ -33,13 +34,18 @@ IsNextOf (arrived.Part wanted) result = result ≡ Err (Wants wanted)
 abbrev pub body_of : Next → List ℕ → List ℕ
 body_of next bytes = take (next.end - next.head) (drop next.head bytes)
 
--- Holds if the bytes begin with this message.
+-- Holds if this is no message, or the bytes begin with it.
 abbrev pub IsReady : List ℕ → Arrived → Type 0
 IsReady bytes (arrived.Message request head) =
     HasArrived bytes false (arrived.Message request head)
-IsReady bytes (arrived.Refused fault) = ⊥
-IsReady bytes arrived.Nothing = ⊥
-IsReady bytes (arrived.Part wanted) = ⊥
+IsReady bytes (arrived.Refused fault) = ⊤
+IsReady bytes arrived.Nothing = ⊤
+IsReady bytes (arrived.Part wanted) = ⊤
+
+-- What a read brought, if it left this in its place.
+abbrev pub read_as : Result ⊤ NextFault → Arrived → Result Arrived NextFault
+read_as (Ok done) arrived = Ok arrived
+read_as (Err fault) arrived = Err fault
 
 -- The bytes of the messages that were executed, if that is known.
 abbrev pub consumed_of : Result Executed Lost → ℕ

@@ -1,5 +1,5 @@
 //! Executes the messages that have arrived.
-ghost use Rattle.std.specs.Prelude.{◌≡◌, ◌≤◌, ◌<◌, ◌^◌, ℕ, Option, Some, None, string_bytes, length, vec_len, drop, option_map, IfOk, IfSome, ◌⊎◌};
+ghost use Rattle.std.specs.Prelude.{◌≡◌, ◌≤◌, ◌<◌, ◌^◌, ℕ, Option, Some, None, string_bytes, length, vec_len, drop, option_map, IfOk, IfSome, OnOk, ◌⊎◌};
 ghost use Rattle.model.specs.State.{State};
 ghost use Rattle.register.specs.Refinement.{Refines};
 ghost use Rattle.http_messages.specs.ReadBuffer.{buffered_bytes, remaining_input};
@@ -7,7 +7,7 @@ ghost use Rattle.http_messages.specs.Reading.{IsAtHand, IsBufferedAhead, IsRead,
 ghost use Rattle.std.specs.Io.KnownBytes.{Keeps};
 ghost use Rattle.http_messages.specs.Table.{table};
 ghost use Rattle.json_api.specs.ResponseBuffers.{HasCapacity};
-ghost use Rattle.api.specs.Executing.{Executes, IsNextOf, IsReady, body_of, consumed_of};
+ghost use Rattle.api.specs.Executing.{Executes, IsNextOf, IsReady, body_of, consumed_of, read_as};
 ghost use Rattle.api.specs.Serving.{IsUnavailableResponse, RefinesReachable, Responds, WritesUntil, end_of};
 ghost use Rattle.api.specs.Step.{IsUnavailableText};
 
@@ -122,23 +122,24 @@ impl Next {
 }
 
 // Returns what is answered next, or what is left if nothing is.
-pub(crate) fn next_of(arrived: Arrived) -> Result<Next, Progress>
-    requires { message_length arrived < 2 ^ 64 }
-    ensures { IsNextOf arrived result }
+#[inline(always)]
+pub(crate) fn next_of(arrived: &Arrived) -> Result<Next, Progress>
+    requires { message_length arrived.now < 2 ^ 64 }
+    ensures { IsNextOf arrived.now result }
 {
     match arrived {
         Arrived::Message { request, head } => Ok(Next {
-            message: NextMessage::Message(request),
-            head,
-            end: head + request.length,
+            message: NextMessage::Message(*request),
+            head: *head,
+            end: *head + request.length,
         }),
         Arrived::Refused(fault) => Ok(Next {
-            message: NextMessage::Refused(fault),
+            message: NextMessage::Refused(*fault),
             head: 0,
             end: 0,
         }),
         Arrived::Nothing => Err(Progress::Ended(End::Input)),
-        Arrived::Part { wanted } => Err(Progress::Wants { wanted }),
+        Arrived::Part { wanted } => Err(Progress::Wants { wanted: *wanted }),
     }
 }
 
@@ -161,38 +162,64 @@ impl Executor {
         })
     }
 
-    // Returns the message that the bytes begin with, if it is whole.
-    pub(crate) fn ready_message(&mut self, bytes: &[u8]) -> Option<Arrived>
-        ensures ready { IfSome result (IsReady bytes.now) }
+    // Returns what the bytes that have been read begin with.
+    #[tactic(auto, using(crate::proofs::NextLemmas::is_ready))]
+    pub(crate) fn arrived_in(&mut self, bytes: &[u8]) -> Arrived
+        ensures ready { IsReady bytes.now result }
         ensures response { self.new.response ≡ self.old.response }
     {
-        let arrived = next_arrived(bytes, false, &mut self.headers, &self.router);
-        match arrived {
-            Arrived::Message { .. } => Some(arrived),
-            Arrived::Refused(_) | Arrived::Nothing | Arrived::Part { .. } => None,
-        }
+        next_arrived(bytes, false, &mut self.headers, &self.router)
     }
 
-    // Returns the ready message, or reads the next one.
-    pub(crate) fn next_message<R: Read>(
+    // Reads the next message into `arrived`.
+    #[inline(never)]
+    fn read_next<R: Read>(
         &mut self,
-        ready: Option<Arrived>,
+        arrived: &mut Arrived,
         buffer: &mut ReadBuffer,
         reader: &mut R,
-    ) -> Result<Arrived, NextFault>
-        requires ready { IfSome ready (IsReady (buffered_bytes buffer.old)) }
+    ) -> Result<(), NextFault>
         requires ahead { length (buffered_bytes buffer.old) ≤ 8192 }
         ensures input { Keeps (remaining_input buffer.old (R.remaining reader.old))
             (remaining_input buffer.new (R.remaining reader.new)) }
-        ensures at_hand { IfOk result
-            (IsAtHand (buffered_bytes buffer.new) (R.remaining reader.new)) }
-        ensures ahead { IfOk result (IsBufferedAhead (buffered_bytes buffer.new)) }
+        ensures at_hand { OnOk result
+            (IsAtHand (buffered_bytes buffer.new) (R.remaining reader.new) arrived.new) }
+        ensures ahead { OnOk result (IsBufferedAhead (buffered_bytes buffer.new) arrived.new) }
         ensures read { IfSome (remaining_input buffer.old (R.remaining reader.old))
-            (λ input. IsRead result input (R.remaining reader.new)) }
+            (λ input. IsRead (read_as result arrived.new) input (R.remaining reader.new)) }
     {
-        match ready {
-            Some(arrived) => Ok(arrived),
-            None => next_message(buffer, &mut self.headers, &self.router, reader),
+        match next_message(buffer, &mut self.headers, &self.router, reader) {
+            Ok(next) => {
+                *arrived = next;
+                Ok(())
+            }
+            Err(fault) => Err(fault),
+        }
+    }
+
+    // Reads the next message into `arrived`, unless a message is ready there.
+    #[inline(always)]
+    pub(crate) fn next_message<R: Read>(
+        &mut self,
+        arrived: &mut Arrived,
+        buffer: &mut ReadBuffer,
+        reader: &mut R,
+    ) -> Result<(), NextFault>
+        requires ready { IsReady (buffered_bytes buffer.old) arrived.old }
+        requires ahead { length (buffered_bytes buffer.old) ≤ 8192 }
+        ensures input { Keeps (remaining_input buffer.old (R.remaining reader.old))
+            (remaining_input buffer.new (R.remaining reader.new)) }
+        ensures at_hand { OnOk result
+            (IsAtHand (buffered_bytes buffer.new) (R.remaining reader.new) arrived.new) }
+        ensures ahead { OnOk result (IsBufferedAhead (buffered_bytes buffer.new) arrived.new) }
+        ensures read { IfSome (remaining_input buffer.old (R.remaining reader.old))
+            (λ input. IsRead (read_as result arrived.new) input (R.remaining reader.new)) }
+    {
+        match arrived {
+            Arrived::Message { .. } => Ok(()),
+            Arrived::Refused(_) | Arrived::Nothing | Arrived::Part { .. } => {
+                self.read_next(arrived, buffer, reader)
+            }
         }
     }
 
@@ -222,11 +249,11 @@ impl Executor {
             (body_of next.now bytes.now) (string_bytes self.new.response.text)
             (S.content register.old.store) (S.content register.new.store) }
     {
-        match next.message {
+        match &next.message {
             NextMessage::Message(request) => {
                 let body = &bytes[next.head..next.end];
                 let response = &mut self.response;
-                tick_and_answer(self.alloc, register, clock, ticks, &request, body, response);
+                tick_and_answer(self.alloc, register, clock, ticks, request, body, response);
                 if request.closes {
                     Some(End::Closed)
                 } else {
@@ -234,8 +261,8 @@ impl Executor {
                 }
             }
             NextMessage::Refused(fault) => {
-                put_refused(&mut self.response, Failure::Message(fault));
-                Some(End::Refused(fault))
+                put_refused(&mut self.response, Failure::Message(*fault));
+                Some(End::Refused(*fault))
             }
         }
     }
@@ -298,7 +325,7 @@ impl Executor {
         for count in 0..most {
             let rest = &input[consumed..];
             let arrived = next_arrived(rest, has_ended, &mut self.headers, &self.router);
-            let next = match next_of(arrived) {
+            let next = match next_of(&arrived) {
                 Ok(next) => next,
                 Err(progress) => {
                     return Ok(Executed {

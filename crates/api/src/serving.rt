@@ -7,7 +7,7 @@ ghost use Rattle.api.specs.Serving.{RefinesReachable, Serves, WritesUntil};
 ghost use Rattle.api.specs.Ticks.{ConsumesTick};
 
 use crate::executor::{Executor, next_of};
-use http_messages::{MessageFault, NextFault, ReadBuffer, send_all};
+use http_messages::{Arrived, MessageFault, NextFault, ReadBuffer, send_whole};
 use numbers::Minute;
 use register::Register;
 use settle::Store;
@@ -71,6 +71,11 @@ pub enum Fault {
     Write(u64),
     /// An allocation failed, or there were too many messages to count.
     Memory(u64),
+}
+
+// Returns whether a whole message has arrived.
+fn is_message(arrived: &Arrived) -> bool {
+    matches!(arrived, Arrived::Message { .. })
 }
 
 /// Serves the messages of `reader` in order, and writes their responses to `writer`.
@@ -137,23 +142,24 @@ pub fn serve<S: Store, T: Ticks, R: Read, W: Write>(
         return Err(Fault::Memory(0));
     };
     let clock = options.clock_route;
-    let mut ready = None;
+    // Nothing has been read yet.
+    let mut arrived = Arrived::Part { wanted: 1 };
     for count in 0..u64::MAX {
-        let arrived = match executor.next_message(ready, &mut buffer, reader) {
-            Ok(arrived) => arrived,
+        match executor.next_message(&mut arrived, &mut buffer, reader) {
+            Ok(()) => {}
             Err(NextFault::Read) => return Err(Fault::Read(count)),
             Err(NextFault::Memory) => return Err(Fault::Memory(count)),
-        };
-        let Ok(next) = next_of(arrived) else {
+        }
+        let Ok(next) = next_of(&arrived) else {
             let end = End::Input;
             return Ok(Served { count, end });
         };
         let end = executor.respond(register, clock, ticks, buffer.buffered(), &next);
         buffer.discard(next.end);
-        ready = executor.ready_message(buffer.buffered());
+        arrived = executor.arrived_in(buffer.buffered());
         // Flush before a read: it may block on a client that is waiting for these responses.
-        let flushes = end.is_some() || ready.is_none();
-        match send_all(writer, executor.response.text.as_bytes(), flushes) {
+        let flushes = end.is_some() || !is_message(&arrived);
+        match send_whole(writer, executor.response.text.as_bytes(), flushes) {
             Ok(()) => {}
             Err(_) => return Err(Fault::Write(count)),
         }

@@ -53,7 +53,7 @@ pub returns-in_default-next_of-clause-serves : goal.returns-in_default-next_of-c
 returns-in_default-next_of-clause-serves g c =
     let end = next_ended (remaining_input c.loop-count.buffer (g.R.Read.remaining
     c.loop-count.reader)) (buffered_bytes c.next_message.new.buffer) (g.R.Read.remaining
-    c.next_message.new.reader) c.in-Ok.arrived _ c.in_default-next_of.ensures
+    c.next_message.new.reader) c.next_message.new.arrived _ c.in_default-next_of.ensures
     c.in-Ok.ensures.input c.in-Ok.ensures.at_hand c.in-Ok.ensures.read in
     λ usable. ended _ _ _ _ _ _ _ _ _ _ _ _ (c.loop-count.invariant.6 usable) (g.R.Read.remaining
     c.next_message.new.reader) end.0 end.1
@@ -63,8 +63,8 @@ returns-in-Err-clause-until g c =
     λ usable honest.
     let was = c.respond-end.ensures.honest honest in
     let sent = (subst (AppendsPrefix (g.W.Write.contents c.loop-count.writer) (g.W.Write.contents
-    c.send_all.new.writer)) (c.as_bytes.ensures.value ∙ ap (λ r. string_bytes r.text)
-    c.ready_message-ready.ensures.response) c.in-Err.ensures.err) in
+    c.send_whole.new.writer)) (c.as_bytes.ensures.value ∙ ap (λ r. string_bytes r.text)
+    c.arrived_in-arrived.ensures.response) c.in-Err.ensures.err) in
     still (c.loop-count.invariant.5 usable was)
     (λ still_usable. c.respond-end.ensures.stays still_usable honest)
     (λ still_usable withheld. stopped_partly _ _ _ _ _ _ _ _ _ _ _ _ (c.loop-count.invariant.6
@@ -75,7 +75,7 @@ returns-in-Err-clause-until g c =
     c.discard.new.self) (g.R.Read.remaining c.next_message.new.reader) c.in-Ok-next_of.next
     c.discard.ensures (next_comes (remaining_input c.loop-count.buffer (g.R.Read.remaining
     c.loop-count.reader)) (buffered_bytes c.next_message.new.buffer) (g.R.Read.remaining
-    c.next_message.new.reader) c.in-Ok.arrived c.in-Ok-next_of.next c.in-Ok.ensures.input
+    c.next_message.new.reader) c.next_message.new.arrived c.in-Ok-next_of.next c.in-Ok.ensures.input
     c.in-Ok.ensures.at_hand c.in-Ok-next_of.ensures)) sent withheld)
     (further_partly _ _ _ _ _ _ _ _ _ sent)
 
@@ -84,8 +84,8 @@ returns-in-Some-clause-until g c =
     λ usable honest.
     let was = c.respond-end.ensures.honest honest in
     let sent = (subst (Appends (g.W.Write.contents c.loop-count.writer) (g.W.Write.contents
-    c.send_all.new.writer)) (c.as_bytes.ensures.value ∙ ap (λ r. string_bytes r.text)
-    c.ready_message-ready.ensures.response) c.in-Ok-send_all.ensures.ok) in
+    c.send_whole.new.writer)) (c.as_bytes.ensures.value ∙ ap (λ r. string_bytes r.text)
+    c.arrived_in-arrived.ensures.response) c.in-Ok-send_whole.ensures.ok) in
     still (c.loop-count.invariant.5 usable was)
     (λ still_usable. c.respond-end.ensures.stays still_usable honest)
     (λ still_usable withheld. stops _ _ _ _ _ _ _ (stopped _ _ _ _ _ _ _ _ _ _ _ _
@@ -96,7 +96,7 @@ returns-in-Some-clause-until g c =
     c.discard.new.self) (g.R.Read.remaining c.next_message.new.reader) c.in-Ok-next_of.next
     c.discard.ensures (next_comes (remaining_input c.loop-count.buffer (g.R.Read.remaining
     c.loop-count.reader)) (buffered_bytes c.next_message.new.buffer) (g.R.Read.remaining
-    c.next_message.new.reader) c.in-Ok.arrived c.in-Ok-next_of.next c.in-Ok.ensures.input
+    c.next_message.new.reader) c.next_message.new.arrived c.in-Ok-next_of.next c.in-Ok.ensures.input
     c.in-Ok.ensures.at_hand c.in-Ok-next_of.ensures)) sent withheld))
     (λ past. stops _ _ _ _ _ _ _ (further _ _ _ _ _ _ _ _ _ sent past))
 
@@ -111,11 +111,12 @@ returns-in-Err-clause-serves g c =
     c.discard.new.self) (g.R.Read.remaining c.next_message.new.reader) c.in-Ok-next_of.next
     c.discard.ensures (next_comes (remaining_input c.loop-count.buffer (g.R.Read.remaining
     c.loop-count.reader)) (buffered_bytes c.next_message.new.buffer) (g.R.Read.remaining
-    c.next_message.new.reader) c.in-Ok.arrived c.in-Ok-next_of.next c.in-Ok.ensures.input
+    c.next_message.new.reader) c.next_message.new.arrived c.in-Ok-next_of.next c.in-Ok.ensures.input
     c.in-Ok.ensures.at_hand c.in-Ok-next_of.ensures)) (next_read (remaining_input
     c.loop-count.buffer (g.R.Read.remaining c.loop-count.reader)) (buffered_bytes
     c.next_message.new.buffer) (buffered_bytes c.discard.new.self) (g.R.Read.remaining
-    c.next_message.new.reader) c.in-Ok.arrived c.in-Ok-next_of.next c.in-Ok-next_of.ensures
+    c.next_message.new.reader) c.next_message.new.arrived c.in-Ok-next_of.next
+    c.in-Ok-next_of.ensures
     c.in-Ok.ensures.ahead c.discard.ensures c.in-Ok.ensures.read) (subst (λ (b : List ℕ). Responds
     c.args.options.now.clock_route (g.T.Ticks.remaining c.loop-count.ticks) (g.T.Ticks.remaining
     c.respond-end.new.ticks) (g.S.StoreModel.failed c.loop-count.register.store)
@@ -124,8 +125,8 @@ returns-in-Err-clause-serves g c =
     (g.S.StoreModel.content c.loop-count.register.store) (g.S.StoreModel.content
     c.respond-end.new.register.store)) c.buffered.ensures (c.respond-end.ensures.responds usable))
     (subst (AppendsPrefix (g.W.Write.contents c.loop-count.writer) (g.W.Write.contents
-    c.send_all.new.writer)) (c.as_bytes.ensures.value ∙ ap (λ r. string_bytes r.text)
-    c.ready_message-ready.ensures.response) c.in-Err.ensures.err)
+    c.send_whole.new.writer)) (c.as_bytes.ensures.value ∙ ap (λ r. string_bytes r.text)
+    c.arrived_in-arrived.ensures.response) c.in-Err.ensures.err)
 
 pub returns-in-Err-clause-state : goal.returns-in-Err-clause-state
 returns-in-Err-clause-state g c =
@@ -167,11 +168,12 @@ returns-in-Some-clause-serves g c =
     (buffered_bytes c.discard.new.self) (g.R.Read.remaining c.next_message.new.reader)
     c.in-Ok-next_of.next c.discard.ensures (next_comes (remaining_input c.loop-count.buffer
     (g.R.Read.remaining c.loop-count.reader)) (buffered_bytes c.next_message.new.buffer)
-    (g.R.Read.remaining c.next_message.new.reader) c.in-Ok.arrived c.in-Ok-next_of.next
+    (g.R.Read.remaining c.next_message.new.reader) c.next_message.new.arrived c.in-Ok-next_of.next
     c.in-Ok.ensures.input c.in-Ok.ensures.at_hand c.in-Ok-next_of.ensures)) (next_read
     (remaining_input c.loop-count.buffer (g.R.Read.remaining c.loop-count.reader)) (buffered_bytes
     c.next_message.new.buffer) (buffered_bytes c.discard.new.self) (g.R.Read.remaining
-    c.next_message.new.reader) c.in-Ok.arrived c.in-Ok-next_of.next c.in-Ok-next_of.ensures
+    c.next_message.new.reader) c.next_message.new.arrived c.in-Ok-next_of.next
+    c.in-Ok-next_of.ensures
     c.in-Ok.ensures.ahead c.discard.ensures c.in-Ok.ensures.read) (subst (λ (b : List ℕ). Responds
     c.args.options.now.clock_route (g.T.Ticks.remaining c.loop-count.ticks) (g.T.Ticks.remaining
     c.respond-end.new.ticks) (g.S.StoreModel.failed c.loop-count.register.store)
@@ -180,25 +182,25 @@ returns-in-Some-clause-serves g c =
     (g.S.StoreModel.content c.loop-count.register.store) (g.S.StoreModel.content
     c.respond-end.new.register.store)) c.buffered.ensures (c.respond-end.ensures.responds usable))
     (subst (Appends (g.W.Write.contents c.loop-count.writer) (g.W.Write.contents
-    c.send_all.new.writer)) (c.as_bytes.ensures.value ∙ ap (λ r. string_bytes r.text)
-    c.ready_message-ready.ensures.response) c.in-Ok-send_all.ensures.ok)
+    c.send_whole.new.writer)) (c.as_bytes.ensures.value ∙ ap (λ r. string_bytes r.text)
+    c.arrived_in-arrived.ensures.response) c.in-Ok-send_whole.ensures.ok)
 
 pub loop-count-preserved : goal.loop-count-preserved
 loop-count-preserved g c =
     let stays = sym c.respond-end.ensures.end ∙ c.in_default-end.is in (
       left_short (buffered_bytes c.next_message.new.buffer) (buffered_bytes c.discard.new.self)
-          c.in-Ok.arrived c.in-Ok-next_of.next c.in-Ok-next_of.ensures
+          c.next_message.new.arrived c.in-Ok-next_of.next c.in-Ok-next_of.ensures
           c.in-Ok.ensures.ahead c.discard.ensures stays,
-      subst (λ (b : List ℕ). IfSome c.ready_message-ready.result (IsReady b))
-          c.buffered-in-loop-count.ensures c.ready_message-ready.ensures.ready,
+      subst (λ (b : List ℕ). IsReady b c.arrived_in-arrived.result)
+          c.buffered-in-loop-count.ensures c.arrived_in-arrived.ensures.ready,
       λ usable. c.loop-count.invariant.2 (c.respond-end.ensures.usable usable),
       le_trans c.loop-count.invariant.3 c.respond-end.ensures.rises,
       λ honest. c.loop-count.invariant.4 (c.respond-end.ensures.honest honest),
       λ usable honest.
           let was = c.respond-end.ensures.honest honest in
           let sent = (subst (Appends (g.W.Write.contents c.loop-count.writer) (g.W.Write.contents
-          c.send_all.new.writer)) (c.as_bytes.ensures.value ∙ ap (λ r. string_bytes r.text)
-          c.ready_message-ready.ensures.response) c.in-Ok-send_all.ensures.ok) in
+          c.send_whole.new.writer)) (c.as_bytes.ensures.value ∙ ap (λ r. string_bytes r.text)
+          c.arrived_in-arrived.ensures.response) c.in-Ok-send_whole.ensures.ok) in
           still (c.loop-count.invariant.5 usable was)
           (λ still_usable. c.respond-end.ensures.stays still_usable honest)
           (λ still_usable withheld. stopped _ _ _ _ _ _ _ _ _ _ _ _ (c.loop-count.invariant.6
@@ -209,7 +211,8 @@ loop-count-preserved g c =
           (buffered_bytes c.discard.new.self) (g.R.Read.remaining c.next_message.new.reader)
           c.in-Ok-next_of.next c.discard.ensures (next_comes (remaining_input c.loop-count.buffer
           (g.R.Read.remaining c.loop-count.reader)) (buffered_bytes c.next_message.new.buffer)
-          (g.R.Read.remaining c.next_message.new.reader) c.in-Ok.arrived c.in-Ok-next_of.next
+          (g.R.Read.remaining c.next_message.new.reader) c.next_message.new.arrived
+          c.in-Ok-next_of.next
           c.in-Ok.ensures.input c.in-Ok.ensures.at_hand c.in-Ok-next_of.ensures)) sent withheld)
           (further _ _ _ _ _ _ _ _ _ sent),
       λ usable.
@@ -222,7 +225,8 @@ loop-count-preserved g c =
           c.next_message.new.reader) c.in-Ok-next_of.next c.discard.ensures (next_comes
           (remaining_input c.loop-count.buffer (g.R.Read.remaining c.loop-count.reader))
           (buffered_bytes c.next_message.new.buffer) (g.R.Read.remaining c.next_message.new.reader)
-          c.in-Ok.arrived c.in-Ok-next_of.next c.in-Ok.ensures.input c.in-Ok.ensures.at_hand
+          c.next_message.new.arrived c.in-Ok-next_of.next c.in-Ok.ensures.input
+          c.in-Ok.ensures.at_hand
           c.in-Ok-next_of.ensures)) (subst (λ (b : List ℕ). Responds c.args.options.now.clock_route
           (g.T.Ticks.remaining c.loop-count.ticks) (g.T.Ticks.remaining c.respond-end.new.ticks)
           (g.S.StoreModel.failed c.loop-count.register.store) (g.S.StoreModel.failed
@@ -231,8 +235,8 @@ loop-count-preserved g c =
           (g.S.StoreModel.content c.loop-count.register.store) (g.S.StoreModel.content
           c.respond-end.new.register.store)) c.buffered.ensures (c.respond-end.ensures.responds
           usable)) (subst (Appends (g.W.Write.contents c.loop-count.writer) (g.W.Write.contents
-          c.send_all.new.writer)) (c.as_bytes.ensures.value ∙ ap (λ r. string_bytes r.text)
-          c.ready_message-ready.ensures.response) c.in-Ok-send_all.ensures.ok),
+          c.send_whole.new.writer)) (c.as_bytes.ensures.value ∙ ap (λ r. string_bytes r.text)
+          c.arrived_in-arrived.ensures.response) c.in-Ok-send_whole.ensures.ok),
     )
 
 pub returns-clause-serves : goal.returns-clause-serves

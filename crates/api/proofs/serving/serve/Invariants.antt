@@ -1,5 +1,4 @@
 use Rattle.std.proofs.Common.{◌⊎◌, ◌≤◌, length}
-use Rattle.std.specs.Prelude.{IfSome}
 use Rattle.http_messages.specs.ReadBuffer.{buffered_bytes, remaining_input}
 use Rattle.api.specs.Executing.{IsReady}
 use Rattle.api.proofs.Going.{Progress}
@@ -8,7 +7,7 @@ use Rattle.api.proofs.serving.serve.Given as goal
 
 abbrev pub invariant-loop-count : goal.invariant-loop-count
 invariant-loop-count g l =
-    (length (buffered_bytes l.buffer) ≤ 8192) × IfSome l.ready (IsReady (buffered_bytes l.buffer))
+    (length (buffered_bytes l.buffer) ≤ 8192) × IsReady (buffered_bytes l.buffer) l.arrived
     × (g.S.StoreModel.IsUsable l.register.store → g.S.StoreModel.IsUsable l.fn.register.store)
     × (g.S.StoreModel.failed l.fn.register.store ≤ g.S.StoreModel.failed l.register.store)
     × (g.S.StoreModel.HasHonestDevice l.register.store
