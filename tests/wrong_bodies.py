@@ -288,7 +288,7 @@ def goal_of(edit, lines):
     if goal := noted_goal(lines[:places[0]]):
         return goal
     _, *parts = said[0][1].split("::")
-    own = re.compile(rf"\./proofs/{'/'.join(parts)}/\w+\.antt:\d+:\d+: error: (.*)")
+    own = re.compile(rf"\./proofs/{'/'.join([*parts[:-1], ''])}\+?{parts[-1]}/\w+\.antt:\d+:\d+: error: (.*)")
     names = re.compile(r"has no field|is not in scope|has no `|was not admitted")
     errors = [found[1] for line in lines if (found := own.match(line))]
     edit.takes_a_name = any(names.search(error) for error in errors)
