@@ -20,6 +20,7 @@ use Rattle.model.specs.Content.{Content, VersionRow}
 use Rattle.version.specs.declared.in_use.NumberInUse.{NumberInUse}
 use Rattle.settle.specs.Reads.{HasRowInForce, HasOpenRow, Reflects, IsInBlock, AreInBlock}
 use Rattle.store.specs.Maps.{set, IsSet}
+use Rattle.store.specs.VersionRows.{rows_of}
 use Rattle.store.specs.Tables.{content_of, AreIndexed, AreVersionsIndexed, HasVersion, SubjectVersion, subject_version, subject_version_of, subject_version_cmp}
 use Rattle.store.specs.BlockRows.{lowest, highest, tn_of, own_number, number_of, number_at, marked_in_force, marked_open, only_in_force, and_open, with_number, marked, marks_of, AreMarks, number_in_use}
 use Rattle.store.specs.declared.blocks.Marks.{Marks}
@@ -244,55 +245,54 @@ module _ (t : Tables) (block : ℕ) (indexed : AreIndexed t)
     (are_opened : opened ≡ entries_between (on subject_version_of subject_version_cmp)
     (Included first) (Included last) t.opens.entries) where
   abbrev before : FinMap nat_cmp Marks
-  before = marked only_in_force (λ row. row.holds) block (content_of t).versions in_force empty
+  before = marked only_in_force (λ row. row.holds) block (rows_of t.versions) in_force empty
 
   abbrev after : FinMap nat_cmp Marks
-  after = marked and_open (λ row. row.opens) block (content_of t).versions opened before
+  after = marked and_open (λ row. row.opens) block (rows_of t.versions) opened before
 
   abbrev any_held : ℕ → Bool
-  any_held n = list_any (names only_in_force (λ row. row.holds) block (content_of t).versions n)
+  any_held n = list_any (names only_in_force (λ row. row.holds) block (rows_of t.versions) n)
       in_force
 
   abbrev any_opened : ℕ → Bool
-  any_opened n = list_any (names and_open (λ row. row.opens) block (content_of t).versions n) opened
+  any_opened n = list_any (names and_open (λ row. row.opens) block (rows_of t.versions) n) opened
 
   first-in_force : (n : ℕ) (see : Option Marks → Bool)
       → ((o : Option Marks) → see (Some (only_in_force o)) ≡ true) → see None ≡ false
       → see (get before n) ≡ any_held n
   first-in_force n see says none =
-      met only_in_force (λ row. row.holds) block (content_of t).versions n see says in_force empty
+      met only_in_force (λ row. row.holds) block (rows_of t.versions) n see says in_force empty
       ∙ ap (λ b. b || any_held n) (ap see (get-empty nat_cmp n) ∙ none)
 
   has-in_force : (n : ℕ) → marked_in_force (get after n) ≡ any_held n
-  has-in_force n = kept and_open (λ row. row.opens) block (content_of t).versions n
+  has-in_force n = kept and_open (λ row. row.opens) block (rows_of t.versions) n
       marked_in_force (λ o. refl)
       opened
       before ∙ first-in_force n marked_in_force (λ o. refl) refl
 
   has-opened : (n : ℕ) → marked_open (get after n) ≡ any_opened n
   has-opened n =
-      met and_open (λ row. row.opens) block (content_of t).versions n marked_open (λ o. refl)
+      met and_open (λ row. row.opens) block (rows_of t.versions) n marked_open (λ o. refl)
       opened before
-      ∙ ap (λ b. b || any_opened n) (never only_in_force (λ row. row.holds) block (content_of
-      t).versions n
+      ∙ ap (λ b. b || any_opened n) (never only_in_force (λ row. row.holds) block (rows_of
+      t.versions) n
       marked_open (λ o. refl) in_force empty (ap marked_open (get-empty nat_cmp n)))
 
   has-some : (n : ℕ) → is_some (get after n) ≡ (any_held n || any_opened n)
   has-some n =
-      met and_open (λ row. row.opens) block (content_of t).versions n is_some (λ o. refl) opened
+      met and_open (λ row. row.opens) block (rows_of t.versions) n is_some (λ o. refl) opened
       before
       ∙ ap (λ b. b || any_opened n) (first-in_force n is_some (λ o. refl) refl)
 
   pub marks-are : (m : FinMap nat_cmp Marks) → m ≡ after
       → AreMarks (content_of t) block m
   marks-are m is = subst (AreMarks (content_of t) block) (sym is) record {
-    in_force = λ n. reflects block low high is_low is_high (λ row. row.holds) (content_of
-        t).versions
+    in_force = λ n. reflects block low high is_low is_high (λ row. row.holds) (rows_of t.versions)
         t.holds.keys
         indexed.0
         in_force are_held n (marked_in_force (get after n)) (has-in_force n);
-    opened = λ n. reflects block first last is_first is_last (λ row. row.opens) (content_of
-        t).versions t.opens
+    opened = λ n. reflects block first last is_first is_last (λ row. row.opens) (rows_of
+        t.versions) t.opens
         indexed.1 opened are_opened n (marked_open (get after n)) (has-opened n);
     in_use = λ n. has-some n ∙ (λ i. sym (has-in_force n) i || sym (has-opened n) i);
   }

@@ -3,7 +3,7 @@ use Rattle.std.proofs.Common.{◌≡◌, ◌≢◌, ◌≤◌, ℕ, Bool, true, 
 use Rattle.model.specs.Content.{VersionRow}
 use Rattle.store.specs.Batch.{IsReserved, AreReserved, AreOthers, AreDistinct, AreAfter, AreAscending}
 use Rattle.store.specs.Tables.{content_of, AreIndexed, KeepIndexes}
-use Rattle.store.specs.VersionRows.{rows_from}
+use Rattle.store.specs.VersionRows.{rows_of}
 use Rattle.store.specs.declared.tables.Tables.{Tables}
 use Rattle.store.specs.declared.versions.Versions.{Versions}
 use Rattle.store.proofs.VersionKeys.{all-kept, indexed-kept, kept-then, stands-in}
@@ -47,12 +47,12 @@ reserved-rest (v ∷ vs) old new id is_only keeps others was = (
 
 -- Places without rows change nothing.
 pub places-same : (t : Tables) (versions : Versions)
-    → rows_from 0 versions.rows.items ≡ rows_from 0 t.versions.rows.items
+    → rows_of versions ≡ rows_of t.versions
     → content_of (record t { versions = versions }) ≡ content_of t
 places-same t versions same = ap (λ m. record (content_of t) { versions = m }) same
 
 pub places-indexed : (t : Tables) (versions : Versions)
-    → rows_from 0 versions.rows.items ≡ rows_from 0 t.versions.rows.items → AreIndexed t
+    → rows_of versions ≡ rows_of t.versions → AreIndexed t
     → AreIndexed (record t { versions = versions })
 places-indexed t versions same =
     indexed-kept t (record t { versions = versions }) same (all-kept t)

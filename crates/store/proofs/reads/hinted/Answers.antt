@@ -2,12 +2,13 @@ use Rattle.std.proofs.Common.{rules, ◌≡◌, ◌∙◌, sym, ap, Some}
 use Rattle.std.specs.FinMap.{get}
 use Rattle.model.specs.Content.{VersionRow}
 use Rattle.store.proofs.Found.{subject-is}
+use Rattle.store.specs.VersionRows.{rows_of}
 use Rattle.store.specs.Tables.{content_of}
 use Rattle.store.proofs.reads.hinted.Goals as goal
 
 pub returns-then-eq : goal.returns-then-eq
 returns-then-eq c =
-    let at : get (content_of c.args.tables.now).versions c.args.id ≡ Some c.in_ok-row.row.now =
+    let at : get (rows_of c.args.tables.now.versions) c.args.id ≡ Some c.in_ok-row.row.now =
     search rules in (
       at ∙ ap (λ (r : VersionRow). Some r) (sym c.copied.ensures),
       ap (λ (r : VersionRow). r.holds) c.copied.ensures ∙ sym c.holds.ensures
