@@ -100,7 +100,8 @@ def function_at(crate, path, before):
         stop(f"{crate}/{path}: no function stands there")
     indent, name = found[-1].groups()
     if indent:
-        trait, argument, subject = re.findall(r"^impl(?:<.*?>)? (?:([\w:]+)(?:<(\w+).*?>)? for )?(\w+|\(.*?\))", before, re.M)[-1]
+        heads = r"^(?:impl(?:<.*?>)? (?:([\w:]+)(?:<(\w+).*?>)? for )?|(?:pub )?trait )(\w+|\(.*?\))"
+        trait, argument, subject = re.findall(heads, before, re.M)[-1]
         if subject.startswith("("):
             # the checker names a tuple by its length and its types
             types = re.findall(r"\w+", subject)
