@@ -11,8 +11,8 @@ others that were not, until a check refuses none of them: what is left then is p
 The file tests/refused records the edits that did as they have to, each with a checksum of all that it depends on: the edit, the
 sources, definitions and proofs of its crate, and the contracts, definitions and cited lemmas of those below. The checksum is over tokens,
 so that neither a comment nor the layout of code sends an edit back to be tried. With --changed only edits without such a record are tried, so that the gate pays only for what
-changed. The file tests/untried names those that were refused when they were last tried, and wait to be tried over the sources as they
-are: with --changed they are skipped and counted. One that does as it has to is taken out of that file.
+changed. The file tests/untried names those that are new or stand on changed code, and wait to be tried over the sources as they are:
+with --changed they are skipped and counted. One that does as it has to is taken out of that file.
 
 An edit is a file crates/NAME/wrong-bodies/*.edit, of the form of must-fail edits: a line 'file: src/lib.rt', then pairs of lines
 'old: TEXT' and 'new: TEXT', each TEXT once in that file, all in one function. An edit whose name begins with 'harmless' changes no
