@@ -1,5 +1,6 @@
 pub mod Showing
 pub mod CallLemmas
+pub mod KeptLemmas
 pub mod LookupLemmas
 pub mod MadeLemmas
 pub mod Changed

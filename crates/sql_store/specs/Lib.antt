@@ -8,6 +8,7 @@ pub mod Routed
 pub mod Blocks
 pub mod Whole
 pub mod Found
+pub mod Kept
 pub mod Opened
 pub mod Files
 pub mod Through

@@ -1,14 +1,15 @@
 //! Commits a batch of changes in one transaction.
-ghost use Rattle.std.specs.Prelude.{◌≡◌, false, IsTrue, is_ok};
+ghost use Rattle.std.specs.Prelude.{◌≡◌, false, IsTrue, Option, Some, is_ok};
 ghost use Rattle.sqlite.specs.Held.{state};
 ghost use Rattle.numbers.specs.Abstraction.{subject_of};
 ghost use Rattle.settle.specs.Abstraction.{spid_of, lrn_of, code_of, block_of, block_row_of, broadcast_row_of, broadcast_key_of, wait_key_of};
-ghost use Rattle.settle.specs.Changes.{changes_of, AppliesChanges};
+ghost use Rattle.model.specs.Content.{ClockRow as Row};
+ghost use Rattle.settle.specs.Changes.{changes_of, clock_after, AppliesChanges};
 ghost use Rattle.sql_store.specs.Store.{CommitLeaves, HasStoreTables, AppliesInTransaction, HasCommitted};
 ghost use Rattle.sql_store.specs.Changes.{singles, lists, with_changes, all_made, if_some, with_carrier, with_lrn, with_code, with_block, clock_made, IsChangedOver, with_version, without_version, with_broadcast, without_broadcast, with_wait, without_wait};
 
 use crate::database::Database;
-use crate::lookups::clock;
+use crate::kept::clock;
 use crate::rows::{
     delete_broadcast, delete_version, delete_wait, put_block, put_broadcast, put_carrier,
     put_clock, put_code, put_lrn, put_set, put_set_alone, put_version, put_wait,
@@ -279,6 +280,18 @@ fn commit_over<S: Alter>(
     Ok(())
 }
 
+// Returns the clock's row, if the changes leave it.
+fn unchanged(changes: &Changes, row: Option<ClockRow>) -> Option<ClockRow>
+    ensures { (r : ClockRow) → result ≡ Some r → (row ≡ Some r)
+        × ((before : Option Row) → clock_after (changes_of changes.now).clock
+        (changes_of changes.now).set before ≡ before) }
+{
+    match (changes.clock, changes.set) {
+        (None, None) => row,
+        _ => None,
+    }
+}
+
 /// Applies all changes in one transaction, or none. Reads the clock's row first: a shut connection
 /// fails there, and nothing is written to it.
 pub(crate) fn commit<S: Alter>(db: &mut Database<S>, changes: &Changes) -> Result<(), Fault>
@@ -288,5 +301,10 @@ pub(crate) fn commit<S: Alter>(db: &mut Database<S>, changes: &Changes) -> Resul
         (AppliesChanges (changes_of changes.now)) }
 {
     let row = clock(db)?;
-    commit_over(&mut db.conn, changes, row)
+    db.clock = None;
+    let done = commit_over(&mut db.conn, changes, row);
+    if done.is_ok() {
+        db.clock = unchanged(changes, row);
+    }
+    done
 }

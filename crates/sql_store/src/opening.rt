@@ -139,7 +139,7 @@ impl<S: Alter + Drop> SqlStore<S> {
         ensures err { IfErr result (λ e. e ≡ conn) }
     {
         if is_ours(conn.schema()) {
-            let db = Database { conn };
+            let db = Database::of(conn);
             Ok(SqlStore::of(db))
         } else {
             Err(conn)
@@ -230,7 +230,7 @@ impl<S: Alter + Drop> SqlStore<S> {
     {
         match migrate(alloc, &mut conn, schema_version, windows) {
             Ok(()) => {
-                let db = Database { conn };
+                let db = Database::of(conn);
                 Ok(SqlStore::of(db))
             }
             Err(fault) => Err((fault, conn.into_store())),
@@ -367,7 +367,7 @@ impl<S: Alter + Drop> SqlStore<S> {
         ensures { result ≡ self.db.conn }
     {
         let SqlStore {
-            db: Database { conn },
+            db: Database { conn, clock: _ },
             failures: _,
         } = self;
         conn

@@ -27,7 +27,10 @@ pub(crate) fn select<S: Alter>(
         rows.items) }
     ensures queried { HasQueried (state S.Store db.old.conn) (state S.Store db.new.conn) (is_ok result) }
 {
+    // A failure may shut the connection, which then answers nothing.
+    let clock = db.clock.take();
     let rows = db.conn.query_all(query.text(), params)?;
+    db.clock = clock;
     Ok(rows)
 }
 

@@ -5,7 +5,7 @@ ghost use Rattle.settle.specs.StoreContract.{CountsFailure};
 ghost use Rattle.settle.specs.Reads.{HasDeviceFailed};
 
 use crate::database::Database;
-use crate::{blocks, commit, lists, lookups, queue, routed};
+use crate::{blocks, commit, kept, lists, lookups, queue, routed};
 use delivery::{Broadcast, Download, DownloadKey, RoutedRow};
 use numbers::{BlockId, CodeId, Lrn, Minute, Spid, Subject};
 use settle::{
@@ -71,7 +71,7 @@ impl<S: Alter> Store for SqlStore<S> {
     ghost use Rattle.sql_store.specs.Store.{left_one, clean_if_open};
 
     fn clock(&mut self) -> Result<Option<ClockRow>, StoreFault> {
-        counted(&mut self.failures, lookups::clock(&mut self.db))
+        counted(&mut self.failures, kept::clock(&mut self.db))
     }
 
     fn carrier(&mut self, spid: Spid) -> Result<bool, StoreFault> {

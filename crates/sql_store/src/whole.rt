@@ -21,6 +21,7 @@ fn read<T: FromRow + Drop, S: Alter>(db: &mut Database<S>, table: Table) -> Resu
         → IfOk result (IsRead table T.seen_in (state S.Store db.old.conn).now.trees) }
     ensures queried { HasQueried (state S.Store db.old.conn) (state S.Store db.new.conn) (is_ok result) }
 {
+    db.clock = None;
     read_table::<T, S>(&mut db.conn, table)
 }
 

@@ -1,4 +1,4 @@
-use Rattle.std.proofs.Common.{rules, ◌≡◌, true, false, IsTrue, Option, is_ok, sym, subst}
+use Rattle.std.proofs.Common.{rules, ◌≡◌, ◌∙◌, true, false, IsTrue, Option, is_ok, refl, sym, subst}
 use Rattle.std.specs.Prelude.{option_map}
 use Rattle.sqlite.specs.Effect.{Database}
 use Rattle.sqlite.specs.Held.{state}
@@ -12,6 +12,7 @@ use Rattle.sql_rows.specs.Content.{content_in}
 use Rattle.sql_store.specs.Store.{HasQueried, HasCommitted, content_at}
 use Rattle.sql_store.specs.Changes.{IsChangedOver}
 use Rattle.sql_store.proofs.CallLemmas.{looked_turned, looked_unturned, read_leaves, unread_leaves}
+use Rattle.sql_store.proofs.KeptLemmas.{kept_by_commit, nothing_kept}
 use Rattle.sql_store.proofs.commit.commit.Goals as goal
 
 -- The clock's row that was read is the one before the changes.
@@ -38,36 +39,74 @@ returns-in_err-row-clause-left g c =
     unread_leaves (state g.S.Store c.args.db.now.conn) (state g.S.Store c.clock.new.db.conn)
     (AppliesChanges (changes_of c.args.changes.now)) c.in_err-row.ensures.queried
 
-pub returns-clause-committed : goal.returns-clause-committed
-returns-clause-committed g c =
+pub returns-then-is_ok-clause-committed : goal.returns-then-is_ok-clause-committed
+returns-then-is_ok-clause-committed g c =
     let old = state g.S.Store c.args.db.now.conn in
     let mid = state g.S.Store c.clock.new.db.conn in
-    let new = state g.S.Store c.commit_over.new.conn in
+    let new = state g.S.Store c.commit_over-done.new.conn in
     looked_turned old mid new (IsChangedOver c.args.changes.now c.in_ok-row.row)
     (AppliesChanges (changes_of c.args.changes.now)) c.in_ok-row.ensures.queried
     (by_clock_read old mid c.args.changes.now c.in_ok-row.row c.in_ok-row.ensures.queried
     c.in_ok-row.ensures.value)
-    (is_ok c.commit_over.result) c.commit_over.ensures.committed
+    (is_ok c.commit_over-done.result) c.commit_over-done.ensures.committed
 
-pub returns-clause-left : goal.returns-clause-left
-returns-clause-left g c =
+pub returns-else-is_ok-clause-committed : goal.returns-else-is_ok-clause-committed
+returns-else-is_ok-clause-committed g c =
     let old = state g.S.Store c.args.db.now.conn in
     let mid = state g.S.Store c.clock.new.db.conn in
-    let new = state g.S.Store c.commit_over.new.conn in
+    let new = state g.S.Store c.commit_over-done.new.conn in
+    looked_turned old mid new (IsChangedOver c.args.changes.now c.in_ok-row.row)
+    (AppliesChanges (changes_of c.args.changes.now)) c.in_ok-row.ensures.queried
+    (by_clock_read old mid c.args.changes.now c.in_ok-row.row c.in_ok-row.ensures.queried
+    c.in_ok-row.ensures.value)
+    (is_ok c.commit_over-done.result) c.commit_over-done.ensures.committed
+
+pub returns-then-is_ok-clause-left : goal.returns-then-is_ok-clause-left
+returns-then-is_ok-clause-left g c =
+    let old = state g.S.Store c.args.db.now.conn in
+    let mid = state g.S.Store c.clock.new.db.conn in
+    let new = state g.S.Store c.commit_over-done.new.conn in
     read_leaves old mid new (IsChangedOver c.args.changes.now c.in_ok-row.row)
     (AppliesChanges (changes_of c.args.changes.now)) c.in_ok-row.ensures.queried
     (by_clock_read old mid c.args.changes.now c.in_ok-row.row c.in_ok-row.ensures.queried
     c.in_ok-row.ensures.value)
-    (is_ok c.commit_over.result) c.commit_over.ensures.committed
+    (is_ok c.commit_over-done.result) c.commit_over-done.ensures.committed
 
-pub commit_over-requires-clause-ours : goal.commit_over-requires-clause-ours
-commit_over-requires-clause-ours g c = c.clock.new.db.ours
+pub returns-else-is_ok-clause-left : goal.returns-else-is_ok-clause-left
+returns-else-is_ok-clause-left g c =
+    let old = state g.S.Store c.args.db.now.conn in
+    let mid = state g.S.Store c.clock.new.db.conn in
+    let new = state g.S.Store c.commit_over-done.new.conn in
+    read_leaves old mid new (IsChangedOver c.args.changes.now c.in_ok-row.row)
+    (AppliesChanges (changes_of c.args.changes.now)) c.in_ok-row.ensures.queried
+    (by_clock_read old mid c.args.changes.now c.in_ok-row.row c.in_ok-row.ensures.queried
+    c.in_ok-row.ensures.value)
+    (is_ok c.commit_over-done.result) c.commit_over-done.ensures.committed
 
-pub commit_over-requires-clause-idle : goal.commit_over-requires-clause-idle
-commit_over-requires-clause-idle g c = c.clock.new.db.idle
+pub commit_over-done-requires-clause-ours : goal.commit_over-done-requires-clause-ours
+commit_over-done-requires-clause-ours g c = c.clock.new.db.ours
+
+pub commit_over-done-requires-clause-idle : goal.commit_over-done-requires-clause-idle
+commit_over-done-requires-clause-idle g c = c.clock.new.db.idle
 
 pub invariant_of-db : goal.invariant_of-db
-invariant_of-db g c = record {
-  ours = c.commit_over.ensures.committed.ours;
-  idle = c.commit_over.ensures.idle;
-}
+invariant_of-db g c =
+    let old = state g.S.Store c.args.db.now.conn in
+    let mid = state g.S.Store c.clock.new.db.conn in
+    let new = state g.S.Store c.commit_over-done.new.conn in
+    let ok : is_ok c.commit_over-done.result ≡ true = search rules in
+    let done = subst
+    (λ d. HasCommitted mid new d (IsChangedOver c.args.changes.now c.in_ok-row.row)) ok
+    c.commit_over-done.ensures.committed in
+    record {
+      ours = c.commit_over-done.ensures.committed.ours;
+      idle = c.commit_over-done.ensures.idle;
+      kept = kept_by_commit old mid new (changes_of c.args.changes.now)
+          (IsChangedOver c.args.changes.now c.in_ok-row.row) c.unchanged-db.result c.in_ok-row.row
+          c.in_ok-row.ensures.queried c.in_ok-row.ensures.value done
+          (looked_turned old mid new (IsChangedOver c.args.changes.now c.in_ok-row.row)
+          (AppliesChanges (changes_of c.args.changes.now)) c.in_ok-row.ensures.queried
+          (by_clock_read old mid c.args.changes.now c.in_ok-row.row c.in_ok-row.ensures.queried
+          c.in_ok-row.ensures.value) true done)
+          c.unchanged-db.ensures;
+    }

@@ -1,10 +1,11 @@
-use Rattle.std.proofs.Common.{rules, ◌≡◌, false, is_ok, sym, subst}
+use Rattle.std.proofs.Common.{rules, ◌≡◌, true, false, is_ok, sym, subst}
 use Rattle.std.specs.Prelude.{IfOk, IfErr}
 use Rattle.sqlite.specs.Held.{state}
 use Rattle.sqlite.specs.State.{HasCleanDisk, Shown, FailsToQuery, Survives, CommitsShowing}
 use Rattle.sqlite.specs.Values.{bound}
 use Rattle.sql_store.specs.Store.{HasQueried}
-use Rattle.sql_store.proofs.CallLemmas.{clean_if_open, looked_ok, looked_err, queried_ours, answers}
+use Rattle.sql_store.proofs.CallLemmas.{clean_if_open, looked_ok, looked_err, looked_ours, queried_ours, answers}
+use Rattle.sql_store.proofs.KeptLemmas.{kept_by_query, nothing_kept}
 use Rattle.sql_store.proofs.select.select.Goals as goal
 
 pub returns-in_err-rows-clause-queried : goal.returns-in_err-rows-clause-queried
@@ -66,4 +67,22 @@ invariant_of-db g c =
           (subst (λ t. Survives old new (CommitsShowing t params old)) c.text.ensures
           c.query_all.ensures.survives);
       idle = c.query_all.ensures.mode c.args.db.now.idle;
+      kept = nothing_kept new c.take-clock.new.self c.take-clock.ensures.after;
+    }
+
+pub invariant_of-db-2 : goal.invariant_of-db-2
+invariant_of-db-2 g c =
+    let old = state g.S.Store c.args.db.now.conn in
+    let new = state g.S.Store c.query_all.new.self in
+    let params = bound c.args.params.now in
+    let looked = looked_ok c.args.query params old new c.args.db.now.ours c.in_ok-rows.rows.items
+    (clean_if_open new.is_clean new.is_open (g.met.S.Store.shut_if_dirty _))
+    (subst (λ t. HasCleanDisk new → Shown t params old new c.in_ok-rows.rows.items) c.text.ensures
+    c.in_ok-rows.ensures.ok) (subst (λ t. Survives old new (CommitsShowing t params old))
+    c.text.ensures c.query_all.ensures.survives) in
+    record {
+      ours = looked_ours old new true c.args.db.now.ours looked;
+      idle = c.query_all.ensures.mode c.args.db.now.idle;
+      kept = kept_by_query old new c.args.db.now.clock c.take-clock.result
+          c.take-clock.ensures.value c.args.db.now.kept looked;
     }
