@@ -25,6 +25,8 @@ use settle::{Changes, Store};
 use std::alloc::Global;
 
 // Decides the command: returns the reply and stages the changes. Commits nothing.
+//
+// Each kind of command stays a call: inlined, its large locals would cost all the others.
 fn decide_command<S: Store>(
     alloc: Global,
     store: &mut S,
@@ -73,6 +75,7 @@ fn decide_command<S: Store>(
 }
 
 // Decides the request: returns the reply and stages the changes. Commits nothing.
+#[inline(always)]
 fn decide<S: Store>(
     alloc: Global,
     store: &mut S,
@@ -96,6 +99,9 @@ fn decide<S: Store>(
 
 /// Executes a request whose subjects are settled: decides it, then commits its changes in one
 /// commit.
+///
+/// Inlined into the calls of the register, because a reply is large and each return moves it.
+#[inline(always)]
 pub fn execute<S: Store>(
     alloc: Global,
     store: &mut S,

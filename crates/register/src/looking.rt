@@ -27,6 +27,7 @@ pub struct LookedUp {
 ///
 /// `UnknownCarrier` if `is_known` is false: the caller is not known. Then `NotFound` if no version
 /// has the id.
+#[inline(always)]
 pub fn look_up<S: Store>(store: &mut S, is_known: bool, id: u64) -> Result<LookedUp, Refusal>
     ensures found { S.IsUsable store.new → IfOk result
         (λ found. IsLookedUp (S.content store.old) is_known id (clock_row_of found.clock) found.row
@@ -55,6 +56,7 @@ pub fn look_up<S: Store>(store: &mut S, is_known: bool, id: u64) -> Result<Looke
 /// # Errors
 ///
 /// `UnknownCarrier` if the carrier is not registered, then `NotFound` if no version has the id.
+#[inline(always)]
 pub fn look_up_for<S: Store>(store: &mut S, carrier: Spid, id: u64) -> Result<LookedUp, Refusal>
     ensures found { S.IsUsable store.new
         → IfOk result (λ found. IsLookedUp (S.content store.old)
@@ -74,6 +76,7 @@ pub fn look_up_for<S: Store>(store: &mut S, carrier: Spid, id: u64) -> Result<Lo
 }
 
 /// Returns the windows of the set that a version holds: the present set, or an earlier one.
+#[inline(always)]
 pub fn held_windows<S: Store>(
     store: &mut S,
     clock: &ClockRow,

@@ -95,6 +95,7 @@ fn ids_of(alloc: Global, made: &[(u64, Version)]) -> Result<Vec<u64>, AllocError
 /// Decides a donation: a carrier gives a block to the pool. The reply has the ids of the versions
 /// that protect the used numbers, ordered by number. Stages the changes, and commits nothing.
 #[tactic(auto, using(crate::proofs::EveryCall::Deciding::decides_fault))]
+#[inline(never)]
 pub fn donate<S: Store>(
     alloc: Global,
     store: &mut S,
@@ -139,6 +140,7 @@ pub fn donate<S: Store>(
 /// Decides an assignment: the administrator gives a donated block to a carrier. The reply shows the
 /// block's version, which sends its create. Stages the changes, and commits nothing.
 #[tactic(auto, using(crate::proofs::EveryCall::Deciding::decides_fault))]
+#[inline(never)]
 pub fn assign<S: Store>(
     alloc: Global,
     store: &mut S,
@@ -181,6 +183,7 @@ pub fn assign<S: Store>(
 /// reply shows the block's version, which sends its delete. Stages the changes, and commits
 /// nothing.
 #[tactic(auto, using(crate::proofs::EveryCall::Deciding::decides_fault))]
+#[inline(never)]
 pub fn release<S: Store>(
     alloc: Global,
     store: &mut S,
