@@ -281,30 +281,3 @@ get_at bytes after named more body spid request all routed called ending method 
       closes = closes_is;
     })
     (omega (arith, length_is))
-
--- ---- the frequent paths
-
-visible_query : AllPass is_visible (codes "/query")
-visible_query = AllPass-from_list_all is_visible (codes "/query") refl
-
-visible_acknowledge : AllPass is_visible (codes "/downloads/acknowledge")
-visible_acknowledge = AllPass-from_list_all is_visible (codes "/downloads/acknowledge") refl
-
-pub query_then : (bytes rest : List ℕ) → bytes ≡ codes "/query HTTP/1.1\r\nx-spid: " ++ rest
-    → IsRouteThen bytes (Some Query) rest
-unfolding path_of
-query_then bytes rest begins = (
-  codes "/query",
-  record { all = begins; some = omega arith; path_is = visible_query },
-  refl,
-)
-
-pub acknowledge_then : (bytes rest : List ℕ)
-    → bytes ≡ codes "/downloads/acknowledge HTTP/1.1\r\nx-spid: " ++ rest
-    → IsRouteThen bytes (Some Acknowledge) rest
-unfolding path_of
-acknowledge_then bytes rest begins = (
-  codes "/downloads/acknowledge",
-  record { all = begins; some = omega arith; path_is = visible_acknowledge },
-  refl,
-)

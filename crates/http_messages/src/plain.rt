@@ -1,11 +1,11 @@
 //! Reads heads that are written plainly.
-ghost use Rattle.std.specs.Prelude.{◌≡◌, ◌≤◌, IfSome, Some, length};
+ghost use Rattle.std.specs.Prelude.{◌≡◌, ◌<◌, ◌≤◌, ◌++◌, IfSome, Some, length, true};
 ghost use Rattle.std.specs.List.{list_all};
 ghost use Rattle.http_messages.specs.Plain.{IsCallerThen, IsHeadAt, IsLengthAndEnd, IsNumberThen, IsPathThen, IsRouteThen, is_visible};
-ghost use Rattle.http_messages.specs.Table.{table};
+ghost use Rattle.http_messages.specs.Table.{path_of, table};
 
 use crate::message::{BODY_LIMIT, Request, parse_spid};
-use crate::paths::{Method, Route, route_of};
+use crate::paths::{Method, Route, VersionPath, route_of};
 use matchit::Router;
 use numbers::Spid;
 
@@ -16,33 +16,107 @@ fn are_visible(bytes: &[u8]) -> bool
     bytes.iter().all(|b| *b > b' ' && *b < 127)
 }
 
+// Returns what follows `start`, if the bytes begin with it. Its length is a constant, so that few
+// instructions compare it.
+#[inline(always)]
+fn after<'a, const N: usize>(bytes: &'a [u8], start: &[u8; N]) -> Option<&'a [u8]>
+    ensures { IfSome result (λ rest. bytes.now ≡ start.now ++ rest.now) }
+{
+    let (first, rest) = bytes.split_first_chunk::<N>()?;
+    if first == start { Some(rest) } else { None }
+}
+
 // Splits what follows the method into the path, and what follows `x-spid: `.
 fn path_then(bytes: &[u8]) -> Option<(&[u8], &[u8])>
     ensures { IfSome result (λ found. IsPathThen bytes.now found.0.now found.1.now) }
 {
     let end = bytes.iter().position(|b| *b == b' ')?;
     let path = &bytes[..end];
-    let rest = bytes[end..].strip_prefix(b" HTTP/1.1\r\nx-spid: ")?;
+    let rest = after(&bytes[end..], b" HTTP/1.1\r\nx-spid: ")?;
     if path.is_empty() || !are_visible(path) {
         return None;
     }
     Some((path, rest))
 }
 
+// Returns `route` and what follows `x-spid: `, if the bytes begin with `path`.
+#[inline(always)]
+fn fixed_route_then<'a, const N: usize>(
+    bytes: &'a [u8],
+    path: &[u8; N],
+    route: Route,
+) -> Option<(Route, &'a [u8])>
+    requires route { path_of path.now ≡ Some route }
+    requires some { 0 < length path.now }
+    requires visible { list_all is_visible path.now ≡ true }
+    ensures { IfSome result (λ found. IsRouteThen bytes.now (Some found.0) found.1.now) }
+{
+    let rest = after(after(bytes, path)?, b" HTTP/1.1\r\nx-spid: ")?;
+    Some((route, rest))
+}
+
+// Returns the route of one of the paths that begin with `/subscriptionVersion`, except the two of
+// acknowledged cancellations, and what follows `x-spid: `. Two letters tell the paths apart.
+#[inline(always)]
+#[tactic(auto, unfolding(crate::specs::Table::path_of))]
+fn version_route_then(bytes: &[u8]) -> Option<(Route, &[u8])>
+    ensures { IfSome result (λ found. IsRouteThen bytes.now (Some found.0) found.1.now) }
+{
+    match bytes.get(20..22)? {
+        [b'N', _] => fixed_route_then(
+            bytes,
+            b"/subscriptionVersionNewSP-Create",
+            Route::NewProviderCreate,
+        ),
+        [b'O', _] => fixed_route_then(
+            bytes,
+            b"/subscriptionVersionOldSP-Create",
+            Route::OldProviderCreate,
+        ),
+        [b'A', _] => fixed_route_then(
+            bytes,
+            b"/subscriptionVersionActivate",
+            Route::OnVersion(VersionPath::Activate),
+        ),
+        [b'C', b'o'] => fixed_route_then(
+            bytes,
+            b"/subscriptionVersionConflict",
+            Route::OnVersion(VersionPath::PutInConflict),
+        ),
+        [b'C', _] => fixed_route_then(
+            bytes,
+            b"/subscriptionVersionCancel",
+            Route::OnVersion(VersionPath::Cancel),
+        ),
+        [b'R', _] => fixed_route_then(
+            bytes,
+            b"/subscriptionVersionRemoveFromConflict",
+            Route::OnVersion(VersionPath::RemoveFromConflict),
+        ),
+        [b'D', _] => fixed_route_then(
+            bytes,
+            b"/subscriptionVersionDisconnect",
+            Route::OnVersion(VersionPath::Disconnect),
+        ),
+        [b'M', _] => fixed_route_then(
+            bytes,
+            b"/subscriptionVersionModify",
+            Route::OnVersion(VersionPath::ModifyRouting),
+        ),
+        _ => None,
+    }
+}
+
 // Returns the route of one of the paths that most messages have, and what follows `x-spid: `.
 #[inline(always)]
+#[tactic(auto, unfolding(crate::specs::Table::path_of))]
 fn frequent_route_then(bytes: &[u8]) -> Option<(Route, &[u8])>
     ensures { IfSome result (λ found. IsRouteThen bytes.now (Some found.0) found.1.now) }
 {
     match bytes {
-        [b'/', b'q', ..] => {
-            let rest = bytes.strip_prefix(b"/query HTTP/1.1\r\nx-spid: ")?;
-            Some((Route::Query, rest))
-        }
-        [b'/', b'd', ..] => {
-            let rest = bytes.strip_prefix(b"/downloads/acknowledge HTTP/1.1\r\nx-spid: ")?;
-            Some((Route::Acknowledge, rest))
-        }
+        [b'/', b'q', ..] => fixed_route_then(bytes, b"/query", Route::Query),
+        [b'/', b'd', ..] => fixed_route_then(bytes, b"/downloads/acknowledge", Route::Acknowledge),
+        [b'/', b's', ..] => version_route_then(bytes),
         _ => None,
     }
 }
@@ -108,9 +182,8 @@ fn number_then(bytes: &[u8]) -> Option<(u64, &[u8])>
 fn length_and_end(bytes: &[u8]) -> Option<(u64, &[u8])>
     ensures { IfSome result (λ found. IsLengthAndEnd bytes.now found.0 found.1.now) }
 {
-    let after = bytes.strip_prefix(b"\r\ncontent-length: ")?;
-    let (size, end) = number_then(after)?;
-    let rest = end.strip_prefix(b"\r\n\r\n")?;
+    let (size, end) = number_then(after(bytes, b"\r\ncontent-length: ")?)?;
+    let rest = after(end, b"\r\n\r\n")?;
     Some((size, rest))
 }
 
@@ -121,10 +194,9 @@ fn plain_post(bytes: &[u8], router: &Router<Route>) -> Option<(Request, usize)>
     ensures within { IfSome result (λ found. found.1 ≤ length bytes.now) }
     ensures small { IfSome result (λ found. found.0.length ≤ 1048576) }
 {
-    let after = bytes.strip_prefix(b"POST ")?;
-    let (route, after) = route_then(after, router)?;
-    let (caller, after) = caller_then(after)?;
-    let (size, rest) = length_and_end(after)?;
+    let (route, named) = route_then(after(bytes, b"POST ")?, router)?;
+    let (caller, more) = caller_then(named)?;
+    let (size, rest) = length_and_end(more)?;
     if size > BODY_LIMIT {
         return None;
     }
@@ -145,10 +217,9 @@ fn plain_get(bytes: &[u8], router: &Router<Route>) -> Option<(Request, usize)>
     ensures within { IfSome result (λ found. found.1 ≤ length bytes.now) }
     ensures small { IfSome result (λ found. found.0.length ≤ 1048576) }
 {
-    let after = bytes.strip_prefix(b"GET ")?;
-    let (route, after) = route_then(after, router)?;
-    let (caller, after) = caller_then(after)?;
-    let rest = after.strip_prefix(b"\r\n\r\n")?;
+    let (route, named) = route_then(after(bytes, b"GET ")?, router)?;
+    let (caller, more) = caller_then(named)?;
+    let rest = after(more, b"\r\n\r\n")?;
     let request = Request {
         route,
         method: Method::Get,

@@ -1,19 +1,13 @@
-use Rattle.std.proofs.Common.{◌++◌, ℕ, List, codes, Some, ap, ◌∙◌}
-use Rattle.std.proofs.lemmas.Bool.Decides.{Decides-eqb}
-use Rattle.std.proofs.lemmas.Slice.Eq.{strip_prefix_is}
+use Rattle.std.proofs.Common.{◌++◌, ℕ, List, codes, ap, ◌∙◌}
 use Rattle.http_messages.proofs.plain.length_and_end.Goals as goal
 
 pub returns : goal.returns
 returns c =
-    let begins = strip_prefix_is Decides-eqb c.args.bytes.now (codes "\r\ncontent-length: ")
-    (Some c.in_ok-after.after) c.in_ok-after.ensures.cases in
-    let ends = strip_prefix_is Decides-eqb c.in_ok-size.end.now (codes "\r\n\r\n")
-    (Some c.in_ok-rest.rest) c.in_ok-rest.ensures.cases in
+    let size = c.in_ok-size.ensures in
     record {
-      digits = c.in_ok-size.ensures.digits;
-      all = begins
+      digits = size.digits;
+      all = c.in_ok-after.ensures
           ∙ ap (λ (t : List ℕ). codes "\r\ncontent-length: " ++ t)
-          (c.in_ok-size.ensures.all
-          ∙ ap (λ (t : List ℕ). c.in_ok-size.ensures.digits ++ t) ends);
-      number = c.in_ok-size.ensures.number;
+          (size.all ∙ ap (λ (t : List ℕ). size.digits ++ t) c.in_ok-rest.ensures);
+      number = size.number;
     }

@@ -1,8 +1,6 @@
-use Rattle.std.proofs.Common.{◌-◌, ◌++◌, ℕ, List, length, take, drop, codes, Some, sym, ap, ◌∙◌, arith}
-use Rattle.std.proofs.lemmas.Bool.Decides.{Decides-eqb}
+use Rattle.std.proofs.Common.{◌-◌, ◌++◌, ℕ, List, length, take, drop, sym, ap, ◌∙◌, arith}
 use Rattle.std.proofs.lemmas.List.{take-append-drop}
 use Rattle.std.proofs.lemmas.List.Sums.{AllPass-from_list_all}
-use Rattle.std.proofs.lemmas.Slice.Eq.{strip_prefix_is}
 use Rattle.http_messages.specs.Plain.{is_visible}
 use Rattle.http_messages.proofs.PlainLemmas.{all_left}
 use Rattle.http_messages.proofs.plain.path_then.Goals as goal
@@ -11,11 +9,9 @@ pub returns : goal.returns
 returns c =
     let bytes = c.args.bytes.now in
     let end = c.in_ok-end.end in
-    let has = strip_prefix_is Decides-eqb (take (length bytes - end) (drop end bytes))
-    (codes " HTTP/1.1\r\nx-spid: ") (Some c.in_ok-rest.rest) c.in_ok-rest.ensures.cases in
     record {
       all = sym (take-append-drop end bytes)
-          ∙ ap (λ (t : List ℕ). take end bytes ++ t) (sym (all_left end bytes) ∙ has);
+          ∙ ap (λ (t : List ℕ). take end bytes ++ t) (sym (all_left end bytes) ∙ c.in_ok-rest.ensures);
       some = grind (arith, c.is_empty.ensures, c.if-is_empty.false);
       path_is = AllPass-from_list_all is_visible (take end bytes)
           (sym c.are_visible.ensures ∙ c.if-not-are_visible.false);
