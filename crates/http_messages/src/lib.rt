@@ -11,6 +11,7 @@ mod paths;
 mod plain;
 mod read_buffer;
 mod send;
+mod start;
 
 pub use arrived::{Arrived, next_arrived};
 pub use fault::MessageFault;
@@ -21,3 +22,4 @@ pub use next::{NextFault, next_message};
 pub use paths::{BlockPath, Method, Route, VersionPath, allows_method, offered_route, router};
 pub use read_buffer::ReadBuffer;
 pub use send::{Unsent, send_all, send_whole};
+pub use start::after;

@@ -6,6 +6,7 @@ ghost use Rattle.http_messages.specs.Table.{path_of, table};
 
 use crate::message::{BODY_LIMIT, Request, parse_spid};
 use crate::paths::{Method, Route, VersionPath, route_of};
+use crate::start::after;
 use matchit::Router;
 use numbers::Spid;
 
@@ -14,16 +15,6 @@ fn are_visible(bytes: &[u8]) -> bool
     ensures { result ≡ list_all is_visible bytes.now }
 {
     bytes.iter().all(|b| *b > b' ' && *b < 127)
-}
-
-// Returns what follows `start`, if the bytes begin with it. Its length is a constant, so that few
-// instructions compare it.
-#[inline(always)]
-fn after<'a, const N: usize>(bytes: &'a [u8], start: &[u8; N]) -> Option<&'a [u8]>
-    ensures { IfSome result (λ rest. bytes.now ≡ start.now ++ rest.now) }
-{
-    let (first, rest) = bytes.split_first_chunk::<N>()?;
-    if first == start { Some(rest) } else { None }
 }
 
 // Splits what follows the method into the path, and what follows `x-spid: `.

@@ -6,8 +6,8 @@ returns c =
     let size = c.in_ok-size.ensures in
     record {
       digits = size.digits;
-      all = c.in_ok-after.ensures
+      all = c.in_ok-after.ensures.some
           ∙ ap (λ (t : List ℕ). codes "\r\ncontent-length: " ++ t)
-          (size.all ∙ ap (λ (t : List ℕ). size.digits ++ t) c.in_ok-rest.ensures);
+          (size.all ∙ ap (λ (t : List ℕ). size.digits ++ t) c.in_ok-rest.ensures.some);
       number = size.number;
     }
