@@ -14,7 +14,7 @@ ghost use Rattle.json_api.specs.declared.flat.Scalar.TheVariants.{Flag as FlagVa
 use crate::flat::Scalar;
 use crate::forms::ApiCall;
 use crate::scan::{scalar_at, text_at, whole_at};
-use http_messages::{Route, VersionPath};
+use http_messages::{Route, VersionPath, after};
 use numbers::{Lrn, Minute, Routing, Spid, Tn};
 use requests::{Call, Command};
 use version::{Create, Creator, VersionCommand};
@@ -30,21 +30,23 @@ fn is_end(bytes: &[u8]) -> bool
 }
 
 // Reads the text after `key`, if the bytes begin with that. Returns it and the bytes after it.
-fn text_after<'a>(bytes: &'a [u8], key: &[u8]) -> Option<(&'a str, &'a [u8])>
+#[inline(always)]
+fn text_after<'a, const N: usize>(bytes: &'a [u8], key: &[u8; N]) -> Option<(&'a str, &'a [u8])>
     ensures { IfSome result
         (λ found. IsValueAfter bytes.now key.now (TextValue found.0) found.1.now) }
 {
-    let (text, rest) = text_at(bytes.strip_prefix(key)?)?;
+    let (text, rest) = text_at(after(bytes, key)?)?;
     Some((text, rest))
 }
 
 // Reads the whole number below 2^40 after `key`.
-fn whole_after<'a>(bytes: &'a [u8], key: &[u8]) -> Option<(u64, &'a [u8])>
+#[inline(always)]
+fn whole_after<'a, const N: usize>(bytes: &'a [u8], key: &[u8; N]) -> Option<(u64, &'a [u8])>
     ensures value { IfSome result
         (λ found. IsValueAfter bytes.now key.now (WholeValue found.0) found.1.now) }
     ensures small { IfSome result (λ found. found.0 < 2 ^ 40) }
 {
-    let (number, rest) = whole_at(bytes.strip_prefix(key)?)?;
+    let (number, rest) = whole_at(after(bytes, key)?)?;
     if number < LIMIT {
         Some((number, rest))
     } else {
@@ -53,11 +55,12 @@ fn whole_after<'a>(bytes: &'a [u8], key: &[u8]) -> Option<(u64, &'a [u8])>
 }
 
 // Reads the Boolean after `key`.
-fn flag_after<'a>(bytes: &'a [u8], key: &[u8]) -> Option<(bool, &'a [u8])>
+#[inline(always)]
+fn flag_after<'a, const N: usize>(bytes: &'a [u8], key: &[u8; N]) -> Option<(bool, &'a [u8])>
     ensures { IfSome result
         (λ found. IsValueAfter bytes.now key.now (FlagValue found.0) found.1.now) }
 {
-    match scalar_at(bytes.strip_prefix(key)?)? {
+    match scalar_at(after(bytes, key)?)? {
         (Scalar::Flag(flag), rest) => Some((flag, rest)),
         _ => None,
     }

@@ -11,7 +11,8 @@ returns c =
     let end = c.in_ok-end.end in
     record {
       all = sym (take-append-drop end bytes)
-          ∙ ap (λ (t : List ℕ). take end bytes ++ t) (sym (all_left end bytes) ∙ c.in_ok-rest.ensures.some);
+          ∙ ap (λ (t : List ℕ). take end bytes ++ t)
+          (sym (all_left end bytes) ∙ c.in_ok-rest.ensures.some);
       some = grind (arith, c.is_empty.ensures, c.if-is_empty.false);
       path_is = AllPass-from_list_all is_visible (take end bytes)
           (sym c.are_visible.ensures ∙ c.if-not-are_visible.false);

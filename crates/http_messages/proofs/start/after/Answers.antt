@@ -10,8 +10,8 @@ returns-then-eq-clause-some g c =
     let bytes = c.args.bytes.now in
     let start = c.args.start.now in
     let parts = c.in_ok-first.ensures.cases in
-    let same = (slice_eq-Decides Decides-eqb c.in_ok-first.first.now start c.eq.result c.eq.ensures).0
-    c.if-eq.true in
+    let first = c.in_ok-first.first.now in
+    let same = (slice_eq-Decides Decides-eqb first start c.eq.result c.eq.ensures).0 c.if-eq.true in
     sym (take-append-drop g.row.N bytes)
     ∙ ap (λ (t : List ℕ). t ++ drop g.row.N bytes) (sym parts.0 ∙ same)
     ∙ ap (λ (t : List ℕ). start ++ t) (sym parts.1)
