@@ -64,15 +64,19 @@ pub fn send_all<W: Write>(writer: &mut W, text: &[u8], flushes: bool) -> io::Res
     Ok(())
 }
 
-/// A text that was not written in full.
+/// Why a text was not written in full: what kind of error stopped it.
 #[derive(Clone, Copy, Debug, PartialEq, Eq)]
-pub struct Unsent;
+pub struct Unsent {
+    pub kind: ErrorKind,
+}
 
-// Returns whether a write was interrupted.
+// Returns the kind of an error.
 #[cold]
 #[inline(never)]
-fn is_interrupted(error: &io::Error) -> bool {
-    error.kind() == ErrorKind::Interrupted
+fn kind_of(error: &io::Error) -> ErrorKind
+    ensures { result ≡ error_kind error.now }
+{
+    error.kind()
 }
 
 // Writes what the first write left of a text, and flushes if `flushes` is true.
@@ -82,30 +86,34 @@ fn send_rest<W: Write>(writer: &mut W, text: &[u8], flushes: bool) -> Result<(),
     ensures ok { OnOk result (Appends (W.contents writer.old) (W.contents writer.new) text.now) }
     ensures err { OnErr result
         (AppendsPrefix (W.contents writer.old) (W.contents writer.new) text.now) }
+    ensures retried { IfErr result (λ unsent. unsent.kind ≢ ErrorKind.Interrupted) }
 {
     match send_all(writer, text, flushes) {
         Ok(()) => Ok(()),
-        Err(_) => Err(Unsent),
+        Err(e) => Err(Unsent { kind: e.kind() }),
     }
 }
 
 /// Writes a text as `send_all` does, in one short call if the writer takes all of it and `flushes`
-/// is false.
+/// is false. Retries interrupted calls.
 ///
 /// # Errors
 ///
-/// `Unsent` if the writer fails, or takes no byte twice in turn. A prefix of the text may have been
-/// written.
+/// `Unsent` with the kind of the writer's error, or with `WriteZero` if the writer takes no byte
+/// twice in turn. A prefix of the text may have been written.
 #[inline(always)]
 pub fn send_whole<W: Write>(writer: &mut W, text: &[u8], flushes: bool) -> Result<(), Unsent>
     ensures ok { OnOk result (Appends (W.contents writer.old) (W.contents writer.new) text.now) }
     ensures err { OnErr result
         (AppendsPrefix (W.contents writer.old) (W.contents writer.new) text.now) }
+    ensures retried { IfErr result (λ unsent. unsent.kind ≢ ErrorKind.Interrupted) }
 {
     let taken = match &writer.write(text) {
         Ok(n) => *n,
-        Err(e) if is_interrupted(e) => 0,
-        Err(_) => return Err(Unsent),
+        Err(e) => match kind_of(e) {
+            ErrorKind::Interrupted => 0,
+            kind => return Err(Unsent { kind }),
+        },
     };
     if taken == text.len() && !flushes {
         return Ok(());

@@ -3,7 +3,7 @@ use Rattle.std.specs.Io.KnownBytes.{Appends}
 use Rattle.httparse.proofs.HeadLemmas.{OnErr-map}
 use Rattle.http_messages.proofs.Appending.{Appends-nothing, AppendsPrefix-next}
 use Rattle.http_messages.proofs.send.send_whole.Goals as goal
-use Rattle.http_messages.proofs.send.send_whole.Goals.{in-Ok, in-Err}
+use Rattle.http_messages.proofs.send.send_whole.Goals.{in-Ok, in-Err+in-Interrupted}
 
 pub returns-clause-err : goal.returns-clause-err
 returns-clause-err g c =
@@ -15,7 +15,7 @@ returns-clause-err g c =
         rw w.in-Ok.is at c.write.ensures.bound,
         rw w.in-Ok.is at c.write.ensures.bytes,
       )
-      | in-Err w ↦ rw w.taken-is (
+      | in-Err+in-Interrupted w ↦ rw w.taken-is (
         omega arith,
         Appends-nothing _ _ (rw w.in-Err.is at c.write.ensures.bytes),
       )
