@@ -1,5 +1,13 @@
 -- What is reserved stays until it is used.
-use Rattle.std.proofs.Common.{◌≡◌, ◌≢◌, ◌≤◌, ℕ, Bool, true, List, [], ◌∷◌, length, ap, arith}
+use Rattle.std.proofs.Common.{◌≡◌, ◌≢◌, ◌≤◌, ◌<◌, ℕ, Bool, true, List, [], ◌∷◌, length, ap, arith}
+use Rattle.std.specs.List.{AllAdjacentBelow}
+use Rattle.std.specs.List.Sorted.{IsStrictlySortedBy}
+use Rattle.std.specs.declared.cmp.Ordering.TheVariants.{Less}
+use Rattle.std.specs.Ordering.{nat_cmp}
+use Rattle.std.specs.Cmp.{nat_cmp_total}
+use Rattle.std.proofs.lemmas.Cmp.{on_total}
+use Rattle.std.proofs.lemmas.Map.Keys.{sorted_from_all_adjacent}
+use Rattle.std.proofs.lemmas.Bool.Decides.{nat_tests}
 use Rattle.model.specs.Content.{VersionRow}
 use Rattle.store.specs.Batch.{IsReserved, AreReserved, AreOthers, AreDistinct, AreAfter, AreAscending}
 use Rattle.store.specs.Tables.{content_of, AreIndexed, KeepIndexes}
@@ -72,6 +80,27 @@ distinct-after : (n : ℕ) (vs : List (ℕ × VersionRow)) → AreAfter n vs →
 distinct-after n [] after = tt
 distinct-after n (v ∷ vs) after =
     (others-from v.0 v.0 vs (omega arith) after.1, distinct-after v.0 vs after.1)
+
+less-from : (m n : ℕ) → nat_cmp m n ≡ Less → m < n
+less-from m n less = grind (arith, nat_tests, less)
+
+-- Rows in order rise.
+rises-from : (v : ℕ × VersionRow) (vs : List (ℕ × VersionRow))
+    → IsStrictlySortedBy (λ x y. nat_cmp x.0 y.0) (v ∷ vs) → AreAfter v.0 vs
+unfolding IsStrictlySortedBy
+rises-from v [] sorted = tt
+rises-from v (n ∷ vs) sorted = (less-from v.0 n.0 sorted.0.0, rises-from n vs sorted.1)
+
+less-than : (m n : ℕ) → m < n → nat_cmp m n ≡ Less
+less-than m n less = grind (arith, nat_tests, less)
+
+-- Rows of which each is before the next one rise.
+pub ascending-from : (vs : List (ℕ × VersionRow))
+    → AllAdjacentBelow (λ x y. x.0 < y.0) vs (length vs) → AreAscending vs
+ascending-from [] each = tt
+ascending-from (v ∷ vs) each =
+    rises-from v vs (sorted_from_all_adjacent (on_total (λ (x : ℕ × VersionRow). x.0)
+    nat_cmp_total) (v ∷ vs) v (λ k inside. less-than _ _ (each k v inside)))
 
 pub distinct-from : (vs : List (ℕ × VersionRow)) → AreAscending vs → AreDistinct vs
 distinct-from [] rises = tt
