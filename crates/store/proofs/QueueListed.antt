@@ -7,23 +7,22 @@ use Rattle.std.specs.List.{AllByRecursion, filter_map}
 use Rattle.std.specs.List.Sorted.{IsStrictlySortedBy}
 use Rattle.std.specs.Ordering.{on}
 use Rattle.std.specs.Map.{lookup, keys_of}
-use Rattle.std.specs.BTreeMap as tree
-use Rattle.std.specs.BTreeMap.{BTreeMap}
+use Rattle.std.specs.HashMap as hash
+use Rattle.std.specs.HashMap.{HashMap}
 use Rattle.std.specs.FinMap.{FinMap, get}
 use Rattle.numbers.specs.Subjects.{Subject}
 use Rattle.numbers.specs.declared.spid.Spid.{Spid}
-use Rattle.model.specs.Content.{Content, BroadcastRow, WaitKey, wait_cmp, broadcast_cmp, empty_content, broadcast_key, wait_key}
+use Rattle.model.specs.Content.{Content, BroadcastRow, WaitKey, wait_cmp, empty_content, broadcast_key, wait_key}
 use Rattle.delivery.specs.declared.broadcast.Broadcast.{Broadcast}
 use Rattle.delivery.specs.declared.download.Download.{Download as DownloadImpl}
 use Rattle.delivery.specs.declared.download.DownloadKey.{DownloadKey as DownloadKeyImpl}
 use Rattle.settle.specs.Reads.{AreFirst, IsBehind, IsQueued, IsWaitingDownload, queue_cmp}
-use Rattle.settle.specs.Abstraction.{broadcast_key_of, broadcast_row_of, spid_of}
-use Rattle.settle.specs.declared.rows.BroadcastKey.{BroadcastKey as BroadcastKeyImpl}
-use Rattle.store.specs.Maps.{map_of}
+use Rattle.settle.specs.Abstraction.{broadcast_row_of, spid_of}
 use Rattle.store.specs.WaitRows.{Download, download_cmp, download_of, wait_for}
 use Rattle.store.specs.QueueRows.{queue_key_of, download_at, download_from, broadcast_of, pending_at}
-use Rattle.store.proofs.Maps.{get-map_of}
-use Rattle.model.proofs.KeyOrders.{broadcast_total, broadcast_exact}
+use Rattle.store.specs.BroadcastRows.{same_id, broadcasts_of}
+use Rattle.store.specs.declared.keys.BroadcastId.{BroadcastId}
+use Rattle.store.proofs.BroadcastRows.{get-broadcast}
 use Rattle.store.proofs.Listed.{Among, contained, all-places, all-listed, listed-sorted, among-listed}
 
 -- ---- lists
@@ -94,28 +93,27 @@ abbrev pub HasAll : FinMap wait_cmp Subject → (carrier : ℕ) → List (Downlo
 HasAll waits carrier es = (k : WaitKey) → k.carrier ≡ carrier → is_some (get waits k) ≡ true
     → (e : DownloadKeyImpl × Unit {0}) × Among e es × (queue_key_of e.0 ≡ download_of k)
 
-module _ (waits : FinMap wait_cmp Subject) (broadcasts : BTreeMap BroadcastKeyImpl Broadcast)
-    (carrier : Spid) (many : ℕ) (part : List (DownloadKeyImpl × Unit {0})) where
+module _ {S : Type 0} (waits : FinMap wait_cmp Subject)
+    (broadcasts : HashMap BroadcastId Broadcast S) (carrier : Spid) (many : ℕ) (part : List (DownloadKeyImpl × Unit {0})) where
   abbrev content : Content
   content = record empty_content {
     waits = waits;
-    broadcasts = map_of broadcast_key_of broadcast_row_of broadcasts;
+    broadcasts = broadcasts_of broadcasts;
   }
 
   row-of : (k : DownloadKeyImpl) → get content.broadcasts (broadcast_key k.id k.attempt)
-      ≡ option_map broadcast_row_of (tree.get (on broadcast_key_of broadcast_cmp) broadcasts
+      ≡ option_map broadcast_row_of (hash.get same_id broadcasts
       (broadcast_of k))
-  row-of k = get-map_of broadcast_key_of broadcast_row_of broadcast_total broadcast_exact broadcasts
-      (broadcast_of k)
+  row-of k = get-broadcast broadcasts (broadcast_of k)
 
   download_at-is : (k : DownloadKeyImpl) (d : DownloadImpl) → download_at broadcasts k ≡ Some d →
       (b : Broadcast) × (get content.broadcasts (broadcast_key k.id k.attempt)
       ≡ Some (broadcast_row_of b)) × (download_from k b ≡ d)
   download_at-is k d e =
-      by_cases (tree.get (on broadcast_key_of broadcast_cmp) broadcasts (broadcast_of k)) refl
+      by_cases (hash.get same_id broadcasts (broadcast_of k)) refl
       e
     where
-      by_cases : (o : Option Broadcast) → tree.get (on broadcast_key_of broadcast_cmp) broadcasts
+      by_cases : (o : Option Broadcast) → hash.get same_id broadcasts
           (broadcast_of k) ≡ o → option_map (download_from k) o ≡ Some d →
           (b : Broadcast) × (get content.broadcasts (broadcast_key k.id k.attempt)
           ≡ Some (broadcast_row_of b)) × (download_from k b ≡ d)
@@ -130,10 +128,10 @@ module _ (waits : FinMap wait_cmp Subject) (broadcasts : BTreeMap BroadcastKeyIm
       → get content.broadcasts (broadcast_key k.id k.attempt) ≡ Some row
       → (b : Broadcast) × (download_at broadcasts k ≡ Some (download_from k b))
   is-download_at k row e =
-      by_cases (tree.get (on broadcast_key_of broadcast_cmp) broadcasts (broadcast_of k))
+      by_cases (hash.get same_id broadcasts (broadcast_of k))
       refl (sym (row-of k) ∙ e)
     where
-      by_cases : (o : Option Broadcast) → tree.get (on broadcast_key_of broadcast_cmp) broadcasts
+      by_cases : (o : Option Broadcast) → hash.get same_id broadcasts
           (broadcast_of k) ≡ o → option_map broadcast_row_of o ≡ Some row →
           (b : Broadcast) × (download_at broadcasts k ≡ Some (download_from k b))
       by_cases None at f = let no : None ≡ Some row = f in cc

@@ -1,5 +1,5 @@
 -- What a commit reserves before it writes, and what each of its parts writes.
-use Rattle.std.specs.Prelude.{◌≡◌, ◌≢◌, ◌<◌, ℕ, length, List, [], ◌∷◌, None, Some, IfSome, ⊤}
+use Rattle.std.specs.Prelude.{◌≡◌, ◌≢◌, ◌<◌, ◌≤◌, ℕ, length, List, [], ◌∷◌, None, Some, IfSome, ⊤}
 use Rattle.std.specs.HashMap.{spare}
 use Rattle.std.specs.FinMap.{FinMap, get}
 use Rattle.numbers.specs.Subjects.{Subject}
@@ -32,6 +32,7 @@ pub record HasRoom (c : ChangesImpl) (t : Tables) : Type 0 where
   pub codes : IfSome c.code (λ row. 0 < spare t.codes)
   pub blocks : IfSome c.block (λ row. 0 < spare t.blocks)
   pub sets : IfSome c.set (λ row. 0 < spare t.sets)
+  pub broadcasts : length (items_of c.broadcasts) ≤ spare t.broadcasts
 
 -- Holds if none of the rows is of this version; then, if no two of them are of one version.
 abbrev pub AreOthers : (id : ℕ) → List (ℕ × VersionRow) → Type 0
@@ -64,6 +65,6 @@ AreNew (e ∷ es) old new = (get old (wait_key_of e.0) ≡ None)
 abbrev pub of_versions : List (ℕ × VersionRow) → Changes
 of_versions vs = record no_changes { versions = vs }
 
--- All changes but the rows of the carrier, of broadcasts and of downloads.
+-- All changes but the rows of the carrier and of downloads.
 abbrev pub certain : ChangesImpl → Changes
-certain c = record (changes_of c) { carrier = None; broadcasts = []; waits = [] }
+certain c = record (changes_of c) { carrier = None; waits = [] }

@@ -1,20 +1,21 @@
 -- The order of pending downloads, and the carriers' cursors in it.
 use Rattle.std.specs.Prelude.{◌≡◌, ◌==◌, ℕ, true, List, [], ◌∷◌, Option, Some, None, IfSome, cond, is_some, option_map}
-use Rattle.std.specs.Ordering.{on, nat_cmp, is_le, eq_by_cmp}
+use Rattle.std.specs.Ordering.{nat_cmp, is_le, eq_by_cmp}
 use Rattle.std.specs.Map.{lookup}
-use Rattle.std.specs.BTreeMap as tree
 use Rattle.std.specs.BTreeMap.{BTreeMap}
+use Rattle.std.specs.HashMap as hash
+use Rattle.std.specs.HashMap.{HashMap}
 use Rattle.std.specs.FinMap.{FinMap, get}
 use Rattle.numbers.specs.Subjects.{Subject, subject_key}
 use Rattle.numbers.specs.Abstraction.{key_of}
 use Rattle.numbers.specs.declared.ported.Subject.{Subject as SubjectImpl}
-use Rattle.model.specs.Content.{WaitKey, wait_cmp, broadcast_cmp}
+use Rattle.model.specs.Content.{WaitKey, wait_cmp}
 use Rattle.delivery.specs.declared.broadcast.Broadcast.{Broadcast}
 use Rattle.delivery.specs.declared.download.Download.{Download as DownloadImpl}
 use Rattle.delivery.specs.declared.download.DownloadKey.{DownloadKey as DownloadKeyImpl}
-use Rattle.settle.specs.Abstraction.{broadcast_key_of}
-use Rattle.settle.specs.declared.rows.BroadcastKey.{BroadcastKey as BroadcastKeyImpl}
 use Rattle.store.specs.Maps.{map_of, set}
+use Rattle.store.specs.BroadcastRows.{same_id}
+use Rattle.store.specs.declared.keys.BroadcastId.{BroadcastId}
 use Rattle.store.specs.WaitRows.{Download, download_cmp, download_of, wait_for, Waiting}
 
 -- The key of a broadcast in queue order.
@@ -54,7 +55,7 @@ AreCursors cursors waits = (carrier : ℕ)
 
 -- ---- a carrier's downloads
 
-abbrev pub broadcast_of : DownloadKeyImpl → BroadcastKeyImpl
+abbrev pub broadcast_of : DownloadKeyImpl → BroadcastId
 broadcast_of k = record { id = k.id; attempt = k.attempt }
 
 abbrev pub download_from : DownloadKeyImpl → Broadcast → DownloadImpl
@@ -68,14 +69,14 @@ download_from k b = record {
 }
 
 -- The download with what its broadcast says of it, if the broadcast is there.
-abbrev pub download_at : BTreeMap BroadcastKeyImpl Broadcast → DownloadKeyImpl → Option DownloadImpl
+abbrev pub download_at : {S : Type 0} → HashMap BroadcastId Broadcast S → DownloadKeyImpl
+    → Option DownloadImpl
 download_at broadcasts k =
-    option_map (download_from k) (tree.get (on broadcast_key_of broadcast_cmp) broadcasts
-    (broadcast_of k))
+    option_map (download_from k) (hash.get same_id broadcasts (broadcast_of k))
 
 -- The same, if the download is pending for the carrier.
-abbrev pub pending_at : FinMap wait_cmp Subject → BTreeMap BroadcastKeyImpl Broadcast
-    → (carrier : ℕ) → DownloadKeyImpl → Option DownloadImpl
+abbrev pub pending_at : {S : Type 0} → FinMap wait_cmp Subject
+    → HashMap BroadcastId Broadcast S → (carrier : ℕ) → DownloadKeyImpl → Option DownloadImpl
 pending_at waits broadcasts carrier k =
     cond (is_some (get waits (wait_for (queue_key_of k) carrier))) (download_at broadcasts k) None
 

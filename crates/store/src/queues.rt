@@ -9,17 +9,18 @@ ghost use Rattle.numbers.specs.Subjects.{Subject as SubjectModel};
 ghost use Rattle.model.specs.Content.{wait_cmp, empty_content};
 ghost use Rattle.settle.specs.Lists.{items_of};
 ghost use Rattle.settle.specs.Reads.{AreWaitingSubjects, AreFirst, AreWaitsAbout};
-ghost use Rattle.settle.specs.Abstraction.{broadcast_row_of, broadcast_key_of, spid_of, wait_key_of};
-ghost use Rattle.store.specs.Maps.{map_of, set};
+ghost use Rattle.settle.specs.Abstraction.{spid_of, wait_key_of};
+ghost use Rattle.store.specs.Maps.{set};
+ghost use Rattle.store.specs.BroadcastRows.{broadcasts_of};
 ghost use Rattle.store.specs.QueueRows.{queue_key_of, AreCursors, IsCursor};
 
-use crate::keys::queue_key;
+use crate::keys::{BroadcastId, queue_key};
 use crate::waits::Waits;
 use delivery::{Broadcast, Download, DownloadKey};
 use numbers::{Minute, Spid, Subject};
-use settle::{BroadcastKey, Few, WaitKey};
+use settle::{Few, WaitKey};
 use std::alloc::{AllocError, Global};
-use std::collections::{BTreeMap, HashMap};
+use std::collections::HashMap;
 use std::marker::Model;
 
 /// The pending downloads, and a cursor for each carrier whose queue was read.
@@ -181,14 +182,14 @@ impl Queues {
     pub fn front(
         &mut self,
         alloc: Global,
-        broadcasts: &BTreeMap<BroadcastKey, Broadcast>,
+        broadcasts: &HashMap<BroadcastId, Broadcast>,
         carrier: Spid,
         many: usize,
     ) -> Result<Vec<Download>, AllocError>
         ensures found { IfOk result (λ downloads.
             AreFirst (record empty_content {
               waits = self.old;
-              broadcasts = map_of broadcast_key_of broadcast_row_of broadcasts.now;
+              broadcasts = broadcasts_of broadcasts.now;
             }) (spid_of carrier) many downloads.items) }
         ensures same { self.new ≡ self.old }
     {

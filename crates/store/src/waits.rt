@@ -9,18 +9,19 @@ ghost use Rattle.numbers.specs.declared.spid.Spid.{Spid as SpidImpl};
 ghost use Rattle.model.specs.Content.{empty_content};
 ghost use Rattle.settle.specs.Lists.{items_of};
 ghost use Rattle.settle.specs.Reads.{AreWaitingSubjects, AreFirst, AreWaitsAbout};
-ghost use Rattle.settle.specs.Abstraction.{broadcast_row_of, broadcast_key_of, spid_of, wait_key_of};
-ghost use Rattle.store.specs.Maps.{map_of, set};
+ghost use Rattle.settle.specs.Abstraction.{spid_of, wait_key_of};
+ghost use Rattle.store.specs.Maps.{set};
+ghost use Rattle.store.specs.BroadcastRows.{broadcasts_of};
 ghost use Rattle.store.specs.QueueRows.{queue_key_of, order_of, download_at, pending_at, IsCursor};
 ghost use Rattle.store.specs.About.{about_of, AreKeysAdded, AreKeysKept, AreKeysRemoved};
 ghost use Rattle.store.specs.WaitRows.{row_key_of, download_of, wait_for};
 
 use crate::about::{Broadcasts, add_broadcast, pending_among, rank_of, remove_broadcast};
-use crate::keys::{RowKey, queue_key};
+use crate::keys::{BroadcastId, RowKey, queue_key};
 use crate::waiting::Waiting;
 use delivery::{Broadcast, Download, DownloadKey};
 use numbers::{Spid, Subject};
-use settle::{BroadcastKey, Few, WaitKey};
+use settle::{Few, WaitKey};
 use std::alloc::{AllocError, Global};
 use std::collections::{BTreeMap, HashMap};
 use std::marker::Model;
@@ -124,10 +125,10 @@ fn remove_keys(
 }
 
 // Returns the download with what its broadcast says of it, if the broadcast is there.
-fn download_at(broadcasts: &BTreeMap<BroadcastKey, Broadcast>, key: DownloadKey) -> Option<Download>
+fn download_at(broadcasts: &HashMap<BroadcastId, Broadcast>, key: DownloadKey) -> Option<Download>
     ensures { result ≡ download_at broadcasts.now key }
 {
-    let broadcast = broadcasts.get(&BroadcastKey {
+    let broadcast = broadcasts.get(&BroadcastId {
         id: key.id,
         attempt: key.attempt,
     })?;
@@ -289,7 +290,7 @@ impl Waits {
     // `broadcasts`.
     fn pending_at(
         &self,
-        broadcasts: &BTreeMap<BroadcastKey, Broadcast>,
+        broadcasts: &HashMap<BroadcastId, Broadcast>,
         key: DownloadKey,
         carrier: Spid,
     ) -> Option<Download>
@@ -307,7 +308,7 @@ impl Waits {
     pub fn front_from(
         &self,
         alloc: Global,
-        broadcasts: &BTreeMap<BroadcastKey, Broadcast>,
+        broadcasts: &HashMap<BroadcastId, Broadcast>,
         start: DownloadKey,
         carrier: Spid,
         many: usize,
@@ -316,7 +317,7 @@ impl Waits {
         ensures { IfOk result (λ downloads.
             AreFirst (record empty_content {
               waits = self.now;
-              broadcasts = map_of broadcast_key_of broadcast_row_of broadcasts.now;
+              broadcasts = broadcasts_of broadcasts.now;
             }) (spid_of carrier) many downloads.items) }
     {
         let mut found = Vec::new(alloc);

@@ -1,15 +1,17 @@
-use Rattle.std.proofs.Common.{rules, ◌<◌, map, ◌∙◌, ap, sym, subst, arith}
+use Rattle.std.proofs.Common.{rules, ◌<◌, ◌≤◌, List, length, map, ◌∙◌, ap, sym, subst, arith}
 use Rattle.std.specs.Prelude.{◌==◌}
 use Rattle.std.specs.FinMap.{get}
 use Rattle.std.specs.HashMap.{spare}
-use Rattle.settle.specs.Abstraction.{spid_of, lrn_of, code_of, block_of, block_row_of, broadcast_key_of, wait_key_of}
-use Rattle.settle.specs.Changes.{put_row, put_rows, delete_rows, same_broadcast, same_wait}
+use Rattle.settle.specs.Abstraction.{spid_of, lrn_of, code_of, block_of, block_row_of, broadcast_key_of, broadcast_row_of, wait_key_of}
+use Rattle.settle.specs.Changes.{changes_of, put_row, put_rows, delete_rows, same_broadcast, same_wait}
 use Rattle.settle.specs.Lists.{items_of}
+use Rattle.settle.specs.declared.rows.BroadcastKey.{BroadcastKey}
+use Rattle.delivery.specs.declared.broadcast.Broadcast.{Broadcast}
 use Rattle.store.specs.Batch.{AreReserved}
 use Rattle.store.proofs.Reserved.{all-later}
 use Rattle.store.proofs.VersionKeys.{all-kept}
 use Rattle.version.specs.Abstraction.{windows_of}
-use Rattle.store.specs.Maps.{number_map}
+use Rattle.store.specs.Maps.{number_map, seen_entries}
 use Rattle.store.specs.Tables.{content_of}
 use Rattle.store.proofs.Numbers.{number-written, seen-row, seen-set, if-mapped}
 use Rattle.store.proofs.commit.write.Goals as goal
@@ -42,6 +44,11 @@ write_row-requires-4 c =
     (search rules)
     c.requires.room.sets
 
+pub write_broadcasts-requires : goal.write_broadcasts-requires
+write_broadcasts-requires c =
+    subst (λ (es : List (BroadcastKey × Broadcast)). length es
+    ≤ spare c.args.tables.now.broadcasts) (sym c.as_slice.ensures) c.requires.room.broadcasts
+
 pub write_versions-requires-clause-reserved : goal.write_versions-requires-clause-reserved
 write_versions-requires-clause-reserved c =
     let old = c.args.tables.now in
@@ -51,16 +58,16 @@ write_versions-requires-clause-reserved c =
       blocks = c.write_row-3.new.table;
       sets = c.write_row-4.new.table;
       clock = c.move_clock.new.row;
-      broadcasts = c.delete_broadcasts.new.map;
+      broadcasts = c.delete_broadcasts.new.table;
       waits = c.delete_waits.new.waits;
-    })) (sym c.as_slice-3.ensures) (all-later (items_of c.args.changes.now.versions) old (record
+    })) (sym c.as_slice-4.ensures) (all-later (items_of c.args.changes.now.versions) old (record
     old {
       lrns = c.write_row.new.table;
       codes = c.write_row-2.new.table;
       blocks = c.write_row-3.new.table;
       sets = c.write_row-4.new.table;
       clock = c.move_clock.new.row;
-      broadcasts = c.delete_broadcasts.new.map;
+      broadcasts = c.delete_broadcasts.new.table;
       waits = c.delete_waits.new.waits;
     }) (record { places = omega arith; keys = all-kept old }) c.requires.room.versions)
 
@@ -87,13 +94,18 @@ returns-clause-written c =
           (seen-row block_of block_row_of c.args.changes.now.block c.map-block.result
           (search rules));
       versions = λ k. later.versions k
-          ∙ ap (λ vs. put_rows ◌==◌ vs k (get (content_of old).versions k)) c.as_slice-3.ensures;
+          ∙ ap (λ vs. put_rows ◌==◌ vs k (get (content_of old).versions k)) c.as_slice-4.ensures;
       broadcasts = λ k. later.broadcasts k ∙ c.delete_broadcasts.ensures k
+          ∙ ap (delete_rows same_broadcast (map broadcast_key_of c.as_slice-2.result.now) k)
+          (c.write_broadcasts.ensures k
+          ∙ ap (λ es. put_rows same_broadcast (seen_entries broadcast_key_of broadcast_row_of es) k
+          (get (content_of old).broadcasts k)) c.as_slice.ensures)
           ∙ ap (λ ks. delete_rows same_broadcast (map broadcast_key_of ks) k
-          (get (content_of old).broadcasts k)) c.as_slice.ensures;
+          (put_rows same_broadcast (changes_of c.args.changes.now).broadcasts k
+          (get (content_of old).broadcasts k))) c.as_slice-2.ensures;
       waits = λ k. later.waits k ∙ c.delete_waits.ensures k
           ∙ ap (λ ks. delete_rows same_wait (map wait_key_of ks) k (get (content_of old).waits k))
-          c.as_slice-2.ensures;
+          c.as_slice-3.ensures;
       sets = λ k. later.sets k
           ∙ number-written windows_of old.sets c.write_row-4.new.table c.map-set.result
           c.write_row-4.ensures k
