@@ -114,7 +114,8 @@ find-open q (e ∷ es) is =
     by_cases later false tie =
         either e.1.is_open (find broadcast_cmp q (open_rows es)) ∙ later
 
-pub open-listed : (m : FinMap broadcast_cmp BroadcastRow) (found : BTreeMap BroadcastKeyImpl Broadcast)
+pub open-listed : (m : FinMap broadcast_cmp BroadcastRow)
+    (found : BTreeMap BroadcastKeyImpl Broadcast)
     → tree.IsOrdered (on broadcast_key_of broadcast_cmp) found → AreOpenByKey m found
     → seen_entries broadcast_key_of broadcast_row_of found.entries ≡ open_rows (entries m)
 open-listed m found ordered is =

@@ -94,7 +94,8 @@ HasAll waits carrier es = (k : WaitKey) → k.carrier ≡ carrier → is_some (g
     → (e : DownloadKeyImpl × Unit {0}) × Among e es × (queue_key_of e.0 ≡ download_of k)
 
 module _ {S : Type 0} (waits : FinMap wait_cmp Subject)
-    (broadcasts : HashMap BroadcastId Broadcast S) (carrier : Spid) (many : ℕ) (part : List (DownloadKeyImpl × Unit {0})) where
+    (broadcasts : HashMap BroadcastId Broadcast S) (carrier : Spid) (many : ℕ)
+    (part : List (DownloadKeyImpl × Unit {0})) where
   abbrev content : Content
   content = record empty_content {
     waits = waits;
@@ -102,16 +103,14 @@ module _ {S : Type 0} (waits : FinMap wait_cmp Subject)
   }
 
   row-of : (k : DownloadKeyImpl) → get content.broadcasts (broadcast_key k.id k.attempt)
-      ≡ option_map broadcast_row_of (hash.get same_id broadcasts
-      (broadcast_of k))
+      ≡ option_map broadcast_row_of (hash.get same_id broadcasts (broadcast_of k))
   row-of k = get-broadcast broadcasts (broadcast_of k)
 
   download_at-is : (k : DownloadKeyImpl) (d : DownloadImpl) → download_at broadcasts k ≡ Some d →
       (b : Broadcast) × (get content.broadcasts (broadcast_key k.id k.attempt)
       ≡ Some (broadcast_row_of b)) × (download_from k b ≡ d)
   download_at-is k d e =
-      by_cases (hash.get same_id broadcasts (broadcast_of k)) refl
-      e
+      by_cases (hash.get same_id broadcasts (broadcast_of k)) refl e
     where
       by_cases : (o : Option Broadcast) → hash.get same_id broadcasts
           (broadcast_of k) ≡ o → option_map (download_from k) o ≡ Some d →

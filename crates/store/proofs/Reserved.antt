@@ -94,7 +94,7 @@ rises-from v (n ∷ vs) sorted = (less-from v.0 n.0 sorted.0.0, rises-from n vs 
 less-than : (m n : ℕ) → m < n → nat_cmp m n ≡ Less
 less-than m n less = grind (arith, nat_tests, less)
 
--- Rows of which each is before the next one rise.
+-- Rows rise if each is before the next one.
 pub ascending-from : (vs : List (ℕ × VersionRow))
     → AllAdjacentBelow (λ x y. x.0 < y.0) vs (length vs) → AreAscending vs
 ascending-from [] each = tt

@@ -6,7 +6,7 @@ use Rattle.model.specs.Content.{VersionRow}
 use Rattle.store.specs.Maps.{set}
 use Rattle.store.specs.declared.versions.Versions.{Versions}
 
--- The rows of which the first has the id `n`.
+-- The rows at these places by their ids. The first place is that of the id `n`.
 unfoldable pub rows_from : {X : Type 0} → ℕ → List (Option X) → FinMap nat_cmp X
 rows_from n [] = empty
 rows_from n (o ∷ os) = set (rows_from (suc n) os) n o

@@ -8,10 +8,10 @@ ghost use Rattle.store.specs.WaitRows.{waiting_of, awaited, IsFirst, IsAdded, Is
 use numbers::{Spid, Subject};
 use std::alloc::{AllocError, Global};
 
-// The carriers that a new row has room for.
+// The number of carriers that a new row has room for.
 const FEW: usize = 4;
 
-// The carriers for which a row with `FEW` gets more room at once, so that most rows grow once.
+// The number of carriers that a row with `FEW` gets more room for, so that most rows grow once.
 const MORE: usize = 12;
 
 /// A broadcast's subject, and the carriers for which the broadcast is pending.

@@ -249,7 +249,7 @@ impl Waits {
     }
 
     /// Returns the key of the first broadcast from `start` on that is pending for the carrier. If
-    /// there is none, returns the last key, or `start` if no key is from `start` on.
+    /// none is, returns the last key of all broadcasts, or `start` if that key is before `start`.
     pub fn first_from(&self, start: DownloadKey, carrier: Spid) -> DownloadKey
         requires { IsCursor self.now carrier.number (queue_key_of start) }
         ensures { IsCursor self.now carrier.number (queue_key_of result) }

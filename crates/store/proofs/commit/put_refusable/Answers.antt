@@ -6,7 +6,7 @@ use Rattle.settle.specs.Abstraction.{spid_of}
 use Rattle.settle.specs.Changes.{put_row}
 use Rattle.store.specs.Tables.{carriers_of}
 use Rattle.store.proofs.Maps.{same_map_of, back}
-use Rattle.store.proofs.Sent.{carrier-put}
+use Rattle.store.proofs.Carriers.{carrier-put}
 use Rattle.store.proofs.Steps.{on-err}
 use Rattle.store.proofs.commit.put_refusable.Goals as goal
 
