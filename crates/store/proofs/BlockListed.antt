@@ -13,13 +13,16 @@ use Rattle.std.specs.BTreeMap.{BTreeMap, is_at}
 use Rattle.std.specs.BTreeMap.Range.{entries_between, range_contains}
 use Rattle.std.specs.FinMap.{FinMap, get, empty, get-empty, nat_cmp-IsAntisymmetric}
 use Rattle.std.proofs.lemmas.Bool.Decides.{nat_tests}
-use Rattle.numbers.specs.Digits.{block_of, number_in}
+use Rattle.numbers.specs.Digits.{block_of, line_of, number_in}
 use Rattle.numbers.specs.Subjects.{Subject, Number, Block, subject_key}
+use Rattle.numbers.specs.declared.line.Line.{Line}
 use Rattle.numbers.specs.declared.tn.Tn.{Tn}
 use Rattle.model.specs.Content.{Content, VersionRow}
 use Rattle.version.specs.declared.in_use.NumberInUse.{NumberInUse}
-use Rattle.settle.specs.Reads.{HasRowInForce, HasOpenRow, Reflects, IsInBlock, AreInBlock}
+use Rattle.settle.specs.Reads.{HasRowInForce, HasOpenRow, IsOpen, Reflects, IsInBlock, AreInBlock}
+use Rattle.settle.specs.declared.rows.NumberedRow.{NumberedRow}
 use Rattle.store.specs.Maps.{set, IsSet}
+use Rattle.store.specs.SubjectRows.{has_line, is_lined, lines_of}
 use Rattle.store.specs.VersionRows.{rows_of}
 use Rattle.store.specs.Tables.{content_of, AreIndexed, AreVersionsIndexed, HasVersion, SubjectVersion, subject_version, subject_version_of, subject_version_cmp}
 use Rattle.store.specs.BlockRows.{lowest, highest, tn_of, own_number, number_of, number_at, marked_in_force, marked_open, only_in_force, and_open, with_number, marked, marks_of, AreMarks, number_in_use}
@@ -30,7 +33,7 @@ use Rattle.store.proofs.Maps.{get-map_of, set_map_of, entry-of, get-set}
 use Rattle.store.proofs.Orders.{subject_version_total, subject_version_exact}
 use Rattle.store.proofs.Listed.{Among, contained, all-places, among-mapped}
 use Rattle.store.proofs.SubjectsListed.{all-of, filtered-among, found-entry}
-use Rattle.numbers.proofs.Small.{or_true, same_number, equal_number, tied, true_both, or_false}
+use Rattle.numbers.proofs.Small.{impossible, true-false, or_true, same_number, equal_number, tied, true_both, or_false}
 
 -- ---- what a loop gathers
 
@@ -231,71 +234,23 @@ module _ (block : ℕ) (lo hi : SubjectVersionImpl) (low : subject_version_of lo
     reflects true is = met-from part (sym is)
     reflects false is = λ p. let f : false ≡ true = is ∙ has-met p.0 p.1 in cc
 
--- ---- the marks of all numbers
+-- ---- the numbers in force
 
-module _ (t : Tables) (block : ℕ) (indexed : AreIndexed t)
-    (low high : SubjectVersionImpl) (is_low : subject_version_of low ≡ lowest block)
-    (is_high : subject_version_of high ≡ highest block)
-    (first last : SubjectVersionImpl) (is_first : subject_version_of first ≡ lowest block)
-    (is_last : subject_version_of last ≡ highest block)
-    (in_force opened : List (SubjectVersionImpl × Unit {0}))
-    (are_held : in_force ≡ entries_between (on subject_version_of subject_version_cmp)
-    (Included low)
-    (Included high) t.holds.keys.entries)
-    (are_opened : opened ≡ entries_between (on subject_version_of subject_version_cmp)
-    (Included first) (Included last) t.opens.entries) where
-  abbrev before : FinMap nat_cmp Marks
-  before = marked only_in_force (λ row. row.holds) block (rows_of t.versions) in_force empty
-
-  abbrev after : FinMap nat_cmp Marks
-  after = marked and_open (λ row. row.opens) block (rows_of t.versions) opened before
-
-  abbrev any_held : ℕ → Bool
-  any_held n = list_any (names only_in_force (λ row. row.holds) block (rows_of t.versions) n)
-      in_force
-
-  abbrev any_opened : ℕ → Bool
-  any_opened n = list_any (names and_open (λ row. row.opens) block (rows_of t.versions) n) opened
-
-  first-in_force : (n : ℕ) (see : Option Marks → Bool)
-      → ((o : Option Marks) → see (Some (only_in_force o)) ≡ true) → see None ≡ false
-      → see (get before n) ≡ any_held n
-  first-in_force n see says none =
-      met only_in_force (λ row. row.holds) block (rows_of t.versions) n see says in_force empty
-      ∙ ap (λ b. b || any_held n) (ap see (get-empty nat_cmp n) ∙ none)
-
-  has-in_force : (n : ℕ) → marked_in_force (get after n) ≡ any_held n
-  has-in_force n = kept and_open (λ row. row.opens) block (rows_of t.versions) n
-      marked_in_force (λ o. refl)
-      opened
-      before ∙ first-in_force n marked_in_force (λ o. refl) refl
-
-  has-opened : (n : ℕ) → marked_open (get after n) ≡ any_opened n
-  has-opened n =
-      met and_open (λ row. row.opens) block (rows_of t.versions) n marked_open (λ o. refl)
-      opened before
-      ∙ ap (λ b. b || any_opened n) (never only_in_force (λ row. row.holds) block (rows_of
-      t.versions) n
-      marked_open (λ o. refl) in_force empty (ap marked_open (get-empty nat_cmp n)))
-
-  has-some : (n : ℕ) → is_some (get after n) ≡ (any_held n || any_opened n)
-  has-some n =
-      met and_open (λ row. row.opens) block (rows_of t.versions) n is_some (λ o. refl) opened
-      before
-      ∙ ap (λ b. b || any_opened n) (first-in_force n is_some (λ o. refl) refl)
-
-  pub marks-are : (m : FinMap nat_cmp Marks) → m ≡ after
-      → AreMarks (content_of t) block m
-  marks-are m is = subst (AreMarks (content_of t) block) (sym is) record {
-    in_force = λ n. reflects block low high is_low is_high (λ row. row.holds) (rows_of t.versions)
-        t.holds.keys
-        indexed.0
-        in_force are_held n (marked_in_force (get after n)) (has-in_force n);
-    opened = λ n. reflects block first last is_first is_last (λ row. row.opens) (rows_of
-        t.versions) t.opens
-        indexed.1 opened are_opened n (marked_open (get after n)) (has-opened n);
-    in_use = λ n. has-some n ∙ (λ i. sym (has-in_force n) i || sym (has-opened n) i);
-  }
+-- Writing the marks of a number.
+marked-one : (mark : Option Marks → Marks) (old new : BTreeMap Tn Marks) (tn : Tn)
+    (new_marks : Marks) → new_marks ≡ mark (tree.get (on tn_of nat_cmp) old tn)
+    → IsSet (on tn_of nat_cmp) old new tn (Some new_marks)
+    → marks_of new ≡ with_number mark (Some (tn_of tn)) (marks_of old)
+marked-one mark old new tn new_marks marks written =
+    set_map_of tn_of (λ (s : Marks). s) nat_cmp_total nat_cmp-IsAntisymmetric old new tn
+    (Some new_marks) written
+    ∙ ap (λ s. set (marks_of old) (tn_of tn) (Some s)) (marks
+    ∙ ap mark (seen (tree.get (on tn_of nat_cmp) old tn)
+    ∙ sym (get-map_of tn_of (λ (s : Marks). s) nat_cmp_total nat_cmp-IsAntisymmetric old tn)))
+  where
+    seen : (o : Option Marks) → o ≡ option_map (λ (s : Marks). s) o
+    seen None = refl
+    seen (Some s) = refl
 
 -- A loop step marks the number of its key.
 pub marked-step : (mark : Option Marks → Marks) (column : VersionRow
@@ -308,17 +263,212 @@ pub marked-step : (mark : Option Marks → Marks) (column : VersionRow
     marked mark column block versions rest (marks_of new) ≡ marked mark column block versions
     (e ∷ rest) (marks_of old)
 marked-step mark column block versions e rest old new tn new_marks is marks written =
-    ap (marked mark column block versions rest)
-    (set_map_of tn_of (λ (s : Marks). s) nat_cmp_total nat_cmp-IsAntisymmetric old new tn
-    (Some new_marks) written
-    ∙ ap (λ s. set (marks_of old) (tn_of tn) (Some s)) (marks
-    ∙ ap mark (seen (tree.get (on tn_of nat_cmp) old tn)
-    ∙ sym (get-map_of tn_of (λ (s : Marks). s) nat_cmp_total nat_cmp-IsAntisymmetric old tn))))
+    ap (marked mark column block versions rest) (marked-one mark old new tn new_marks marks written)
     ∙ ap (λ o. marked mark column block versions rest (with_number mark o (marks_of old))) is
-  where
-    seen : (o : Option Marks) → o ≡ option_map (λ (s : Marks). s) o
-    seen None = refl
-    seen (Some s) = refl
+
+-- ---- the open numbers
+
+-- Holds if of the numbers in force the same are marked, and of the open ones those whose lines are
+-- not left.
+pub record AreMarkedBefore (c : Content) (block : ℕ) (first m : FinMap nat_cmp Marks)
+    (left : List Line) : Type 0 where
+  pub in_force : (n : ℕ) → marked_in_force (get m n) ≡ marked_in_force (get first n)
+  pub in_use : (n : ℕ) → is_some (get m n) ≡ (marked_in_force (get m n) || marked_open (get m n))
+  pub opened : (n : ℕ) → marked_open (get m n) ≡ true → (block_of n ≡ block)
+      × HasOpenRow c (Number n)
+  pub rest : (n : ℕ) → block_of n ≡ block → HasOpenRow c (Number n)
+      → (marked_open (get m n) ≡ true) ⊎ (has_line left (line_of n) ≡ true)
+
+-- A number of the block with this line.
+number-made : (n block line : ℕ) → block_of n ≡ block → line_of n ≡ line → n ≡ number_in block line
+number-made n block line own same = omega (arith, own, same)
+
+-- A number is of the block if it is made of it and a line.
+of-block : (n block : ℕ) (line : Line) → n ≡ number_in block line.number → block_of n ≡ block
+of-block n block line is = omega (arith, is, line.valid)
+
+module _ (c : Content) (block : ℕ) (first : FinMap nat_cmp Marks) (line : Line)
+    (left next : List Line) (is_left : left ≡ line ∷ next) where
+  -- A line that is left is this one or is left afterwards.
+  later : (l : ℕ) → has_line left l ≡ true → (l ≡ line.number) ⊎ (has_line next l ≡ true)
+  later l there = by_cases (l == line.number) refl (sym (ap (λ ls. has_line ls l) is_left) ∙ there)
+    where
+      by_cases : (b : Bool) → (l == line.number) ≡ b → (b || has_line next l) ≡ true
+          → (l ≡ line.number) ⊎ (has_line next l ≡ true)
+      by_cases true e it = inl (equal_number l line.number e)
+      by_cases false e it = inr it
+
+  -- A line whose number is not open is passed.
+  pub line-passed : (m : FinMap nat_cmp Marks)
+      → (HasOpenRow c (Number (number_in block line.number)) → ⊥)
+      → AreMarkedBefore c block first m left → AreMarkedBefore c block first m next
+  line-passed m closed was = record {
+    in_force = was.in_force;
+    in_use = was.in_use;
+    opened = was.opened;
+    rest = λ n own has. by_cases n own has (was.rest n own has);
+  }
+    where
+      here : (n : ℕ) → block_of n ≡ block → HasOpenRow c (Number n)
+          → (line_of n ≡ line.number) ⊎ (has_line next (line_of n) ≡ true)
+          → (marked_open (get m n) ≡ true) ⊎ (has_line next (line_of n) ≡ true)
+      here n own has (inl same) =
+          absurd (closed (subst (λ k. HasOpenRow c (Number k))
+          (number-made n block line.number own same) has))
+      here n own has (inr more) = inr more
+
+      by_cases : (n : ℕ) → block_of n ≡ block → HasOpenRow c (Number n)
+          → (marked_open (get m n) ≡ true) ⊎ (has_line left (line_of n) ≡ true)
+          → (marked_open (get m n) ≡ true) ⊎ (has_line next (line_of n) ≡ true)
+      by_cases n own has (inl marks) = inl marks
+      by_cases n own has (inr there) = here n own has (later (line_of n) there)
+
+  -- A line whose number is open is marked.
+  pub line-marked : (old new : BTreeMap Tn Marks) (tn : Tn) (new_marks : Marks)
+      → tn_of tn ≡ number_in block line.number → HasOpenRow c (Number (tn_of tn))
+      → new_marks ≡ and_open (tree.get (on tn_of nat_cmp) old tn)
+      → IsSet (on tn_of nat_cmp) old new tn (Some new_marks)
+      → AreMarkedBefore c block first (marks_of old) left
+      → AreMarkedBefore c block first (marks_of new) next
+  line-marked old new tn new_marks is has marks written was = record {
+    in_force = λ n. ap marked_in_force (at n) ∙ stays n (eq_by_cmp nat_cmp (tn_of tn) n)
+        ∙ was.in_force n;
+    in_use = λ n. subst (λ o. is_some o ≡ (marked_in_force o || marked_open o)) (sym (at n))
+        (used n (eq_by_cmp nat_cmp (tn_of tn) n));
+    opened = λ n. subst (λ o. marked_open o ≡ true → (block_of n ≡ block)
+        × HasOpenRow c (Number n)) (sym (at n)) (opens n (eq_by_cmp nat_cmp (tn_of tn) n) refl);
+    rest = λ n own opened. subst (λ o. (marked_open o ≡ true) ⊎ (has_line next (line_of n) ≡ true))
+        (sym (at n)) (more n own (eq_by_cmp nat_cmp (tn_of tn) n) refl (was.rest n own opened));
+  }
+    where
+      known : ℕ → Option Marks
+      known n = get (marks_of old) n
+
+      at : (n : ℕ) → get (marks_of new) n
+          ≡ cond (eq_by_cmp nat_cmp (tn_of tn) n) (Some (and_open (known n))) (known n)
+      at n = ap (λ m. get m n) (marked-one and_open old new tn new_marks marks written)
+          ∙ with-get and_open (Some (tn_of tn)) (marks_of old) n
+
+      same : (n : ℕ) → eq_by_cmp nat_cmp (tn_of tn) n ≡ true → tn_of tn ≡ n
+      same n e = nat_cmp-IsAntisymmetric (tn_of tn) n (tied _ e)
+
+      stays : (n : ℕ) (b : Bool) → marked_in_force (cond b (Some (and_open (known n))) (known n))
+          ≡ marked_in_force (known n)
+      stays n true = refl
+      stays n false = refl
+
+      used : (n : ℕ) (b : Bool) → is_some (cond b (Some (and_open (known n))) (known n))
+          ≡ (marked_in_force (cond b (Some (and_open (known n))) (known n))
+          || marked_open (cond b (Some (and_open (known n))) (known n)))
+      used n true = sym (or_true (marked_in_force (known n)))
+      used n false = was.in_use n
+
+      opens : (n : ℕ) (b : Bool) → eq_by_cmp nat_cmp (tn_of tn) n ≡ b
+          → marked_open (cond b (Some (and_open (known n))) (known n)) ≡ true
+          → (block_of n ≡ block) × HasOpenRow c (Number n)
+      opens n true e it = (
+        of-block n block line (sym (same n e) ∙ is),
+        subst (λ k. HasOpenRow c (Number k)) (same n e) has,
+      )
+      opens n false e it = was.opened n it
+
+      unmarked : (n : ℕ) → eq_by_cmp nat_cmp (tn_of tn) n ≡ false → tn_of tn ≡ n → ⊥
+      unmarked n e same_tn = true-false (eq_by_cmp nat_cmp (tn_of tn) n)
+          (ap (eq_by_cmp nat_cmp (tn_of tn)) (sym same_tn)
+          ∙ (eq_by_cmp_equiv nat_cmp_total).refl (tn_of tn)) e
+
+      more : (n : ℕ) → block_of n ≡ block → (b : Bool) → eq_by_cmp nat_cmp (tn_of tn) n ≡ b
+          → (marked_open (known n) ≡ true) ⊎ (has_line left (line_of n) ≡ true)
+          → (marked_open (cond b (Some (and_open (known n))) (known n)) ≡ true)
+          ⊎ (has_line next (line_of n) ≡ true)
+      more n own true e it = inl refl
+      more n own false e (inl it) = inl it
+      more n own false e (inr it) = by_cases (later (line_of n) it)
+        where
+          by_cases : (line_of n ≡ line.number) ⊎ (has_line next (line_of n) ≡ true)
+              → (marked_open (known n) ≡ true) ⊎ (has_line next (line_of n) ≡ true)
+          by_cases (inl here) = absurd (unmarked n e
+              (is ∙ sym (number-made n block line.number own here)))
+          by_cases (inr there) = inr there
+
+-- What a look-up of an open version says.
+pub opened-is : (c : Content) (s : Subject) (o : Option NumberedRow) → IsOpen c s o
+    → is_some o ≡ true → HasOpenRow c s
+opened-is c s None is e = impossible (sym e)
+opened-is c s (Some v) is e = (v.id, v.row, is.0, is.1)
+
+pub closed-is : (c : Content) (s : Subject) (o : Option NumberedRow) → IsOpen c s o
+    → is_some o ≡ false → HasOpenRow c s → ⊥
+closed-is c s None is e has = is has.0 has.1 has.2 has.3
+closed-is c s (Some v) is e has = impossible e
+
+-- ---- the marks of all numbers
+
+module _ (t : Tables) (block : ℕ) (indexed : AreIndexed t)
+    (low high : SubjectVersionImpl) (is_low : subject_version_of low ≡ lowest block)
+    (is_high : subject_version_of high ≡ highest block)
+    (in_force : List (SubjectVersionImpl × Unit {0}))
+    (are_held : in_force ≡ entries_between (on subject_version_of subject_version_cmp)
+    (Included low)
+    (Included high) t.holds.keys.entries) (first : FinMap nat_cmp Marks)
+    (is_first : first ≡ marked only_in_force (λ row. row.holds) block (rows_of t.versions) in_force
+    empty) where
+  abbrev any_held : ℕ → Bool
+  any_held n = list_any (names only_in_force (λ row. row.holds) block (rows_of t.versions) n)
+      in_force
+
+  first-in_force : (n : ℕ) (see : Option Marks → Bool)
+      → ((o : Option Marks) → see (Some (only_in_force o)) ≡ true) → see None ≡ false
+      → see (get first n) ≡ any_held n
+  first-in_force n see says none =
+      ap (λ m. see (get m n)) is_first
+      ∙ met only_in_force (λ row. row.holds) block (rows_of t.versions) n see says in_force empty
+      ∙ ap (λ b. b || any_held n) (ap see (get-empty nat_cmp n) ∙ none)
+
+  none-opened : (n : ℕ) → marked_open (get first n) ≡ false
+  none-opened n =
+      ap (λ m. marked_open (get m n)) is_first
+      ∙ never only_in_force (λ row. row.holds) block (rows_of t.versions) n
+      marked_open (λ o. refl) in_force empty (ap marked_open (get-empty nat_cmp n))
+
+  -- Before the loop over the lines no open number is marked.
+  pub all-left : AreMarkedBefore (content_of t) block first first
+      (lines_of t.opens.lines.entries block)
+  all-left = record {
+    in_force = λ n. refl;
+    in_use = λ n. first-in_force n is_some (λ o. refl) refl ∙ sym (or_false (any_held n))
+        ∙ (λ i. sym (first-in_force n marked_in_force (λ o. refl) refl) i
+        || sym (none-opened n) i);
+    opened = λ n it. true-false (marked_open (get first n)) it (none-opened n);
+    rest = λ n own has. inr (subst (λ b. is_lined t.opens.lines.entries b (line_of n) ≡ true) own
+        (t.opens.are_lined n has.0 (indexed.1 has.0 has.1 (subject_version has.0 (Number n)) has.2
+        (ap (option_map (subject_version has.0)) has.3)).1));
+  }
+
+  pub marks-are : (m : FinMap nat_cmp Marks) → AreMarkedBefore (content_of t) block first m []
+      → AreMarks (content_of t) block m
+  marks-are m all = record {
+    in_force = λ n. reflects block low high is_low is_high (λ row. row.holds) (rows_of t.versions)
+        t.holds.keys
+        indexed.0
+        in_force are_held n (marked_in_force (get m n))
+        (all.in_force n ∙ first-in_force n marked_in_force (λ o. refl) refl);
+    opened = λ n. by_cases n (marked_open (get m n)) (all.opened n)
+        (λ p. all.rest n p.0 p.1);
+    in_use = all.in_use;
+  }
+    where
+      none : {b : Bool} → (b ≡ true) ⊎ (false ≡ true) → b ≡ true
+      none (inl e) = e
+      none (inr f) = impossible (sym f)
+
+      by_cases : (n : ℕ) (b : Bool)
+          → (b ≡ true → (block_of n ≡ block) × HasOpenRow (content_of t) (Number n))
+          → ((block_of n ≡ block) × HasOpenRow (content_of t) (Number n)
+          → (b ≡ true) ⊎ (false ≡ true))
+          → Reflects b ((block_of n ≡ block) × HasOpenRow (content_of t) (Number n))
+      by_cases n true there back = there refl
+      by_cases n false there back = λ p. impossible (sym (none (back p)))
 
 -- ---- the list
 

@@ -8,10 +8,12 @@ use Rattle.std.specs.Cmp.{nat_cmp_total, tied_itself}
 use Rattle.std.specs.FinMap.{get, nat_cmp-IsAntisymmetric}
 use Rattle.model.specs.Content.{Content, VersionRow}
 use Rattle.store.specs.Tables.{content_of, with_version, SubjectVersion, DueVersion, subject_version, subject_version_of, due_version, due_version_of, AreIndexed, KeepIndexes, KeepOtherVersions, AreKeysOf, AreNoKeys, AreUnneeded, HaveKeys, HasRowKeys, IndexKey, id_of, HasIndexKey, IsKeyOf, IsOneOf}
+use Rattle.store.specs.SubjectRows.{versions_of}
 use Rattle.store.specs.Tables.IndexKey.{InForceKey, OpenKey, DeadlineKey}
 use Rattle.store.specs.declared.keys.VersionKeys.{VersionKeys}
 use Rattle.store.specs.declared.tables.Tables.{Tables}
 use Rattle.store.proofs.IndexKeys.{stands-kept, stands-other, stands-has, rest-own, rest-other, rest-either}
+use Rattle.store.proofs.SubjectIndexes.{key-other, key-there}
 use Rattle.store.proofs.Maps.{get-set}
 use Rattle.store.proofs.Orders.{subject_version_total, subject_version_exact, due_version_total, due_version_exact}
 
@@ -23,9 +25,7 @@ stands-in old new keeps (InForceKey k) had =
     stands-kept subject_version_of subject_version_total subject_version_exact old.holds.keys
     new.holds.keys
     keeps.0 k had
-stands-in old new keeps (OpenKey k) had =
-    stands-kept subject_version_of subject_version_total subject_version_exact old.opens new.opens
-    keeps.1 k had
+stands-in old new keeps (OpenKey k) had = keeps.1 k had
 stands-in old new keeps (DeadlineKey k) had =
     stands-kept due_version_of due_version_total due_version_exact old.deadlines new.deadlines
     keeps.2 k had
@@ -39,9 +39,7 @@ stands-beside old new keys keeps (InForceKey k) other had =
     keys.in_force keeps.0 k (λ t is e. other (ap (option_map subject_version_of) is
     ∙ ap (λ l. Some l) e)) had
 stands-beside old new keys keeps (OpenKey k) other had =
-    stands-other subject_version_of subject_version_total subject_version_exact old.opens new.opens
-    keys.opened keeps.1 k (λ t is e. other (ap (option_map subject_version_of) is
-    ∙ ap (λ l. Some l) e)) had
+    keeps.1 k had (key-other keys.opened k other)
 stands-beside old new keys keeps (DeadlineKey k) other had =
     stands-other due_version_of due_version_total due_version_exact old.deadlines new.deadlines
     keys.deadline keeps.2 k (λ t is e. other (ap (option_map due_version_of) is
@@ -63,8 +61,7 @@ one-there t keys have (InForceKey k) =
     stands-has subject_version_of subject_version_total subject_version_exact t.holds.keys
     keys.in_force k have.in_force
 one-there t keys have (OpenKey k) =
-    stands-has subject_version_of subject_version_total subject_version_exact t.opens keys.opened k
-    have.opened
+    key-there (versions_of t.opens.ids.entries) keys.opened k have.opened
 one-there t keys have (DeadlineKey k) =
     stands-has due_version_of due_version_total due_version_exact t.deadlines keys.deadline k
     have.deadline

@@ -43,9 +43,6 @@ number_at column block (Some row) = number_of block (column row)
 abbrev pub number_in_force : ℕ → Option VersionRow → Option ℕ
 number_in_force = number_at (λ row. row.holds)
 
-abbrev pub open_number : ℕ → Option VersionRow → Option ℕ
-open_number = number_at (λ row. row.opens)
-
 -- ---- the marks of a number
 
 abbrev pub marked_in_force : Option Marks → Bool

@@ -7,9 +7,10 @@ ghost use Rattle.numbers.specs.Abstraction.{subject_of};
 ghost use Rattle.settle.specs.Reads.{AreInBlock};
 ghost use Rattle.settle.specs.Abstraction.{block_of};
 ghost use Rattle.store.specs.Tables.{content_of, subject_version_of, AreIndexed};
-ghost use Rattle.store.specs.BlockRows.{lowest, highest, tn_of, own_number, number_in_force, open_number, and_open, marks_of, AreMarks, number_in_use};
+ghost use Rattle.store.specs.BlockRows.{lowest, highest, tn_of, own_number, number_in_force, and_open, marks_of, AreMarks, number_in_use};
 
 use crate::keys::SubjectVersion;
+use crate::reads::open_version;
 use crate::tables::Tables;
 use numbers::{BlockId, Line, Subject, Tn};
 use std::alloc::{AllocError, Global};
@@ -55,14 +56,6 @@ fn number_in_force(tables: &Tables, block: BlockId, id: u64) -> Option<Tn>
     own_number(block, tables.versions.get(id)?.holds()?)
 }
 
-// Returns the number of the block that the version with this id opens, if it opens one.
-fn open_number(tables: &Tables, block: BlockId, id: u64) -> Option<Tn>
-    ensures { option_map tn_of result
-        ≡ open_number block.number (get (content_of tables.now).versions id) }
-{
-    own_number(block, tables.versions.get(id)?.opens()?)
-}
-
 // Returns the marks of a number with an open version added.
 fn and_open(known: Option<Marks>) -> Marks
     ensures { result ≡ and_open known }
@@ -93,8 +86,9 @@ fn marks_in_use(
             let _ = numbers.insert(tn, marks)?;
         }
     }
-    for (key, _) in tables.opens.range(lowest(block)..=highest(block)) {
-        if let Some(tn) = open_number(tables, block, key.id) {
+    for line in tables.opens.lines_of(block) {
+        let tn = block.tn(*line);
+        if open_version(tables, Subject::Number(tn)).is_some() {
             let marks = and_open(numbers.get(&tn).copied());
             let _ = numbers.insert(tn, marks)?;
         }

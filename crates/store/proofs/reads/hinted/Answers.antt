@@ -3,7 +3,6 @@ use Rattle.std.specs.FinMap.{get}
 use Rattle.model.specs.Content.{VersionRow}
 use Rattle.store.proofs.Found.{subject-is}
 use Rattle.store.specs.VersionRows.{rows_of}
-use Rattle.store.specs.Tables.{content_of}
 use Rattle.store.proofs.reads.hinted.Goals as goal
 
 pub returns-then-eq : goal.returns-then-eq
