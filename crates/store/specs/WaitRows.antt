@@ -16,6 +16,7 @@ use Rattle.numbers.specs.declared.spid.Spid.{Spid}
 use Rattle.model.specs.Content.{WaitKey, wait_cmp, wait_key}
 use Rattle.delivery.specs.declared.download.DownloadKey.{DownloadKey as DownloadKeyImpl}
 use Rattle.settle.specs.Abstraction.{spid_of}
+use Rattle.settle.specs.Lists.{items_of}
 use Rattle.store.specs.Lists.{is_subject}
 use Rattle.store.specs.Maps.{seen_entries}
 use Rattle.store.specs.declared.keys.RowKey.{RowKey as RowKeyImpl}
@@ -64,7 +65,7 @@ abbrev pub row_key_of : RowKeyImpl → Download
 row_key_of k = record { minute = k.minute; id = k.id; attempt = k.attempt }
 
 abbrev pub waiting_of : WaitingImpl → Waiting
-waiting_of w = (subject_of w.subject, map spid_of w.carriers.items)
+waiting_of w = (subject_of w.subject, map spid_of (items_of w.carriers))
 
 abbrev pub rows_of : List (RowKeyImpl × WaitingImpl) → FinMap download_cmp Waiting
 rows_of es = from_entries {R = download_cmp} (seen_entries row_key_of waiting_of es)

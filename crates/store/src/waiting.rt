@@ -1,24 +1,25 @@
 //! The carriers for which one broadcast is pending.
-ghost use Rattle.std.specs.Prelude.{◌≡◌, ◌==◌, ◌++◌, ◌∷◌, [], Some, IfOk, OnOk, OnErr, not, filter, option_map};
+ghost use Rattle.std.specs.Prelude.{◌≡◌, ◌==◌, ◌++◌, ◌∷◌, [], Some, IfOk, IfSome, OnOk, OnErr, not, filter, option_map};
 ghost use Rattle.std.specs.List.{list_any};
+ghost use Rattle.std.specs.Option.{option_to_list};
 ghost use Rattle.numbers.specs.Abstraction.{subject_of};
 ghost use Rattle.numbers.specs.declared.spid.Spid.{Spid};
+ghost use Rattle.settle.specs.Lists.{items_of};
 ghost use Rattle.store.specs.WaitRows.{waiting_of, awaited, IsFirst, IsAdded, IsWithout};
 
 use numbers::{Spid, Subject};
+use settle::Few;
 use std::alloc::{AllocError, Global};
 
-// The number of carriers that a new row has room for.
-const FEW: usize = 4;
+// The number of carriers that a row gets room for with its third one, so that most rows grow once.
+const MANY: usize = 16;
 
-// The number of carriers that a row with `FEW` gets more room for, so that most rows grow once.
-const MORE: usize = 12;
-
-/// A broadcast's subject, and the carriers for which the broadcast is pending.
+/// A broadcast's subject, and the carriers for which the broadcast is pending. Up to two carriers
+/// need no memory beside the row.
 #[derive(Drop)]
 pub struct Waiting {
     pub subject: Subject,
-    pub carriers: Vec<Spid>,
+    pub carriers: Few<Spid>,
 }
 
 /// Returns whether the carrier is among `carriers`.
@@ -28,34 +29,77 @@ pub fn is_among(carrier: Spid, carriers: &[Spid]) -> bool
     carriers.iter().any(|each| carrier.number == each.number)
 }
 
-fn remove_carrier(carrier: Spid, carriers: &mut Vec<Spid>)
-    ensures { carriers.new.items
-        ≡ filter (λ (k : Spid). not (carrier.number == k.number)) carriers.old.items }
+// Returns the carrier unless it is `removed`.
+fn other(removed: Spid, carrier: Spid) -> Option<Spid>
+    ensures { option_to_list result
+        ≡ filter (λ (k : Spid). not (removed.number == k.number)) (carrier ∷ []) }
 {
-    carriers.retain(|each| carrier.number != each.number);
+    if removed.number == carrier.number {
+        None
+    } else {
+        Some(carrier)
+    }
+}
+
+// Returns the carriers as a list that needs no memory, if there are at most two.
+fn in_place(carriers: &[Spid]) -> Option<Few<Spid>>
+    ensures { IfSome result (λ few. items_of few ≡ carriers.now) }
+{
+    match carriers {
+        [] => Some(Few::Empty),
+        [only] => Some(Few::One([*only])),
+        [first, second] => Some(Few::Two([*first, *second])),
+        _ => None,
+    }
+}
+
+// Removes a carrier. If at most two stay, frees the memory beside the row.
+fn remove_carrier(carrier: Spid, carriers: &mut Few<Spid>)
+    ensures { items_of carriers.new
+        ≡ filter (λ (k : Spid). not (carrier.number == k.number)) (items_of carriers.old) }
+{
+    match carriers {
+        Few::Empty => {}
+        Few::One(own) => *carriers = Few::of(other(carrier, own[0]), None),
+        Few::Two(own) => {
+            *carriers = Few::of(other(carrier, own[0]), other(carrier, own[1]));
+        }
+        Few::Many(all) => {
+            all.retain(|each| carrier.number != each.number);
+            if let Some(few) = in_place(all.as_slice()) {
+                *carriers = few;
+            }
+        }
+    }
 }
 
 // Adds a carrier. Changes nothing if an allocation fails.
-fn push_carrier(carrier: Spid, carriers: &mut Vec<Spid>) -> Result<(), AllocError>
-    ensures ok { OnOk result (carriers.new.items ≡ carriers.old.items ++ carrier ∷ []) }
-    ensures err { OnErr result (carriers.new.items ≡ carriers.old.items) }
+fn push_carrier(alloc: Global, carrier: Spid, carriers: &mut Few<Spid>) -> Result<(), AllocError>
+    ensures ok { OnOk result (items_of carriers.new ≡ items_of carriers.old ++ carrier ∷ []) }
+    ensures err { OnErr result (items_of carriers.new ≡ items_of carriers.old) }
 {
-    if carriers.len() == FEW {
-        carriers.reserve(MORE)?;
+    match carriers {
+        Few::Two(own) => {
+            let mut many = Vec::with_capacity(alloc, MANY)?;
+            many.push(own[0])?;
+            many.push(own[1])?;
+            many.push(carrier)?;
+            *carriers = Few::Many(many);
+            Ok(())
+        }
+        _ => carriers.push(alloc, carrier),
     }
-    carriers.push(carrier)?;
-    Ok(())
 }
 
 impl Waiting {
     /// Creates the row of a broadcast that is pending for one carrier.
-    pub fn of(alloc: Global, carrier: Spid, subject: Subject) -> Result<Waiting, AllocError>
-        ensures { IfOk result
-            (λ row. IsFirst carrier.number (subject_of subject) (waiting_of row)) }
+    pub fn of(carrier: Spid, subject: Subject) -> Waiting
+        ensures { IsFirst carrier.number (subject_of subject) (waiting_of result) }
     {
-        let mut carriers = Vec::with_capacity(alloc, FEW)?;
-        carriers.push(carrier)?;
-        Ok(Waiting { subject, carriers })
+        Waiting {
+            subject,
+            carriers: Few::One([carrier]),
+        }
     }
 
     /// Returns the subject if the broadcast is pending for the carrier.
@@ -63,7 +107,7 @@ impl Waiting {
         ensures { option_map subject_of result
             ≡ awaited (Some (waiting_of self.now)) carrier.number }
     {
-        if is_among(carrier, &self.carriers) {
+        if is_among(carrier, self.carriers.as_slice()) {
             Some(self.subject)
         } else {
             None
@@ -72,7 +116,12 @@ impl Waiting {
 
     /// Adds a carrier, and returns the subject if the carrier was there already. A broadcast has
     /// one subject, so another one is refused like a failed allocation.
-    pub fn add(&mut self, carrier: Spid, subject: Subject) -> Result<Option<Subject>, AllocError>
+    pub fn add(
+        &mut self,
+        alloc: Global,
+        carrier: Spid,
+        subject: Subject,
+    ) -> Result<Option<Subject>, AllocError>
         ensures before { IfOk result (λ before. option_map subject_of before
             ≡ awaited (Some (waiting_of self.old)) carrier.number) }
         ensures added { IfOk result
@@ -85,7 +134,7 @@ impl Waiting {
         }
         let before = self.subject_for(carrier);
         if before.is_none() {
-            push_carrier(carrier, &mut self.carriers)?;
+            push_carrier(alloc, carrier, &mut self.carriers)?;
         }
         Ok(before)
     }

@@ -199,9 +199,9 @@ impl Waits {
     {
         let broadcast = broadcast_of(key);
         if let Some(row) = self.rows.get_mut(&broadcast) {
-            return row.add(key.carrier, subject);
+            return row.add(self.alloc, key.carrier, subject);
         }
-        let row = Waiting::of(self.alloc, key.carrier, subject)?;
+        let row = Waiting::of(key.carrier, subject);
         add_keys(&mut self.about, &mut self.order, self.alloc, subject, key)?;
         match self.rows.insert(broadcast, row) {
             Ok(_) => Ok(None),
@@ -223,7 +223,7 @@ impl Waits {
         };
         let before = row.subject_for(key.carrier);
         row.take(key.carrier);
-        if row.carriers.is_empty() {
+        if row.carriers.as_slice().is_empty() {
             let subject = row.subject;
             let _ = self.rows.remove(&broadcast);
             remove_keys(&mut self.about, &mut self.order, subject, key);

@@ -86,22 +86,22 @@ returns-in-Some-clause-err c =
 pub invariant_of-self-in-Ok : goal.invariant_of-self-in-Ok
 invariant_of-self-in-Ok c =
     let row = row-written c.self.inside.rows.entries c.insert.new.self.entries
-    c.broadcast_of-broadcast.result (wait_key_of c.args.key) (Some c.in_ok-row.row)
+    c.broadcast_of-broadcast.result (wait_key_of c.args.key) (Some c.of-row.result)
     c.broadcast_of-broadcast.ensures
     (subst (λ m. IsPut m.entries c.insert.new.self.entries c.broadcast_of-broadcast.result
-    (Some c.in_ok-row.row)) c.get_mut.follows.holds-at-none c.in-Ok.ensures.updates.0) in (
+    (Some c.of-row.result)) c.get_mut.follows.holds-at-none c.in-Ok.ensures.updates.0) in (
       agrees-new (rows_of c.self.inside.rows.entries) (about_of c.self.inside.about.entries)
           (about_of c.add_keys.new.about.entries) (download_of (wait_key_of c.args.key))
-          c.self.invariant.0 (rows_of c.insert.new.self.entries) (waiting_of c.in_ok-row.row) row
+          c.self.invariant.0 (rows_of c.insert.new.self.entries) (waiting_of c.of-row.result) row
           (row-at c.self.inside.rows.entries c.broadcast_of-broadcast.result
           (wait_key_of c.args.key) None c.broadcast_of-broadcast.ensures (search rules))
           (subst (λ s. IsKey (about_of c.self.inside.about.entries)
           (about_of c.add_keys.new.about.entries) s (download_of (wait_key_of c.args.key)) true)
-          (sym c.in_ok-row.ensures.same) c.in_ok-add_keys.ensures.ok.0),
+          (sym c.of-row.ensures.same) c.in_ok-add_keys.ensures.ok.0),
       keys-changed (rows_of c.self.inside.rows.entries) (order_of c.self.inside.order)
           c.self.invariant.1 (download_of (wait_key_of c.args.key))
           (rows_of c.insert.new.self.entries) (order_of c.add_keys.new.order)
-          (Some (waiting_of c.in_ok-row.row)) (Some tt) row c.in_ok-add_keys.ensures.ok.1 refl,
+          (Some (waiting_of c.of-row.result)) (Some tt) row c.in_ok-add_keys.ensures.ok.1 refl,
     )
 
 pub returns-in-Ok-clause-before : goal.returns-in-Ok-clause-before
@@ -113,14 +113,14 @@ returns-in-Ok-clause-before c =
 pub returns-in-Ok-clause-ok : goal.returns-in-Ok-clause-ok
 returns-in-Ok-clause-ok c =
     let row = row-written c.self.inside.rows.entries c.insert.new.self.entries
-    c.broadcast_of-broadcast.result (wait_key_of c.args.key) (Some c.in_ok-row.row)
+    c.broadcast_of-broadcast.result (wait_key_of c.args.key) (Some c.of-row.result)
     c.broadcast_of-broadcast.ensures
     (subst (λ m. IsPut m.entries c.insert.new.self.entries c.broadcast_of-broadcast.result
-    (Some c.in_ok-row.row)) c.get_mut.follows.holds-at-none c.in-Ok.ensures.updates.0) in
+    (Some c.of-row.result)) c.get_mut.follows.holds-at-none c.in-Ok.ensures.updates.0) in
     first-waits (rows_of c.self.inside.rows.entries) (rows_of c.insert.new.self.entries)
-    (wait_key_of c.args.key) (subject_of c.args.subject) (waiting_of c.in_ok-row.row)
+    (wait_key_of c.args.key) (subject_of c.args.subject) (waiting_of c.of-row.result)
     (row-at c.self.inside.rows.entries c.broadcast_of-broadcast.result (wait_key_of c.args.key) None
-    c.broadcast_of-broadcast.ensures (search rules)) row c.in_ok-row.ensures
+    c.broadcast_of-broadcast.ensures (search rules)) row c.of-row.ensures
     ∙ ap (λ (m : FinMap wait_cmp Subject). set m (wait_key_of c.args.key)
     (Some (subject_of c.args.subject))) c.self.view_is
 
@@ -144,12 +144,6 @@ invariant_of-self-in-Err c =
     )
 
 -- ---- nothing is added
-
-pub invariant_of-self-in_err-row : goal.invariant_of-self-in_err-row
-invariant_of-self-in_err-row c =
-    subst (λ m. Agrees (rows_of m.entries) (about_of c.self.inside.about.entries)
-    × HasKeysOf (rows_of m.entries) (order_of c.self.inside.order))
-    (sym c.get_mut.follows.holds-at-none) c.self.invariant
 
 pub invariant_of-self-in_err-add_keys : goal.invariant_of-self-in_err-add_keys
 invariant_of-self-in_err-add_keys c =

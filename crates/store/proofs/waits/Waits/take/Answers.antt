@@ -3,6 +3,7 @@ use Rattle.std.specs.FinMap.{FinMap, get}
 use Rattle.numbers.specs.Subjects.{Subject}
 use Rattle.model.specs.Content.{wait_cmp}
 use Rattle.settle.specs.Abstraction.{spid_of, wait_key_of}
+use Rattle.settle.specs.Lists.{items_of}
 use Rattle.store.specs.Maps.{set}
 use Rattle.store.specs.About.{IsKey, about_of}
 use Rattle.store.specs.QueueRows.{HasKeysOf, order_of}
@@ -64,8 +65,8 @@ returns-then-is_empty-clause-taken c =
     (c.get_mut.follows.lender c.take.new.self).entries c.remove.new.self.entries
     c.broadcast_of-broadcast.result (wait_key_of c.args.key) c.take.new.self
     c.broadcast_of-broadcast.ensures (search rules) c.remove.ensures.updates.0 in
-    let nobody : c.take.new.self.carriers.items ≡ [] =
-    no_members c.take.new.self.carriers.items (search rules) in
+    let nobody : items_of c.take.new.self.carriers ≡ [] =
+    no_members (items_of c.take.new.self.carriers) (search rules) in
     gone-waits (rows_of c.self.inside.rows.entries) (rows_of c.remove.new.self.entries)
     (wait_key_of c.args.key) (waiting_of c.in-Some.row.now) (waiting_of c.take.new.self)
     (row-at c.self.inside.rows.entries c.broadcast_of-broadcast.result (wait_key_of c.args.key)
