@@ -3,7 +3,6 @@ use Rattle.numbers.specs.Abstraction.{subject_of}
 use Rattle.settle.specs.Reads.{IsInForce}
 use Rattle.store.specs.VersionRows.{rows_of}
 use Rattle.store.specs.Tables.{content_of}
-use Rattle.store.proofs.Found.{is-in-force}
 use Rattle.store.proofs.Held.{none-held, if-none}
 use Rattle.store.proofs.reads.version_in_force.Goals as goal
 
@@ -15,8 +14,3 @@ returns-in_err-id c =
     (none-held (rows_of c.args.tables.now.versions) c.args.tables.now.holds.keys (subject_of
     c.args.subject)
     (if-none c.last.result none c.last.ensures) c.requires.0)
-
-pub returns-in-None : goal.returns-in-None
-returns-in-None c = is-in-force (content_of c.args.tables.now) (subject_of c.args.subject)
-    c.listed.result
-    (c.listed.ensures (λ row. row.holds) (λ row subject call. search rules) c.requires.0)
