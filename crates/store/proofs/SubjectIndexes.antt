@@ -6,7 +6,7 @@ use Rattle.std.specs.Map.{lookup}
 use Rattle.std.specs.Ordering.{nat_cmp}
 use Rattle.std.specs.BTreeMap as tree
 use Rattle.std.specs.BTreeMap.{BTreeMap, is_at}
-use Rattle.std.specs.Global.{Vec}
+use Rattle.std.specs.Global.{Box, Vec}
 use Rattle.std.proofs.lemmas.List.{take-append-drop}
 use Rattle.std.proofs.lemmas.List.Folds.{list_any-append, list_any_at}
 use Rattle.std.specs.FinMap.{nat_cmp-IsAntisymmetric}
@@ -28,12 +28,12 @@ use Rattle.store.proofs.SubjectsListed.{found-entry, key-among}
 -- ---- one subject's ids
 
 -- An id of the ordered map is among its keys.
-pub id-among : (m : BTreeMap ℕ (Unit {0})) (id : ℕ) → has_id (More m) id ≡ true
-    → Among id (tree.keys m)
+pub id-among : (m : Box (BTreeMap ℕ (Unit {0}))) (id : ℕ) → has_id (More m) id ≡ true
+    → Among id (tree.keys m.value)
 id-among m id has =
-    let e = found-entry (is_at (nat_cmp id)) m.entries (some (tree.get nat_cmp m id) has) in
-    subst (λ k. Among k (tree.keys m)) (sym (nat_cmp-IsAntisymmetric id e.0.0 (tied _ e.2)))
-    (key-among e.0 m.entries e.1)
+    let e = found-entry (is_at (nat_cmp id)) m.value.entries (some (tree.get nat_cmp m.value id) has) in
+    subst (λ k. Among k (tree.keys m.value)) (sym (nat_cmp-IsAntisymmetric id e.0.0 (tied _ e.2)))
+    (key-among e.0 m.value.entries e.1)
   where
     some : (o : Option (Unit {0})) → is_some o ≡ true → IsSome o
     some (Some u) is = refl

@@ -19,7 +19,7 @@ use Rattle.store.specs.declared.subject_index.Ids.TheVariants.{One, More}
 -- Whether the id is one of these.
 abbrev pub has_id : Ids → ℕ → Bool
 has_id (One own) id = own == id
-has_id (More more) id = is_some (tree.get nat_cmp more id)
+has_id (More more) id = is_some (tree.get nat_cmp more.value id)
 
 -- Whether a subject has ids, and this one is among them.
 abbrev pub has_id_at : Option Ids → ℕ → Bool

@@ -13,11 +13,11 @@ use numbers::{BlockId, Line, Subject};
 use std::alloc::{AllocError, Global};
 use std::collections::{BTreeMap, HashMap};
 
-/// The ids of a subject's versions. Most subjects have one.
+/// The ids of a subject's versions. Most subjects have one, so that more are boxed.
 #[derive(Drop)]
 pub enum Ids {
     One(u64),
-    More(BTreeMap<u64, ()>),
+    More(Box<BTreeMap<u64, ()>>),
 }
 
 impl Ids {
@@ -32,7 +32,7 @@ impl Ids {
                     let mut more = BTreeMap::new(alloc);
                     let _ = more.insert(*own, ())?;
                     let _ = more.insert(id, ())?;
-                    *self = Ids::More(more);
+                    *self = Ids::More(Box::new(alloc, more)?);
                 }
             }
             Ids::More(more) => {
