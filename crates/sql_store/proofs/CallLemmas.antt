@@ -1,10 +1,9 @@
 -- What calls leave of the connection, whatever their results.
 use Rattle.std.proofs.Common.{◌≡◌, ◌⊎◌, inl, inr, ℕ, List, [], Bool, true, false, Option, Some, None, refl, sym, ap, subst, ◌∙◌, IsTrue, true≢false, Result, Ok, Err, arith}
-use Rattle.std.specs.Prelude.{IfOk, IfErr}
+use Rattle.std.specs.Prelude.{IfOk, IfErr, OnErr, OnOk, is_ok}
 pub use Rattle.sql_store.specs.Store.{clean_if_open}
 use Rattle.model.specs.Content.{Content}
 use Rattle.sqlite.specs.Effect.{Database}
-use Rattle.sqlite.specs.Steps.{FailsToCommit}
 use Rattle.sqlite.specs.Order.{Row}
 use Rattle.sqlite.specs.Tree.{Trees}
 use Rattle.sqlite.specs.declared.error.Error.{Error}
@@ -14,7 +13,7 @@ use Rattle.sqlite.specs.Store.{Ghosts}
 use Rattle.sqlite.specs.Held.{Held, state}
 use Rattle.sqlite.specs.State.{State, HasCleanDisk, IsUnchanged, IsRolledBack, Survives, Shown, ShowsRows, FailsToQuery, FailsToShow, IsNotRun, CommitsShowing, ExecutesInside, Executes, Shows}
 use Rattle.sqlite_resolve.specs.Compile.{first}
-use Rattle.sqlite.proofs.Callers.{IsPlain, survives_begin, reads_as}
+use Rattle.sqlite.proofs.Callers.{IsPlain, reads_as}
 use Rattle.sqlite.proofs.StateLemmas.{survives_then, survives_weaker}
 use Rattle.sqlite.specs.Query.{IsAnswer}
 use Rattle.sqlite.specs.declared.types.Value.TheVariants.{Null}
@@ -30,6 +29,8 @@ use Rattle.sql_rows.proofs.TableLemmas.{removed_shaped}
 use Rattle.sql_rows.proofs.PutLemmas.{Became}
 use Rattle.sql_rows.proofs.StatementLemmas.{Selects, query_is, query_plain, query_selects, query_unlisted}
 use Rattle.sql_store.proofs.Showing.{ShowsNone, never_shows, understood_none}
+use Rattle.sql_store.proofs.TransactionLemmas.{undone_of}
+use Rattle.sql_store.specs.Transactions.{HasEnded, IsUndone}
 use Rattle.sql_store.specs.Store.{CommitLeaves, settled, content_at, HasStoreTables, IsSame, HasQueried, HasCommitted, IsInTransaction, Stepped, HasCommittedNothing, AppliesInTransaction, IsTransactionProgress, WritesInTransaction}
 
 module _ (sql : List ℕ) (params : Row) (old new : State) where
@@ -180,20 +181,19 @@ looked_ours old new answered ours looked up =
       same_trees = ap (λ (d : Database). d.trees) (same.now ∙ settled old our ∙ sym same.committed);
     }
 
--- Whether a query answers or fails, the tables are still the store's.
-pub queried_ours : {A : Type 0} (query : Query) (params : Row) (old new : State)
+-- Whether a query answers or fails, it only reads.
+pub looked : {A : Type 0} (query : Query) (params : Row) (old new : State)
     → (ours : IsTrue old.is_open → HasStoreTables old) → (result : Result A Error)
     → (rows : A → List Row) → (IsTrue new.is_open → HasCleanDisk new)
     → (HasCleanDisk new
     → IfOk result (λ a. Shown (query_text query) params old new (rows a)))
     → (HasCleanDisk new → IfErr result (FailsToQuery (query_text query) params old new))
     → Survives old new (CommitsShowing (query_text query) params old)
-    → IsTrue new.is_open → HasStoreTables new
-queried_ours query params old new ours (Ok a) rows clean shown fails survives =
-    looked_ours old new true ours (looked_ok query params old new ours (rows a) clean shown
-    survives)
-queried_ours query params old new ours (Err e) rows clean shown fails survives =
-    looked_ours old new false ours (looked_err query params old new ours e clean fails survives)
+    → HasQueried old new (is_ok result)
+looked query params old new ours (Ok a) rows clean shown fails survives =
+    looked_ok query params old new ours (rows a) clean shown survives
+looked query params old new ours (Err e) rows clean shown fails survives =
+    looked_err query params old new ours e clean fails survives
 
 -- Two reads in order are a read.
 pub looked_then : (a b d : State) (answered : Bool) → HasQueried a b true → HasQueried b d answered
@@ -532,39 +532,45 @@ pub record Begun (old new : State) (done : Bool) (change : Content → Content) 
   pub kept : IsTrue new.is_open → HasCommittedNothing old new
   pub survives : Survives old new (λ _. ⊥)
 
--- `transaction` does nothing to the store.
-pub begun : {S : Type 0} (g : Ghosts S) (old mid : Held S) (new : State) (done : Bool)
-    (change : Content → Content) → mid ≡ record old { in_transaction = true }
-    → AppliesInTransaction (state g mid) new done change
-    → (IsTrue (state g old).is_open → HasStoreTables (state g old))
-    → Begun (state g old) new done change
-begun g old mid new done change e makes ours =
-    subst (λ h. AppliesInTransaction (state g h) new done change
-    → Begun (state g old) new done change) (sym e) (λ m. record {
-      made = λ ok clean was.
-          let our = ours was in
-          let s = m.made ok clean (record {
-            is_open = was;
-            inside = refl;
-            schema = our.schema;
-            shaped = our.shaped;
-          }) in
-          record { inside = s.inside; committed = s.committed; is = s.is };
-      kept = λ up. let k = m.kept up in record { was_open = k.was_open; committed = k.committed };
-      survives = survives_begin g old new (λ _. ⊥) m.survives;
-    }) makes
+-- The transaction has begun, and then the rows are written.
+pub begun : (old mid new : State) (done : Bool) (change : Content → Content)
+    → (HasCleanDisk mid → Shows old mid old.now old.committed true)
+    → (IsTrue mid.is_open → HasCleanDisk mid) → Survives old mid (λ _. ⊥)
+    → AppliesInTransaction mid new done change → (IsTrue old.is_open → HasStoreTables old)
+    → Begun old new done change
+begun old mid new done change shows clean_of survives m ours = record {
+  made = λ ok clean was.
+      let s = shows (earlier old mid new m.survives clean) in
+      let our = ours was in
+      let step = m.made ok clean (record {
+        is_open = s.is_open;
+        inside = s.mode;
+        schema = ap (λ (d : Database). d.schema) s.now_is ∙ our.schema;
+        shaped = subst (λ (d : Database). AreShaped d.trees) (sym s.now_is) our.shaped;
+      }) in
+      record {
+        inside = step.inside;
+        committed = step.committed ∙ s.committed_is;
+        is = step.is ∙ ap (λ (d : Database). change (content_in d.trees)) s.now_is;
+      };
+  kept = λ up.
+      let k = m.kept up in
+      let s = shows (clean_of k.was_open) in
+      record { was_open = s.was_open; committed = k.committed ∙ s.committed_is };
+  survives = both_survive old mid new survives m.survives;
+}
 
 module _ (old mid new : State) (change : Content → Content) (Becomes : Content → Content
     → Type 0) (ours : IsTrue old.is_open → HasStoreTables old) (clean_of : IsTrue new.is_open
     → HasCleanDisk new) where
-  undone : (done : Bool) → Begun old mid done change → IsRolledBack mid new → IsTrue new.is_open
+  undone : (done : Bool) → Begun old mid done change → IsUndone mid new → IsTrue new.is_open
       → IsSame old new
   undone done b r up =
       let k = b.kept (r.was_open up) in
       record {
         was_open = k.was_open;
-        now = (r.undone up).0 ∙ k.committed ∙ sym (settled old (ours k.was_open));
-        committed = (r.undone up).1 ∙ k.committed;
+        now = r.now up ∙ k.committed ∙ sym (settled old (ours k.was_open));
+        committed = r.committed up ∙ k.committed;
       }
 
   ours_again : IsSame old new → HasStoreTables new
@@ -593,8 +599,27 @@ module _ (old mid new : State) (change : Content → Content) (Becomes : Content
     crash = survives_weaker old new P _ after survives;
   }
 
+  -- The transaction did not begin.
+  pub not_begun : (HasCleanDisk new → IsUnchanged old new ⊎ IsRolledBack old new)
+      → Survives old new (λ _. ⊥) → HasCommitted old new false Becomes
+  not_begun fails survives =
+      unturned false (λ _. ⊥) refl (λ up. by_cases up (fails (clean_of up))) survives
+      (λ clean db none. absurd none)
+    where
+      by_cases : IsTrue new.is_open → IsUnchanged old new ⊎ IsRolledBack old new → IsSame old new
+      by_cases up (inl it) = record {
+        was_open = it.0.was_open;
+        now = it.0.now_is;
+        committed = it.0.committed_is;
+      }
+      by_cases up (inr it) = record {
+        was_open = it.was_open up;
+        now = (it.undone up).0 ∙ sym (settled old (ours (it.was_open up)));
+        committed = (it.undone up).1;
+      }
+
   -- The transaction was rolled back.
-  pub rolled_back : Begun old mid false change → (HasCleanDisk new → IsRolledBack mid new)
+  pub rolled_back : Begun old mid false change → (HasCleanDisk new → IsUndone mid new)
       → Survives mid new (λ _. ⊥) → HasCommitted old new false Becomes
   rolled_back b r survives =
       unturned false (λ _. ⊥) refl (λ up. undone false b (r (clean_of up)) up)
@@ -618,18 +643,17 @@ module _ (old mid new : State) (change : Content → Content) (Becomes : Content
         survives
 
     -- The commit failed.
-    pub uncommitted : (e : Error) → (HasCleanDisk new → FailsToCommit mid new e)
-        → HasCommitted old new false Becomes
-    uncommitted e fails =
+    pub uncommitted : (HasCleanDisk new → HasEnded mid new) → HasCommitted old new false Becomes
+    uncommitted fails =
         unturned false _ refl (λ up. by_cases up (fails (clean_of up))) all_survives
         (λ clean db h. h)
       where
-        by_cases : IsTrue new.is_open → FailsToCommit mid new e → IsSame old new
-        by_cases up (inl it) = undone true b it.3 up
-        by_cases up (inr it) =
-            let k = b.kept it.2.0.was_open in
+        by_cases : IsTrue new.is_open → HasEnded mid new → IsSame old new
+        by_cases up (inr it) = undone true b (undone_of mid new it) up
+        by_cases up (inl it) =
+            let k = b.kept it.1.0.was_open in
             absurd (true≢false (let inside : mid.in_transaction ≡ true =
-            (b.made refl (early (clean_of up)) k.was_open).inside.inside in sym inside ∙ it.1))
+            (b.made refl (early (clean_of up)) k.was_open).inside.inside in sym inside ∙ it.0))
 
     -- The commit succeeded.
     pub committed : (HasCleanDisk new → Shows mid new mid.now mid.now false)
@@ -653,6 +677,13 @@ module _ (old mid new : State) (change : Content → Content) (Becomes : Content
           };
       crash = all_survives;
     }
+
+    -- The commit succeeded or failed.
+    pub concluded : {E : Type 0} (r : Result (Unit {0}) E)
+        → (HasCleanDisk new → OnOk r (Shows mid new mid.now mid.now false))
+        → (HasCleanDisk new → OnErr r (HasEnded mid new)) → HasCommitted old new (is_ok r) Becomes
+    concluded (Ok u) ok err = committed ok
+    concluded (Err e) ok err = uncommitted err
 
 -- ---- a read, and then a commit
 

@@ -2,13 +2,13 @@
 use Rattle.std.proofs.Common.{rules, ◌≡◌, Option, Some, None, IsTrue, true, refl, sym, ap, ◌∙◌, subst}
 use Rattle.std.specs.Prelude.{option_map}
 use Rattle.sqlite.specs.Effect.{Database}
-use Rattle.sqlite.specs.State.{State, HasCleanDisk}
+use Rattle.sqlite.specs.State.{State}
 use Rattle.settle.specs.Abstraction.{clock_row_of}
 use Rattle.settle.specs.declared.rows.ClockRow.{ClockRow}
 use Rattle.sql_rows.specs.Content.{content_in}
 use Rattle.model.specs.Content.{ClockRow as Row, Content}
 use Rattle.settle.specs.Changes.{AppliesChanges, Changes as ChangesModel, clock_after}
-use Rattle.sql_store.specs.Kept.{IsKept, IsKeptIfSome}
+use Rattle.sql_store.specs.Kept.{IsKeptIfSome}
 use Rattle.sql_store.specs.Store.{HasCommitted, HasQueried, content_at}
 
 is_some : Option ClockRow → Type 0

@@ -1,4 +1,5 @@
 pub mod Showing
+pub mod TransactionLemmas
 pub mod CallLemmas
 pub mod KeptLemmas
 pub mod LookupLemmas

@@ -1,7 +1,7 @@
 -- The migration of a file with an earlier schema.
 use Rattle.std.proofs.Common.{subst₂, pos, Err, IfOk, IfErr, ◌≡◌, ◌≢◌, ◌⊎◌, inl, inr, ℕ, List, [], ◌∷◌, map, Bool, true, false, cond, Option, Some, None, Result, Ok, IsTrue, refl, sym, ap, subst, ◌∙◌, true≢false, arith, drop, zero, suc, ◌+◌, ◌<◌, ◌≤◌, length, get_or}
 use Rattle.std.specs.Option.{option_or}
-use Rattle.std.specs.Prelude.{◌==◌, ◌&&◌, IsSome, option_map, option_to_list}
+use Rattle.std.specs.Prelude.{◌==◌, ◌&&◌, IsSome, OnErr, OnOk, is_ok, option_map, option_to_list}
 use Rattle.std.specs.Cmp.{eq_by_cmp_equiv, nat_cmp_total}
 use Rattle.std.specs.FinMap.{FinMap, empty, get, get-empty, get-insert, same_map, nat_cmp-IsAntisymmetric}
 use Rattle.std.specs.Ordering.{eq_by_cmp, nat_cmp}
@@ -13,12 +13,11 @@ use Rattle.sqlite.specs.Listing.{understood}
 use Rattle.sqlite.specs.Order.{Row}
 use Rattle.sqlite.specs.Program.{overlay}
 use Rattle.sqlite.specs.Query.{IsAnswer}
-use Rattle.sqlite.specs.State.{State, CommitsShowing, IsTooLate, Executes, ExecutesInside, FailsToQuery, HasCleanDisk, IsRolledBack, IsUnchanged, Shown, Shows, Survives}
-use Rattle.sqlite.specs.Steps.{FailsToCommit}
+use Rattle.sqlite.specs.State.{State, CommitsShowing, Executes, ExecutesInside, FailsToQuery, HasCleanDisk, IsRolledBack, IsUnchanged, Shown, Shows, Survives}
 use Rattle.sqlite.specs.Store.{Ghosts}
 use Rattle.sqlite.specs.Tree.{Trees}
 use Rattle.sqlite.specs.View.{IsShaped}
-use Rattle.sqlite.proofs.Callers.{IsPlain, reads_as, survives_begin}
+use Rattle.sqlite.proofs.Callers.{IsPlain, reads_as}
 use Rattle.sqlite.proofs.StateLemmas.{survives_then, survives_weaker}
 use Rattle.sqlite_rules.specs.Lists.{Has}
 use Rattle.sqlite_trees.specs.declared.store.Shape.TheVariants.{Table as AsTable}
@@ -58,6 +57,8 @@ use Rattle.sql_store.specs.Store.{IsInTransaction, IsSame, IsSetPut, HasCommitte
 use Rattle.sql_rows.proofs.Casts.{version_cast}
 use Rattle.sql_store.specs.Whole.{EachReads, HasPresentSet}
 use Rattle.sql_store.proofs.WholeLemmas.{moved_read, reads_replaced}
+use Rattle.sql_store.proofs.TransactionLemmas.{undone_of}
+use Rattle.sql_store.specs.Transactions.{HasEnded, IsUndone}
 use Rattle.sql_store.proofs.CallLemmas.{both_survive, call_keeps, earlier, fails_as, fails_open, fails_same, kept_then, looked_then, query_commits_nothing, shown_open, shown_same, shown_unchanged, survives_still}
 
 -- ---- calls in order
@@ -532,8 +533,8 @@ module _ (a b : State) (id : ℕ) where
       → {R : Type 0} (items : R → List Row) (r : Result R Error)
       → (IsTrue b.is_open → HasCleanDisk b)
       → (HasCleanDisk b → IfOk r (λ found. Shown sql params a b (items found)))
-      → (HasCleanDisk b → IfErr r (λ e. FailsToQuery sql params a b e
-      ⊎ IsTooLate sql params a b e)) → IsTrue b.is_open → HasCommittedNothing a b
+      → (HasCleanDisk b → IfErr r (FailsToQuery sql params a b)) → IsTrue b.is_open
+      → HasCommittedNothing a b
   asked_kept text key items (Ok found) clean_of shown fails up = let u =
       asked_unchanged (items found) (subst₂ (λ sql params. Shown sql params a b (items found))
       text key (shown (clean_of up))) in record {
@@ -541,20 +542,18 @@ module _ (a b : State) (id : ℕ) where
         committed = u.0.committed_is;
       }
   asked_kept text key items (Err e) clean_of shown fails up =
-      by_cases (subst₂ (λ sql params. FailsToQuery sql params a b e ⊎ IsTooLate sql params a b e)
-      text key (fails (clean_of up)))
+      left (fails_as one_text one_key a b e (subst₂ (λ sql params. FailsToQuery sql params a b e)
+      text key (fails (clean_of up))))
     where
       left : IsUnchanged a b ⊎ IsRolledBack a b → HasCommittedNothing a b
       left (inl u) = record { was_open = u.0.was_open; committed = u.0.committed_is }
       left (inr u) = record { was_open = u.was_open up; committed = (u.undone up).1 }
 
-      by_cases : FailsToQuery one_text one_key a b e ⊎ IsTooLate one_text one_key a b e
-          → HasCommittedNothing a b
-      by_cases (inl failed) = left (fails_as one_text one_key a b e failed)
-      by_cases (inr late) = record {
-        was_open = late.5.0.was_open;
-        committed = late.5.0.committed_is;
-      }
+  pub asked_survives : {sql : List ℕ} {params : Row} → sql ≡ one_text → params ≡ one_key
+      → Survives a b (CommitsShowing sql params a) → Survives a b (λ _. ⊥)
+  asked_survives text key survives =
+      query_commits_nothing one_text one_key a b (query_selects OldVersionNumbered)
+      (subst₂ (λ sql params. Survives a b (CommitsShowing sql params a)) text key survives)
 
   pub asked_inside : (rows : List Row) → Shown one_text one_key a b rows → IsInTransaction a
       → IsInTransaction b
@@ -776,26 +775,36 @@ pub record BegunAs (old new : State) (done : Bool) (Did : Database → Database
   pub kept : IsTrue new.is_open → HasCommittedNothing old new
   pub survives : Survives old new (λ _. ⊥)
 
-pub begun_as : {S : Type 0} (g : Ghosts S) (f : SchemaVersion) (old mid : Held S) (new : State)
-    (done : Bool)
-    (Did : Database → Database → Type 0) → mid ≡ record old { in_transaction = true }
-    → MigratesInTransaction (IsBegunAs f) (state g mid) new done Did
-    → (IsTrue (state g old).is_open → HasSchemaVersion f (state g old))
-    → BegunAs (state g old) new done Did
-begun_as g f old mid new done Did e alters ours =
-    subst (λ h. MigratesInTransaction (IsBegunAs f) (state g h) new done Did
-    → BegunAs (state g old) new done Did)
-    (sym e) (λ m. record {
-      made = λ ok clean was.
-          let our = ours was in
-          let s = m.altered ok clean (record {
-            begun = record { is_open = was; inside = refl; schema = our.schema };
-            shaped = our.shaped;
-          }) in
-          record { is_open = s.is_open; inside = s.inside; committed = s.committed; did = s.did };
-      kept = λ up. let k = m.kept up in record { was_open = k.was_open; committed = k.committed };
-      survives = survives_begin g old new (λ _. ⊥) m.survives;
-    }) alters
+pub begun_as : (f : SchemaVersion) (old mid new : State) (done : Bool)
+    (Did : Database → Database → Type 0)
+    → (HasCleanDisk mid → Shows old mid old.now old.committed true)
+    → (IsTrue mid.is_open → HasCleanDisk mid) → Survives old mid (λ _. ⊥)
+    → MigratesInTransaction (IsBegunAs f) mid new done Did
+    → (IsTrue old.is_open → HasSchemaVersion f old) → BegunAs old new done Did
+begun_as f old mid new done Did shows clean_of survives m ours = record {
+  made = λ ok clean was.
+      let s = shows (earlier old mid new m.survives clean) in
+      let our = ours was in
+      let w = m.altered ok clean (record {
+        begun = record {
+          is_open = s.is_open;
+          inside = s.mode;
+          schema = ap (λ (d : Database). d.schema) s.now_is ∙ our.schema;
+        };
+        shaped = subst (λ (d : Database). AreOldShaped f d.trees) (sym s.now_is) our.shaped;
+      }) in
+      record {
+        is_open = w.is_open;
+        inside = w.inside;
+        committed = w.committed ∙ s.committed_is;
+        did = subst (λ d. Did d new.now) s.now_is w.did;
+      };
+  kept = λ up.
+      let k = m.kept up in
+      let s = shows (clean_of k.was_open) in
+      record { was_open = s.was_open; committed = k.committed ∙ s.committed_is };
+  survives = both_survive old mid new survives m.survives;
+}
 
 pub settled_as : (f : SchemaVersion) (s : State) → HasSchemaVersion f s → s.now ≡ s.committed
 settled_as f s ours i = record { schema = ours.same_schema i; trees = ours.same_trees i }
@@ -803,14 +812,14 @@ settled_as f s ours i = record { schema = ours.same_schema i; trees = ours.same_
 module _ (f : SchemaVersion) (ids : List ℕ) (clock : Option ClockImpl) (old mid new : State)
     (ours : IsTrue old.is_open → HasSchemaVersion f old) (clean_of : IsTrue new.is_open
     → HasCleanDisk new) where
-  undone : (done : Bool) → BegunAs old mid done (IsMigrated f ids clock) → IsRolledBack mid new
+  undone : (done : Bool) → BegunAs old mid done (IsMigrated f ids clock) → IsUndone mid new
       → IsTrue new.is_open → IsSame old new
   undone done b r up =
       let k = b.kept (r.was_open up) in
       record {
         was_open = k.was_open;
-        now = (r.undone up).0 ∙ k.committed ∙ sym (settled_as f old (ours k.was_open));
-        committed = (r.undone up).1 ∙ k.committed;
+        now = r.now up ∙ k.committed ∙ sym (settled_as f old (ours k.was_open));
+        committed = r.committed up ∙ k.committed;
       }
 
   unmoved : (P : Trees → Type 0) → (IsTrue new.is_open → IsSame old new) → Survives old new P
@@ -827,9 +836,28 @@ module _ (f : SchemaVersion) (ids : List ℕ) (clock : Option ClockImpl) (old mi
     crash = survives_weaker old new P _ after survives;
   }
 
+  -- The transaction did not begin.
+  pub not_begun : (HasCleanDisk new → IsUnchanged old new ⊎ IsRolledBack old new)
+      → Survives old new (λ _. ⊥) → HasMigrated (AreTreesMigrated f ids clock) old new false
+  not_begun fails survives =
+      unmoved (λ _. ⊥) (λ up. by_cases up (fails (clean_of up))) survives
+      (λ clean db none. absurd none)
+    where
+      by_cases : IsTrue new.is_open → IsUnchanged old new ⊎ IsRolledBack old new → IsSame old new
+      by_cases up (inl it) = record {
+        was_open = it.0.was_open;
+        now = it.0.now_is;
+        committed = it.0.committed_is;
+      }
+      by_cases up (inr it) = record {
+        was_open = it.was_open up;
+        now = (it.undone up).0 ∙ sym (settled_as f old (ours (it.was_open up)));
+        committed = (it.undone up).1;
+      }
+
   -- The transaction was rolled back.
   pub given_up : BegunAs old mid false (IsMigrated f ids clock)
-      → (HasCleanDisk new → IsRolledBack mid new) → Survives mid new (λ _. ⊥)
+      → (HasCleanDisk new → IsUndone mid new) → Survives mid new (λ _. ⊥)
       → HasMigrated (AreTreesMigrated f ids clock) old new false
   given_up b r survives =
       unmoved (λ _. ⊥) (λ up. undone false b (r (clean_of up)) up) (survives_then old mid new _ _ _
@@ -857,17 +885,17 @@ module _ (f : SchemaVersion) (ids : List ℕ) (clock : Option ClockImpl) (old mi
         survives
 
     -- The commit failed.
-    pub not_moved : (e : Error) → (HasCleanDisk new → FailsToCommit mid new e)
+    pub not_moved : (HasCleanDisk new → HasEnded mid new)
         → HasMigrated (AreTreesMigrated f ids clock) old new false
-    not_moved e fails =
+    not_moved fails =
         unmoved _ (λ up. by_cases up (fails (clean_of up))) all_survives (λ clean db h. h)
       where
-        by_cases : IsTrue new.is_open → FailsToCommit mid new e → IsSame old new
-        by_cases up (inl it) = undone true b it.3 up
-        by_cases up (inr it) =
-            let k = b.kept it.2.0.was_open in
+        by_cases : IsTrue new.is_open → HasEnded mid new → IsSame old new
+        by_cases up (inr it) = undone true b (undone_of mid new it) up
+        by_cases up (inl it) =
+            let k = b.kept it.1.0.was_open in
             absurd (true≢false (let inside : mid.in_transaction ≡ true =
-            (b.made refl (early (clean_of up)) k.was_open).inside in sym inside ∙ it.1))
+            (b.made refl (early (clean_of up)) k.was_open).inside in sym inside ∙ it.0))
 
     -- The commit succeeded.
     pub moved : (HasCleanDisk new → Shows mid new mid.now mid.now false)
@@ -891,6 +919,14 @@ module _ (f : SchemaVersion) (ids : List ℕ) (clock : Option ClockImpl) (old mi
       stays = λ _ was clean. (ok clean).is_open;
       crash = all_survives;
     }
+
+    -- The commit succeeded or failed.
+    pub concluded : {E : Type 0} (r : Result (Unit {0}) E)
+        → (HasCleanDisk new → OnOk r (Shows mid new mid.now mid.now false))
+        → (HasCleanDisk new → OnErr r (HasEnded mid new))
+        → HasMigrated (AreTreesMigrated f ids clock) old new (is_ok r)
+    concluded (Ok u) ok err = moved ok
+    concluded (Err e) ok err = not_moved err
 
 -- ---- the file is read first
 

@@ -1,4 +1,5 @@
 pub mod Store
+pub mod Transactions
 pub mod Changes
 pub mod Refusal
 pub mod Wanted

@@ -6,6 +6,7 @@ use Rattle.sqlite.specs.Schema.{Schema}
 use Rattle.sqlite_schema.specs.contracts.schema.Schema.{the_row}
 use Rattle.sqlite_trees.specs.Props.{Trees-set, IsShaped-prop}
 use Rattle.sqlite_trees.proofs.Doubt.{no_doubt}
+use Rattle.std.proofs.Math.Bool.{Bool-set}
 use base.Stored.{Coded-set}
 use mathlib.Core.HLevel.{Π_prop}
 use Rattle.sqlite.specs.View.{doubt}
@@ -55,6 +56,9 @@ HasStoreTables-prop s a b i = record {
 -- The type of a ghost field must be a proposition.
 pub ours_if_open : (s : State) → IsProp (IsTrue s.is_open → HasStoreTables s)
 ours_if_open s = Π_prop (λ _. HasStoreTables-prop s)
+
+pub idle_if_open : (s : State) → IsProp (IsTrue s.is_open → s.in_transaction ≡ false)
+idle_if_open s = Π_prop (λ _. Bool-set _ _)
 
 -- The content of the tables.
 abbrev pub content_at : State → Content

@@ -14,155 +14,134 @@ use crate::rows::{
     delete_broadcast, delete_version, delete_wait, put_block, put_broadcast, put_carrier,
     put_clock, put_code, put_lrn, put_set, put_set_alone, put_version, put_wait,
 };
+use crate::transaction;
 use delivery::Broadcast;
 use numbers::{BlockId, CodeId, Lrn, Spid, Subject};
 use settle::{BlockRow, BroadcastKey, Changes, ClockMove, ClockRow, VersionRow, WaitKey};
 use sql_rows::{Fault, StoredClock};
-use sqlite::{Alter, Connection, Transaction};
+use sqlite::{Alter, Connection};
 use windows::WindowSet;
 
 // Deletes the rows with these ids first, because the subjects that their new rows hold must be
 // unique.
 fn clear_versions<S: Alter>(
-    tx: &mut Transaction<'_, S>,
+    conn: &mut Connection<S>,
     rows: &[(u64, VersionRow)],
 ) -> Result<(), Fault>
-    ensures same_reference { tx.new.conn.ghost_name ≡ tx.old.conn.ghost_name }
-    ensures applies { AppliesInTransaction (state S.Store tx.old.conn.now)
-        (state S.Store tx.new.conn.now)
+    ensures { AppliesInTransaction (state S.Store conn.old)
+        (state S.Store conn.new)
         (is_ok result) (all_made (λ p. without_version p.0) rows.now) }
 {
     for row in rows {
-        delete_version(tx, row.0)?;
+        delete_version(conn, row.0)?;
     }
     Ok(())
 }
 
-fn put_versions<S: Alter>(
-    tx: &mut Transaction<'_, S>,
-    rows: &[(u64, VersionRow)],
-) -> Result<(), Fault>
-    ensures same_reference { tx.new.conn.ghost_name ≡ tx.old.conn.ghost_name }
-    ensures applies { AppliesInTransaction (state S.Store tx.old.conn.now)
-        (state S.Store tx.new.conn.now)
+fn put_versions<S: Alter>(conn: &mut Connection<S>, rows: &[(u64, VersionRow)]) -> Result<(), Fault>
+    ensures { AppliesInTransaction (state S.Store conn.old)
+        (state S.Store conn.new)
         (is_ok result) (all_made (λ p. with_version p.0 p.1) rows.now) }
 {
     for row in rows {
-        put_version(tx, row.0, &row.1)?;
+        put_version(conn, row.0, &row.1)?;
     }
     Ok(())
 }
 
 fn put_broadcasts<S: Alter>(
-    tx: &mut Transaction<'_, S>,
+    conn: &mut Connection<S>,
     rows: &[(BroadcastKey, Broadcast)],
 ) -> Result<(), Fault>
-    ensures same_reference { tx.new.conn.ghost_name ≡ tx.old.conn.ghost_name }
-    ensures applies { AppliesInTransaction (state S.Store tx.old.conn.now)
-        (state S.Store tx.new.conn.now) (is_ok result)
+    ensures { AppliesInTransaction (state S.Store conn.old)
+        (state S.Store conn.new) (is_ok result)
         (all_made (λ p. with_broadcast (broadcast_key_of p.0) (broadcast_row_of p.1)) rows.now) }
 {
     for row in rows {
-        put_broadcast(tx, row.0, &row.1)?;
+        put_broadcast(conn, row.0, &row.1)?;
     }
     Ok(())
 }
 
-fn put_waits<S: Alter>(
-    tx: &mut Transaction<'_, S>,
-    rows: &[(WaitKey, Subject)],
-) -> Result<(), Fault>
-    ensures same_reference { tx.new.conn.ghost_name ≡ tx.old.conn.ghost_name }
-    ensures applies { AppliesInTransaction (state S.Store tx.old.conn.now)
-        (state S.Store tx.new.conn.now)
+fn put_waits<S: Alter>(conn: &mut Connection<S>, rows: &[(WaitKey, Subject)]) -> Result<(), Fault>
+    ensures { AppliesInTransaction (state S.Store conn.old)
+        (state S.Store conn.new)
         (is_ok result) (all_made (λ p. with_wait (wait_key_of p.0) (subject_of p.1)) rows.now) }
 {
     for row in rows {
-        put_wait(tx, row.0, row.1)?;
+        put_wait(conn, row.0, row.1)?;
     }
     Ok(())
 }
 
-fn delete_broadcasts<S: Alter>(
-    tx: &mut Transaction<'_, S>,
-    keys: &[BroadcastKey],
-) -> Result<(), Fault>
-    ensures same_reference { tx.new.conn.ghost_name ≡ tx.old.conn.ghost_name }
-    ensures applies { AppliesInTransaction (state S.Store tx.old.conn.now)
-        (state S.Store tx.new.conn.now)
+fn delete_broadcasts<S: Alter>(conn: &mut Connection<S>, keys: &[BroadcastKey]) -> Result<(), Fault>
+    ensures { AppliesInTransaction (state S.Store conn.old)
+        (state S.Store conn.new)
         (is_ok result) (all_made (λ k. without_broadcast (broadcast_key_of k)) keys.now) }
 {
     for key in keys {
-        delete_broadcast(tx, *key)?;
+        delete_broadcast(conn, *key)?;
     }
     Ok(())
 }
 
-fn delete_waits<S: Alter>(tx: &mut Transaction<'_, S>, keys: &[WaitKey]) -> Result<(), Fault>
-    ensures same_reference { tx.new.conn.ghost_name ≡ tx.old.conn.ghost_name }
-    ensures applies { AppliesInTransaction (state S.Store tx.old.conn.now)
-        (state S.Store tx.new.conn.now)
+fn delete_waits<S: Alter>(conn: &mut Connection<S>, keys: &[WaitKey]) -> Result<(), Fault>
+    ensures { AppliesInTransaction (state S.Store conn.old)
+        (state S.Store conn.new)
         (is_ok result) (all_made (λ k. without_wait (wait_key_of k)) keys.now) }
 {
     for key in keys {
-        delete_wait(tx, *key)?;
+        delete_wait(conn, *key)?;
     }
     Ok(())
 }
 
-fn register<S: Alter>(tx: &mut Transaction<'_, S>, carrier: Option<Spid>) -> Result<(), Fault>
-    ensures same_reference { tx.new.conn.ghost_name ≡ tx.old.conn.ghost_name }
-    ensures applies { AppliesInTransaction (state S.Store tx.old.conn.now)
-        (state S.Store tx.new.conn.now)
+fn register<S: Alter>(conn: &mut Connection<S>, carrier: Option<Spid>) -> Result<(), Fault>
+    ensures { AppliesInTransaction (state S.Store conn.old)
+        (state S.Store conn.new)
         (is_ok result) (if_some (λ k. with_carrier (spid_of k)) carrier) }
 {
     match carrier {
-        Some(spid) => put_carrier(tx, spid),
+        Some(spid) => put_carrier(conn, spid),
         None => Ok(()),
     }
 }
 
-fn assign_lrn<S: Alter>(
-    tx: &mut Transaction<'_, S>,
-    owned: Option<(Lrn, Spid)>,
-) -> Result<(), Fault>
-    ensures same_reference { tx.new.conn.ghost_name ≡ tx.old.conn.ghost_name }
-    ensures applies { AppliesInTransaction (state S.Store tx.old.conn.now)
-        (state S.Store tx.new.conn.now)
+fn assign_lrn<S: Alter>(conn: &mut Connection<S>, owned: Option<(Lrn, Spid)>) -> Result<(), Fault>
+    ensures { AppliesInTransaction (state S.Store conn.old)
+        (state S.Store conn.new)
         (is_ok result) (if_some (λ e. with_lrn (lrn_of e.0) (spid_of e.1)) owned) }
 {
     match owned {
-        Some((lrn, owner)) => put_lrn(tx, lrn, owner),
+        Some((lrn, owner)) => put_lrn(conn, lrn, owner),
         None => Ok(()),
     }
 }
 
 fn open_code<S: Alter>(
-    tx: &mut Transaction<'_, S>,
+    conn: &mut Connection<S>,
     opened: Option<(CodeId, Spid)>,
 ) -> Result<(), Fault>
-    ensures same_reference { tx.new.conn.ghost_name ≡ tx.old.conn.ghost_name }
-    ensures applies { AppliesInTransaction (state S.Store tx.old.conn.now)
-        (state S.Store tx.new.conn.now)
+    ensures { AppliesInTransaction (state S.Store conn.old)
+        (state S.Store conn.new)
         (is_ok result) (if_some (λ e. with_code (code_of e.0) (spid_of e.1)) opened) }
 {
     match opened {
-        Some((code, owner)) => put_code(tx, code, owner),
+        Some((code, owner)) => put_code(conn, code, owner),
         None => Ok(()),
     }
 }
 
 fn donate<S: Alter>(
-    tx: &mut Transaction<'_, S>,
+    conn: &mut Connection<S>,
     donated: Option<(BlockId, BlockRow)>,
 ) -> Result<(), Fault>
-    ensures same_reference { tx.new.conn.ghost_name ≡ tx.old.conn.ghost_name }
-    ensures applies { AppliesInTransaction (state S.Store tx.old.conn.now)
-        (state S.Store tx.new.conn.now)
+    ensures { AppliesInTransaction (state S.Store conn.old)
+        (state S.Store conn.new)
         (is_ok result) (if_some (λ e. with_block (block_of e.0) (block_row_of e.1)) donated) }
 {
     match donated {
-        Some((block, row)) => put_block(tx, block, &row),
+        Some((block, row)) => put_block(conn, block, &row),
         None => Ok(()),
     }
 }
@@ -170,20 +149,19 @@ fn donate<S: Alter>(
 // Writes the clock's row. `row` is the row before: a clock move keeps its windows, and new windows
 // keep its minute and its next id. Without a row, only the new windows are written.
 fn set_clock<S: Alter>(
-    tx: &mut Transaction<'_, S>,
+    conn: &mut Connection<S>,
     moved: Option<ClockMove>,
     set: Option<WindowSet>,
     row: Option<ClockRow>,
 ) -> Result<(), Fault>
-    ensures same_reference { tx.new.conn.ghost_name ≡ tx.old.conn.ghost_name }
-    ensures applies { AppliesInTransaction (state S.Store tx.old.conn.now)
-        (state S.Store tx.new.conn.now) (is_ok result) (clock_made moved set row) }
+    ensures { AppliesInTransaction (state S.Store conn.old)
+        (state S.Store conn.new) (is_ok result) (clock_made moved set row) }
 {
     match (moved, set, row) {
         (None, None, _) => Ok(()),
         (Some(_), None, None) => Ok(()),
         (Some(moved), None, Some(row)) => put_clock(
-            tx,
+            conn,
             &StoredClock {
                 minute: moved.minute,
                 next_id: moved.next_id,
@@ -191,7 +169,7 @@ fn set_clock<S: Alter>(
             },
         ),
         (Some(moved), Some(set), _) => put_set(
-            tx,
+            conn,
             &StoredClock {
                 minute: moved.minute,
                 next_id: moved.next_id,
@@ -200,7 +178,7 @@ fn set_clock<S: Alter>(
             &set.windows,
         ),
         (None, Some(set), Some(row)) => put_set(
-            tx,
+            conn,
             &StoredClock {
                 minute: row.minute,
                 next_id: row.next_id,
@@ -208,55 +186,52 @@ fn set_clock<S: Alter>(
             },
             &set.windows,
         ),
-        (None, Some(set), None) => put_set_alone(tx, set),
+        (None, Some(set), None) => put_set_alone(conn, set),
     }
 }
 
 // Writes the optional single rows of a batch, such as the clock's.
 fn write_singles<S: Alter>(
-    tx: &mut Transaction<'_, S>,
+    conn: &mut Connection<S>,
     changes: &Changes,
     row: Option<ClockRow>,
 ) -> Result<(), Fault>
-    ensures same_reference { tx.new.conn.ghost_name ≡ tx.old.conn.ghost_name }
-    ensures applies { AppliesInTransaction (state S.Store tx.old.conn.now)
-        (state S.Store tx.new.conn.now) (is_ok result) (singles changes.now row) }
+    ensures { AppliesInTransaction (state S.Store conn.old)
+        (state S.Store conn.new) (is_ok result) (singles changes.now row) }
 {
-    register(tx, changes.carrier)?;
-    assign_lrn(tx, changes.lrn)?;
-    open_code(tx, changes.code)?;
-    donate(tx, changes.block)?;
-    set_clock(tx, changes.clock, changes.set, row)?;
+    register(conn, changes.carrier)?;
+    assign_lrn(conn, changes.lrn)?;
+    open_code(conn, changes.code)?;
+    donate(conn, changes.block)?;
+    set_clock(conn, changes.clock, changes.set, row)?;
     Ok(())
 }
 
 // Writes all other rows, and then deletes rows.
-fn write_lists<S: Alter>(tx: &mut Transaction<'_, S>, changes: &Changes) -> Result<(), Fault>
-    ensures same_reference { tx.new.conn.ghost_name ≡ tx.old.conn.ghost_name }
-    ensures applies { AppliesInTransaction (state S.Store tx.old.conn.now)
-        (state S.Store tx.new.conn.now) (is_ok result) (lists changes.now) }
+fn write_lists<S: Alter>(conn: &mut Connection<S>, changes: &Changes) -> Result<(), Fault>
+    ensures { AppliesInTransaction (state S.Store conn.old)
+        (state S.Store conn.new) (is_ok result) (lists changes.now) }
 {
-    clear_versions(tx, changes.versions.as_slice())?;
-    put_versions(tx, changes.versions.as_slice())?;
-    put_broadcasts(tx, changes.broadcasts.as_slice())?;
-    put_waits(tx, changes.waits.as_slice())?;
-    delete_broadcasts(tx, changes.deleted_broadcasts.as_slice())?;
-    delete_waits(tx, changes.deleted_waits.as_slice())?;
+    clear_versions(conn, changes.versions.as_slice())?;
+    put_versions(conn, changes.versions.as_slice())?;
+    put_broadcasts(conn, changes.broadcasts.as_slice())?;
+    put_waits(conn, changes.waits.as_slice())?;
+    delete_broadcasts(conn, changes.deleted_broadcasts.as_slice())?;
+    delete_waits(conn, changes.deleted_waits.as_slice())?;
     Ok(())
 }
 
 // Writes all rows of a batch.
 fn write<S: Alter>(
-    tx: &mut Transaction<'_, S>,
+    conn: &mut Connection<S>,
     changes: &Changes,
     row: Option<ClockRow>,
 ) -> Result<(), Fault>
-    ensures same_reference { tx.new.conn.ghost_name ≡ tx.old.conn.ghost_name }
-    ensures applies { AppliesInTransaction (state S.Store tx.old.conn.now)
-        (state S.Store tx.new.conn.now) (is_ok result) (with_changes changes.now row) }
+    ensures { AppliesInTransaction (state S.Store conn.old)
+        (state S.Store conn.new) (is_ok result) (with_changes changes.now row) }
 {
-    write_singles(tx, changes, row)?;
-    write_lists(tx, changes)?;
+    write_singles(conn, changes, row)?;
+    write_lists(conn, changes)?;
     Ok(())
 }
 
@@ -269,15 +244,19 @@ fn commit_over<S: Alter>(
 ) -> Result<(), Fault>
     requires ours { IsTrue (state S.Store conn.old).is_open
         → HasStoreTables (state S.Store conn.old) }
-    requires idle { conn.old.in_transaction ≡ false }
+    requires idle { IsTrue (state S.Store conn.old).is_open
+        → (state S.Store conn.old).in_transaction ≡ false }
     ensures committed { HasCommitted (state S.Store conn.old) (state S.Store conn.new)
         (is_ok result) (IsChangedOver changes.now row) }
-    ensures idle { conn.new.in_transaction ≡ false }
+    ensures idle { IsTrue (state S.Store conn.new).is_open
+        → (state S.Store conn.new).in_transaction ≡ false }
 {
-    let mut tx = conn.transaction();
-    write(&mut tx, changes, row)?;
-    tx.commit()?;
-    Ok(())
+    transaction::begin(conn)?;
+    if let Err(fault) = write(conn, changes, row) {
+        transaction::roll_back(conn);
+        return Err(fault);
+    }
+    transaction::commit(conn)
 }
 
 // Returns the clock's row, if the changes leave it.

@@ -2,7 +2,7 @@
 ghost use Rattle.std.specs.Prelude.{◌≡◌, false, IsTrue};
 ghost use Rattle.sqlite.specs.Held.{state};
 ghost use Rattle.sql_store.specs.Kept.{IsKeptIfSome, kept_if_some};
-ghost use Rattle.sql_store.specs.Store.{HasStoreTables, ours_if_open};
+ghost use Rattle.sql_store.specs.Store.{HasStoreTables, idle_if_open, ours_if_open};
 
 use settle::ClockRow;
 use sqlite::{Alter, Connection};
@@ -14,7 +14,7 @@ pub(crate) struct Database<S: Alter> {
     /// request reads it.
     pub(crate) clock: Option<ClockRow>,
     ghost ours: { IsTrue (state S.Store conn).is_open → HasStoreTables (state S.Store conn) } by { ours_if_open _ },
-    ghost idle: { conn.in_transaction ≡ false },
+    ghost idle: { IsTrue (state S.Store conn).is_open → conn.in_transaction ≡ false } by { idle_if_open (state S.Store conn) },
     ghost kept: { IsKeptIfSome (state S.Store conn) clock } by { kept_if_some _ _ },
 }
 
@@ -22,7 +22,7 @@ impl<S: Alter> Database<S> {
     /// Takes a connection. Nothing has been read yet.
     pub(crate) fn of(conn: Connection<S>) -> Database<S>
         requires ours { IsTrue (state S.Store conn).is_open → HasStoreTables (state S.Store conn) }
-        requires idle { conn.in_transaction ≡ false }
+        requires idle { IsTrue (state S.Store conn).is_open → conn.in_transaction ≡ false }
         ensures { result.conn ≡ conn }
     {
         Database { conn, clock: None }

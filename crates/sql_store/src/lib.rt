@@ -22,6 +22,7 @@ mod schema;
 mod select;
 mod store;
 mod through;
+mod transaction;
 mod whole;
 
 pub use file::{StoreAt, Unopened, UnopenedAt};

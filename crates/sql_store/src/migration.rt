@@ -22,6 +22,7 @@ use crate::change::{replace, take};
 use crate::file_fault::FileFault;
 use crate::rows::put_set;
 use crate::through::{next_read, read_table};
+use crate::transaction::{self, execute};
 use delivery::Broadcast;
 use numbers::{BlockId, CodeId, Lrn, Routing, Spid, Subject};
 use settle::{BlockRow, BroadcastKey, VersionRow, WaitKey};
@@ -29,75 +30,69 @@ use sql_rows::{
     Fault, FromRow, NewTable, OldClock, OldTable, OldVersion, Query, SchemaVersion, StoredClock,
     Table, all, fits, index_text, number, sole, spid_bytes, version_params,
 };
-use sqlite::{Alter, Connection, Row, Rows, Transaction};
+use sqlite::{Alter, Connection, Row, Rows};
 use std::alloc::Global;
 use windows::Windows;
 
-fn make<S: Alter>(tx: &mut Transaction<'_, S>, table: NewTable) -> Result<(), Fault>
-    ensures same_reference { tx.new.conn.ghost_name ≡ tx.old.conn.ghost_name }
-    ensures alters { MigratesInTransaction (IsBegun (schema_before table))
-        (state S.Store tx.old.conn.now)
-        (state S.Store tx.new.conn.now) (is_ok result) (IsMade table) }
+fn make<S: Alter>(conn: &mut Connection<S>, table: NewTable) -> Result<(), Fault>
+    ensures { MigratesInTransaction (IsBegun (schema_before table))
+        (state S.Store conn.old)
+        (state S.Store conn.new) (is_ok result) (IsMade table) }
 {
-    tx.execute(table.create_text(), &[])?;
+    execute(conn, table.create_text(), &[])?;
     Ok(())
 }
 
-fn make_index<S: Alter>(tx: &mut Transaction<'_, S>) -> Result<(), Fault>
-    ensures same_reference { tx.new.conn.ghost_name ≡ tx.old.conn.ghost_name }
-    ensures alters { MigratesInTransaction (IsBegun (schema_after NewTable.Clock))
-        (state S.Store tx.old.conn.now) (state S.Store tx.new.conn.now) (is_ok result) IsIndexed }
+fn make_index<S: Alter>(conn: &mut Connection<S>) -> Result<(), Fault>
+    ensures { MigratesInTransaction (IsBegun (schema_after NewTable.Clock))
+        (state S.Store conn.old) (state S.Store conn.new) (is_ok result) IsIndexed }
 {
-    tx.execute(index_text(), &[])?;
+    execute(conn, index_text(), &[])?;
     Ok(())
 }
 
 // Creates the tables of the sets of windows, of the versions that name their set, and of the clock.
-fn make_set_tables<S: Alter>(tx: &mut Transaction<'_, S>) -> Result<(), Fault>
-    ensures same_reference { tx.new.conn.ghost_name ≡ tx.old.conn.ghost_name }
-    ensures alters { MigratesInTransaction (IsBegun (schema_of SchemaVersion.Modify))
-        (state S.Store tx.old.conn.now)
-        (state S.Store tx.new.conn.now) (is_ok result) (AreTablesCreated SchemaVersion.Modify) }
+fn make_set_tables<S: Alter>(conn: &mut Connection<S>) -> Result<(), Fault>
+    ensures { MigratesInTransaction (IsBegun (schema_of SchemaVersion.Modify))
+        (state S.Store conn.old)
+        (state S.Store conn.new) (is_ok result) (AreTablesCreated SchemaVersion.Modify) }
 {
-    make(tx, NewTable::WindowSet)?;
-    make(tx, NewTable::Version)?;
-    make(tx, NewTable::Clock)?;
-    make_index(tx)?;
+    make(conn, NewTable::WindowSet)?;
+    make(conn, NewTable::Version)?;
+    make(conn, NewTable::Clock)?;
+    make_index(conn)?;
     Ok(())
 }
 
-fn make_all_tables<S: Alter>(tx: &mut Transaction<'_, S>) -> Result<(), Fault>
-    ensures same_reference { tx.new.conn.ghost_name ≡ tx.old.conn.ghost_name }
-    ensures alters { MigratesInTransaction (IsBegun (schema_of SchemaVersion.First))
-        (state S.Store tx.old.conn.now)
-        (state S.Store tx.new.conn.now) (is_ok result) (AreTablesCreated SchemaVersion.First) }
+fn make_all_tables<S: Alter>(conn: &mut Connection<S>) -> Result<(), Fault>
+    ensures { MigratesInTransaction (IsBegun (schema_of SchemaVersion.First))
+        (state S.Store conn.old)
+        (state S.Store conn.new) (is_ok result) (AreTablesCreated SchemaVersion.First) }
 {
-    make(tx, NewTable::NextRouting)?;
-    make_set_tables(tx)?;
+    make(conn, NewTable::NextRouting)?;
+    make_set_tables(conn)?;
     Ok(())
 }
 
 // Creates the tables that an earlier schema lacks.
 fn create_tables<S: Alter>(
-    tx: &mut Transaction<'_, S>,
+    conn: &mut Connection<S>,
     schema_version: SchemaVersion,
 ) -> Result<(), Fault>
-    ensures same_reference { tx.new.conn.ghost_name ≡ tx.old.conn.ghost_name }
-    ensures alters { MigratesInTransaction (IsBegun (schema_of schema_version))
-        (state S.Store tx.old.conn.now)
-        (state S.Store tx.new.conn.now) (is_ok result) (AreTablesCreated schema_version) }
+    ensures { MigratesInTransaction (IsBegun (schema_of schema_version))
+        (state S.Store conn.old)
+        (state S.Store conn.new) (is_ok result) (AreTablesCreated schema_version) }
 {
     match schema_version {
-        SchemaVersion::First => make_all_tables(tx),
-        SchemaVersion::Modify => make_set_tables(tx),
+        SchemaVersion::First => make_all_tables(conn),
+        SchemaVersion::Modify => make_set_tables(conn),
     }
 }
 
 // Writes a version's row. The routing that the version sends stays in its own table.
-fn put_bare<S: Alter>(tx: &mut Transaction<'_, S>, id: u64, row: &VersionRow) -> Result<(), Fault>
-    ensures same_reference { tx.new.conn.ghost_name ≡ tx.old.conn.ghost_name }
-    ensures writes { WritesInTransaction (state S.Store tx.old.conn.now)
-        (state S.Store tx.new.conn.now) (is_ok result) (IsBarePut id row.now) }
+fn put_bare<S: Alter>(conn: &mut Connection<S>, id: u64, row: &VersionRow) -> Result<(), Fault>
+    ensures { WritesInTransaction (state S.Store conn.old)
+        (state S.Store conn.new) (is_ok result) (IsBarePut id row.now) }
 {
     if !fits(id, row) {
         return Err(Fault::Device);
@@ -105,55 +100,49 @@ fn put_bare<S: Alter>(tx: &mut Transaction<'_, S>, id: u64, row: &VersionRow) ->
     let old = spid_bytes(row.version.old_provider.number);
     let new = spid_bytes(row.version.new_provider.number);
     let params = version_params(id, row, &old, &new);
-    replace(tx, Table::Version, &[number(id)], &params)?;
+    replace(conn, Table::Version, &[number(id)], &params)?;
     Ok(())
 }
 
 // Copies the version with this id from the table of earlier schemas.
-fn put_old<S: Alter>(tx: &mut Transaction<'_, S>, id: u64) -> Result<(), Fault>
-    ensures same_reference { tx.new.conn.ghost_name ≡ tx.old.conn.ghost_name }
-    ensures writes { WritesInTransaction (state S.Store tx.old.conn.now)
-        (state S.Store tx.new.conn.now) (is_ok result) (IsOldPut id) }
+fn put_old<S: Alter>(conn: &mut Connection<S>, id: u64) -> Result<(), Fault>
+    ensures { WritesInTransaction (state S.Store conn.old)
+        (state S.Store conn.new) (is_ok result) (IsOldPut id) }
 {
     if id >= 9223372036854775808 {
         return Err(Fault::Device);
     }
-    let rows = tx.query_all(Query::OldVersionNumbered.text(), &[number(id)])?;
+    let rows = conn.query_all(Query::OldVersionNumbered.text(), &[number(id)])?;
     let Some(found) = sole::<OldVersion>(rows.as_slice())? else {
         return Err(Fault::Device);
     };
-    put_bare(tx, id, &found.version.row)?;
+    put_bare(conn, id, &found.version.row)?;
     Ok(())
 }
 
 // Copies the versions with these ids, one at a time.
-fn put_each<S: Alter>(tx: &mut Transaction<'_, S>, ids: &[u64]) -> Result<(), Fault>
-    ensures same_reference { tx.new.conn.ghost_name ≡ tx.old.conn.ghost_name }
-    ensures writes { WritesInTransaction (state S.Store tx.old.conn.now)
-        (state S.Store tx.new.conn.now) (is_ok result) (ArePutBut [] ids.now) }
+fn put_each<S: Alter>(conn: &mut Connection<S>, ids: &[u64]) -> Result<(), Fault>
+    ensures { WritesInTransaction (state S.Store conn.old)
+        (state S.Store conn.new) (is_ok result) (ArePutBut [] ids.now) }
 {
     for id in ids {
-        put_old(tx, *id)?;
+        put_old(conn, *id)?;
     }
     Ok(())
 }
 
 // Writes the windows of the clock's row as set 1.
-fn put_first_set<S: Alter>(
-    tx: &mut Transaction<'_, S>,
-    clock: Option<OldClock>,
-) -> Result<(), Fault>
-    ensures same_reference { tx.new.conn.ghost_name ≡ tx.old.conn.ghost_name }
-    ensures applies { AppliesInTransaction (state S.Store tx.old.conn.now)
-        (state S.Store tx.new.conn.now) (is_ok result)
+fn put_first_set<S: Alter>(conn: &mut Connection<S>, clock: Option<OldClock>) -> Result<(), Fault>
+    ensures applies { AppliesInTransaction (state S.Store conn.old)
+        (state S.Store conn.new) (is_ok result)
         (if_some (λ c. with_set (stored_clock c.minute.number c.next_id 1) (windows_of c.windows))
         clock) }
-    ensures others { WritesInTransaction (state S.Store tx.old.conn.now)
-        (state S.Store tx.new.conn.now) (is_ok result) IsSetPut }
+    ensures others { WritesInTransaction (state S.Store conn.old)
+        (state S.Store conn.new) (is_ok result) IsSetPut }
 {
     match clock {
         Some(clock) => put_set(
-            tx,
+            conn,
             &StoredClock {
                 minute: clock.minute,
                 next_id: clock.next_id,
@@ -165,82 +154,76 @@ fn put_first_set<S: Alter>(
     }
 }
 
-fn clear<S: Alter>(tx: &mut Transaction<'_, S>, table: OldTable) -> Result<(), Fault>
-    ensures same_reference { tx.new.conn.ghost_name ≡ tx.old.conn.ghost_name }
-    ensures writes { WritesInTransaction (state S.Store tx.old.conn.now)
-        (state S.Store tx.new.conn.now) (is_ok result) (IsCleared table) }
+fn clear<S: Alter>(conn: &mut Connection<S>, table: OldTable) -> Result<(), Fault>
+    ensures { WritesInTransaction (state S.Store conn.old)
+        (state S.Store conn.new) (is_ok result) (IsCleared table) }
 {
-    tx.execute(table.clear_text(), &[])?;
+    execute(conn, table.clear_text(), &[])?;
     Ok(())
 }
 
 // Deletes the version with this id from the table of earlier schemas.
-fn delete_old<S: Alter>(tx: &mut Transaction<'_, S>, id: u64) -> Result<(), Fault>
-    ensures same_reference { tx.new.conn.ghost_name ≡ tx.old.conn.ghost_name }
-    ensures writes { WritesInTransaction (state S.Store tx.old.conn.now)
-        (state S.Store tx.new.conn.now) (is_ok result) (IsOldDeleted id) }
+fn delete_old<S: Alter>(conn: &mut Connection<S>, id: u64) -> Result<(), Fault>
+    ensures { WritesInTransaction (state S.Store conn.old)
+        (state S.Store conn.new) (is_ok result) (IsOldDeleted id) }
 {
     if id >= 9223372036854775808 {
         return Err(Fault::Device);
     }
-    take(tx, Table::OldVersion, &[number(id)])
+    take(conn, Table::OldVersion, &[number(id)])
 }
 
 // Deletes the versions with these ids from the table of earlier schemas, one at a time.
-fn delete_each<S: Alter>(tx: &mut Transaction<'_, S>, ids: &[u64]) -> Result<(), Fault>
-    ensures same_reference { tx.new.conn.ghost_name ≡ tx.old.conn.ghost_name }
-    ensures writes { WritesInTransaction (state S.Store tx.old.conn.now)
-        (state S.Store tx.new.conn.now) (is_ok result) AreOldRowsDeleted }
+fn delete_each<S: Alter>(conn: &mut Connection<S>, ids: &[u64]) -> Result<(), Fault>
+    ensures { WritesInTransaction (state S.Store conn.old)
+        (state S.Store conn.new) (is_ok result) AreOldRowsDeleted }
 {
     for id in ids {
-        delete_old(tx, *id)?;
+        delete_old(conn, *id)?;
     }
     Ok(())
 }
 
 // Empties the versions' table of earlier schemas; `ids` are its ids. Deletes each by its id first:
 // one statement that deletes a million writes a log many times the size of the file.
-fn clear_versions<S: Alter>(tx: &mut Transaction<'_, S>, ids: &[u64]) -> Result<(), Fault>
-    ensures same_reference { tx.new.conn.ghost_name ≡ tx.old.conn.ghost_name }
-    ensures writes { WritesInTransaction (state S.Store tx.old.conn.now)
-        (state S.Store tx.new.conn.now) (is_ok result) (IsCleared OldTable.Version) }
+fn clear_versions<S: Alter>(conn: &mut Connection<S>, ids: &[u64]) -> Result<(), Fault>
+    ensures { WritesInTransaction (state S.Store conn.old)
+        (state S.Store conn.new) (is_ok result) (IsCleared OldTable.Version) }
 {
-    delete_each(tx, ids)?;
-    clear(tx, OldTable::Version)?;
+    delete_each(conn, ids)?;
+    clear(conn, OldTable::Version)?;
     Ok(())
 }
 
 // Copies the versions with these ids and the clock's row into the tables of the present schema, and
 // empties the tables of the earlier one.
 fn copy_rows<S: Alter>(
-    tx: &mut Transaction<'_, S>,
+    conn: &mut Connection<S>,
     ids: &[u64],
     clock: Option<OldClock>,
 ) -> Result<(), Fault>
-    ensures same_reference { tx.new.conn.ghost_name ≡ tx.old.conn.ghost_name }
-    ensures writes { WritesInTransaction (state S.Store tx.old.conn.now)
-        (state S.Store tx.new.conn.now) (is_ok result) (AreRowsCopied ids.now clock) }
+    ensures { WritesInTransaction (state S.Store conn.old)
+        (state S.Store conn.new) (is_ok result) (AreRowsCopied ids.now clock) }
 {
-    put_each(tx, ids)?;
-    put_first_set(tx, clock)?;
-    clear_versions(tx, ids)?;
-    clear(tx, OldTable::Clock)?;
+    put_each(conn, ids)?;
+    put_first_set(conn, clock)?;
+    clear_versions(conn, ids)?;
+    clear(conn, OldTable::Clock)?;
     Ok(())
 }
 
 fn migrate_tables<S: Alter>(
-    tx: &mut Transaction<'_, S>,
+    conn: &mut Connection<S>,
     schema_version: SchemaVersion,
     ids: &[u64],
     clock: Option<OldClock>,
 ) -> Result<(), Fault>
-    ensures same_reference { tx.new.conn.ghost_name ≡ tx.old.conn.ghost_name }
-    ensures alters { MigratesInTransaction (IsBegunAs schema_version) (state S.Store
-        tx.old.conn.now)
-        (state S.Store tx.new.conn.now) (is_ok result) (IsMigrated schema_version ids.now clock) }
+    ensures { MigratesInTransaction (IsBegunAs schema_version) (state S.Store
+        conn.old)
+        (state S.Store conn.new) (is_ok result) (IsMigrated schema_version ids.now clock) }
 {
-    create_tables(tx, schema_version)?;
-    copy_rows(tx, ids, clock)?;
+    create_tables(conn, schema_version)?;
+    copy_rows(conn, ids, clock)?;
     Ok(())
 }
 
@@ -257,12 +240,15 @@ fn move_rows<S: Alter>(
     requires idle { conn.old.in_transaction ≡ false }
     ensures moves { HasMigrated (AreTreesMigrated schema_version ids.now clock)
         (state S.Store conn.old) (state S.Store conn.new) (is_ok result) }
-    ensures idle { conn.new.in_transaction ≡ false }
+    ensures idle { IsTrue (state S.Store conn.new).is_open
+        → (state S.Store conn.new).in_transaction ≡ false }
 {
-    let mut tx = conn.transaction();
-    migrate_tables(&mut tx, schema_version, ids, clock)?;
-    tx.commit()?;
-    Ok(())
+    transaction::begin(conn)?;
+    if let Err(fault) = migrate_tables(conn, schema_version, ids, clock) {
+        transaction::roll_back(conn);
+        return Err(fault);
+    }
+    transaction::commit(conn)
 }
 
 // Returns the rows of a table in a file with this schema.
@@ -472,7 +458,8 @@ fn carry_over<S: Alter>(
     requires idle { conn.old.in_transaction ≡ false }
     ensures moves { HasMigrated (IsCarried schema_version) (state S.Store conn.old)
         (state S.Store conn.new) (is_ok result) }
-    ensures idle { conn.new.in_transaction ≡ false }
+    ensures idle { IsTrue (state S.Store conn.new).is_open
+        → (state S.Store conn.new).in_transaction ≡ false }
 {
     let ids = ids_of(alloc, conn, schema_version)?;
     let clocks: Vec<OldClock> = read_old(conn, schema_version, Table::OldClock)?;
@@ -501,7 +488,8 @@ pub(crate) fn migrate<S: Alter>(
         (state S.Store conn.old) (state S.Store conn.new) (is_ok result) }
     ensures differ { result ≡ Err FileFault.WindowsDiffer → IsTrue (state S.Store conn.new).is_open
         → HasDifferentWindows (windows_of windows.now) (state S.Store conn.old).now.trees }
-    ensures idle { conn.new.in_transaction ≡ false }
+    ensures idle { IsTrue (state S.Store conn.new).is_open
+        → (state S.Store conn.new).in_transaction ≡ false }
 {
     see_staying(conn, schema_version)?;
     if !has_windows(conn, schema_version, windows)? {

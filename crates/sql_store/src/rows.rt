@@ -20,61 +20,57 @@ use sql_rows::{
     fits_block, is_set_number, next_params, number, set_params, spid_bytes, text, version_params,
     wait_key, wait_params,
 };
-use sqlite::{Alter, Transaction};
+use sqlite::{Alter, Connection};
 use windows::{WindowSet, Windows};
 
 /// Writes a registered carrier.
-pub(crate) fn put_carrier<S: Alter>(tx: &mut Transaction<'_, S>, spid: Spid) -> Result<(), Fault>
-    ensures same_reference { tx.new.conn.ghost_name ≡ tx.old.conn.ghost_name }
-    ensures applies { AppliesInTransaction (state S.Store tx.old.conn.now)
-        (state S.Store tx.new.conn.now) (is_ok result) (with_carrier (spid_of spid)) }
+pub(crate) fn put_carrier<S: Alter>(conn: &mut Connection<S>, spid: Spid) -> Result<(), Fault>
+    ensures { AppliesInTransaction (state S.Store conn.old)
+        (state S.Store conn.new) (is_ok result) (with_carrier (spid_of spid)) }
 {
     let bytes = spid_bytes(spid.number);
-    replace(tx, Table::Carrier, &[text(&bytes)], &[text(&bytes)])?;
+    replace(conn, Table::Carrier, &[text(&bytes)], &[text(&bytes)])?;
     Ok(())
 }
 
 /// Writes an LRN and the carrier that registered it.
 pub(crate) fn put_lrn<S: Alter>(
-    tx: &mut Transaction<'_, S>,
+    conn: &mut Connection<S>,
     lrn: Lrn,
     owner: Spid,
 ) -> Result<(), Fault>
-    ensures same_reference { tx.new.conn.ghost_name ≡ tx.old.conn.ghost_name }
-    ensures applies { AppliesInTransaction (state S.Store tx.old.conn.now)
-        (state S.Store tx.new.conn.now) (is_ok result) (with_lrn (lrn_of lrn) (spid_of owner)) }
+    ensures { AppliesInTransaction (state S.Store conn.old)
+        (state S.Store conn.new) (is_ok result) (with_lrn (lrn_of lrn) (spid_of owner)) }
 {
     let bytes = spid_bytes(owner.number);
     let key = number(lrn.number);
-    replace(tx, Table::Lrn, &[key], &[key, text(&bytes)])?;
+    replace(conn, Table::Lrn, &[key], &[key, text(&bytes)])?;
     Ok(())
 }
 
 /// Writes a code and its holder.
 pub(crate) fn put_code<S: Alter>(
-    tx: &mut Transaction<'_, S>,
+    conn: &mut Connection<S>,
     code: CodeId,
     owner: Spid,
 ) -> Result<(), Fault>
-    ensures same_reference { tx.new.conn.ghost_name ≡ tx.old.conn.ghost_name }
-    ensures applies { AppliesInTransaction (state S.Store tx.old.conn.now)
-        (state S.Store tx.new.conn.now) (is_ok result) (with_code (code_of code) (spid_of owner)) }
+    ensures { AppliesInTransaction (state S.Store conn.old)
+        (state S.Store conn.new) (is_ok result) (with_code (code_of code) (spid_of owner)) }
 {
     let bytes = spid_bytes(owner.number);
     let key = number(u64::from(code.number));
-    replace(tx, Table::Code, &[key], &[key, text(&bytes)])?;
+    replace(conn, Table::Code, &[key], &[key, text(&bytes)])?;
     Ok(())
 }
 
 /// Writes the row of a donated block.
 pub(crate) fn put_block<S: Alter>(
-    tx: &mut Transaction<'_, S>,
+    conn: &mut Connection<S>,
     block: BlockId,
     row: &BlockRow,
 ) -> Result<(), Fault>
-    ensures same_reference { tx.new.conn.ghost_name ≡ tx.old.conn.ghost_name }
-    ensures applies { AppliesInTransaction (state S.Store tx.old.conn.now)
-        (state S.Store tx.new.conn.now)
+    ensures { AppliesInTransaction (state S.Store conn.old)
+        (state S.Store conn.new)
         (is_ok result) (with_block (block_of block) (block_row_of row.now)) }
 {
     if !fits_block(row) {
@@ -83,56 +79,47 @@ pub(crate) fn put_block<S: Alter>(
     let bytes = spid_bytes(row.donor.number);
     let key = u64::from(block.number);
     let params = block_params(key, row, &bytes);
-    replace(tx, Table::Block, &[number(key)], &params)?;
+    replace(conn, Table::Block, &[number(key)], &params)?;
     Ok(())
 }
 
 /// Writes the clock's row, with the number of its windows.
-pub(crate) fn put_clock<S: Alter>(
-    tx: &mut Transaction<'_, S>,
-    row: &StoredClock,
-) -> Result<(), Fault>
-    ensures same_reference { tx.new.conn.ghost_name ≡ tx.old.conn.ghost_name }
-    ensures applies { AppliesInTransaction (state S.Store tx.old.conn.now)
-        (state S.Store tx.new.conn.now) (is_ok result) (with_clock (clock_of row.now)) }
+pub(crate) fn put_clock<S: Alter>(conn: &mut Connection<S>, row: &StoredClock) -> Result<(), Fault>
+    ensures { AppliesInTransaction (state S.Store conn.old)
+        (state S.Store conn.new) (is_ok result) (with_clock (clock_of row.now)) }
 {
     if row.next_id >= 9_223_372_036_854_775_808 || !is_set_number(row.present) {
         return Err(Fault::Device);
     }
-    replace(tx, Table::Clock, &[number(0)], &clock_params(row))?;
+    replace(conn, Table::Clock, &[number(0)], &clock_params(row))?;
     Ok(())
 }
 
 /// Writes a set of windows, and leaves the clock's row.
-pub(crate) fn put_set_alone<S: Alter>(
-    tx: &mut Transaction<'_, S>,
-    set: WindowSet,
-) -> Result<(), Fault>
-    ensures same_reference { tx.new.conn.ghost_name ≡ tx.old.conn.ghost_name }
-    ensures applies { AppliesInTransaction (state S.Store tx.old.conn.now)
-        (state S.Store tx.new.conn.now)
+pub(crate) fn put_set_alone<S: Alter>(conn: &mut Connection<S>, set: WindowSet) -> Result<(), Fault>
+    ensures { AppliesInTransaction (state S.Store conn.old)
+        (state S.Store conn.new)
         (is_ok result) (with_set_alone set.number (windows_of set.windows)) }
 {
     if !is_set_number(set.number) {
         return Err(Fault::Device);
     }
     let key = number(u64::from(set.number));
-    replace(tx, Table::WindowSet, &[key], &set_params(&set))?;
+    replace(conn, Table::WindowSet, &[key], &set_params(&set))?;
     Ok(())
 }
 
 /// Writes a set of windows, and the clock's row with its number, which makes it the present set.
 pub(crate) fn put_set<S: Alter>(
-    tx: &mut Transaction<'_, S>,
+    conn: &mut Connection<S>,
     row: &StoredClock,
     windows: &Windows,
 ) -> Result<(), Fault>
-    ensures same_reference { tx.new.conn.ghost_name ≡ tx.old.conn.ghost_name }
-    ensures applies { AppliesInTransaction (state S.Store tx.old.conn.now)
-        (state S.Store tx.new.conn.now)
+    ensures applies { AppliesInTransaction (state S.Store conn.old)
+        (state S.Store conn.new)
         (is_ok result) (with_set (clock_of row.now) (windows_of windows.now)) }
-    ensures others { WritesInTransaction (state S.Store tx.old.conn.now)
-        (state S.Store tx.new.conn.now) (is_ok result) IsSetPut }
+    ensures others { WritesInTransaction (state S.Store conn.old)
+        (state S.Store conn.new) (is_ok result) IsSetPut }
 {
     if row.next_id >= 9_223_372_036_854_775_808 || !is_set_number(row.present) {
         return Err(Fault::Device);
@@ -142,58 +129,50 @@ pub(crate) fn put_set<S: Alter>(
         windows: *windows,
     };
     let key = number(u64::from(row.present));
-    replace(tx, Table::WindowSet, &[key], &set_params(&set))?;
-    replace(tx, Table::Clock, &[number(0)], &clock_params(row))?;
+    replace(conn, Table::WindowSet, &[key], &set_params(&set))?;
+    replace(conn, Table::Clock, &[number(0)], &clock_params(row))?;
     Ok(())
 }
 
-fn put_routing<S: Alter>(
-    tx: &mut Transaction<'_, S>,
-    id: u64,
-    routing: Routing,
-) -> Result<(), Fault>
+fn put_routing<S: Alter>(conn: &mut Connection<S>, id: u64, routing: Routing) -> Result<(), Fault>
     requires { id < 9223372036854775808 }
-    ensures same_reference { tx.new.conn.ghost_name ≡ tx.old.conn.ghost_name }
-    ensures writes { WritesInTransaction (state S.Store tx.old.conn.now)
-        (state S.Store tx.new.conn.now) (is_ok result) (IsNextPut id (Some (routing_of routing))) }
+    ensures { WritesInTransaction (state S.Store conn.old)
+        (state S.Store conn.new) (is_ok result) (IsNextPut id (Some (routing_of routing))) }
 {
     let params = next_params(id, routing);
-    replace(tx, Table::NextRouting, &[number(id)], &params)?;
+    replace(conn, Table::NextRouting, &[number(id)], &params)?;
     Ok(())
 }
 
-fn delete_routing<S: Alter>(tx: &mut Transaction<'_, S>, id: u64) -> Result<(), Fault>
+fn delete_routing<S: Alter>(conn: &mut Connection<S>, id: u64) -> Result<(), Fault>
     requires { id < 9223372036854775808 }
-    ensures same_reference { tx.new.conn.ghost_name ≡ tx.old.conn.ghost_name }
-    ensures writes { WritesInTransaction (state S.Store tx.old.conn.now)
-        (state S.Store tx.new.conn.now) (is_ok result) (IsNextPut id None) }
+    ensures { WritesInTransaction (state S.Store conn.old)
+        (state S.Store conn.new) (is_ok result) (IsNextPut id None) }
 {
-    take(tx, Table::NextRouting, &[number(id)])?;
+    take(conn, Table::NextRouting, &[number(id)])?;
     Ok(())
 }
 
 // Writes the routing that the version sends, or deletes the routing stored for it.
-fn put_next<S: Alter>(tx: &mut Transaction<'_, S>, id: u64, status: Status) -> Result<(), Fault>
+fn put_next<S: Alter>(conn: &mut Connection<S>, id: u64, status: Status) -> Result<(), Fault>
     requires { id < 9223372036854775808 }
-    ensures same_reference { tx.new.conn.ghost_name ≡ tx.old.conn.ghost_name }
-    ensures writes { WritesInTransaction (state S.Store tx.old.conn.now)
-        (state S.Store tx.new.conn.now) (is_ok result) (IsNextPut id (next_of (status_of status))) }
+    ensures { WritesInTransaction (state S.Store conn.old)
+        (state S.Store conn.new) (is_ok result) (IsNextPut id (next_of (status_of status))) }
 {
     match status {
-        Status::SendingModify { cic, lrn } => put_routing(tx, id, Routing { lrn, cic }),
-        _ => delete_routing(tx, id),
+        Status::SendingModify { cic, lrn } => put_routing(conn, id, Routing { lrn, cic }),
+        _ => delete_routing(conn, id),
     }
 }
 
 /// Writes a version's row, and the routing that it sends.
 pub(crate) fn put_version<S: Alter>(
-    tx: &mut Transaction<'_, S>,
+    conn: &mut Connection<S>,
     id: u64,
     row: &VersionRow,
 ) -> Result<(), Fault>
-    ensures same_reference { tx.new.conn.ghost_name ≡ tx.old.conn.ghost_name }
-    ensures applies { AppliesInTransaction (state S.Store tx.old.conn.now)
-        (state S.Store tx.new.conn.now) (is_ok result) (with_version id row.now) }
+    ensures { AppliesInTransaction (state S.Store conn.old)
+        (state S.Store conn.new) (is_ok result) (with_version id row.now) }
 {
     if !fits(id, row) {
         return Err(Fault::Device);
@@ -201,34 +180,32 @@ pub(crate) fn put_version<S: Alter>(
     let old = spid_bytes(row.version.old_provider.number);
     let new = spid_bytes(row.version.new_provider.number);
     let params = version_params(id, row, &old, &new);
-    replace(tx, Table::Version, &[number(id)], &params)?;
-    put_next(tx, id, row.version.status)?;
+    replace(conn, Table::Version, &[number(id)], &params)?;
+    put_next(conn, id, row.version.status)?;
     Ok(())
 }
 
 /// Deletes a version's row, and the routing that it sends.
-pub(crate) fn delete_version<S: Alter>(tx: &mut Transaction<'_, S>, id: u64) -> Result<(), Fault>
-    ensures same_reference { tx.new.conn.ghost_name ≡ tx.old.conn.ghost_name }
-    ensures applies { AppliesInTransaction (state S.Store tx.old.conn.now)
-        (state S.Store tx.new.conn.now) (is_ok result) (without_version id) }
+pub(crate) fn delete_version<S: Alter>(conn: &mut Connection<S>, id: u64) -> Result<(), Fault>
+    ensures { AppliesInTransaction (state S.Store conn.old)
+        (state S.Store conn.new) (is_ok result) (without_version id) }
 {
     if id >= 9_223_372_036_854_775_808 {
         return Err(Fault::Device);
     }
-    take(tx, Table::Version, &[number(id)])?;
-    delete_routing(tx, id)?;
+    take(conn, Table::Version, &[number(id)])?;
+    delete_routing(conn, id)?;
     Ok(())
 }
 
 /// Writes a broadcast's row.
 pub(crate) fn put_broadcast<S: Alter>(
-    tx: &mut Transaction<'_, S>,
+    conn: &mut Connection<S>,
     key: BroadcastKey,
     broadcast: &Broadcast,
 ) -> Result<(), Fault>
-    ensures same_reference { tx.new.conn.ghost_name ≡ tx.old.conn.ghost_name }
-    ensures applies { AppliesInTransaction (state S.Store tx.old.conn.now)
-        (state S.Store tx.new.conn.now)
+    ensures { AppliesInTransaction (state S.Store conn.old)
+        (state S.Store conn.new)
         (is_ok result) (with_broadcast (broadcast_key_of key) (broadcast_row_of broadcast.now)) }
 {
     if key.id >= 9_223_372_036_854_775_808 || key.attempt >= 9_223_372_036_854_775_808 {
@@ -236,35 +213,33 @@ pub(crate) fn put_broadcast<S: Alter>(
     }
     let columns = broadcast_key(key);
     let params = broadcast_params(key, broadcast);
-    replace(tx, Table::Broadcast, &columns, &params)?;
+    replace(conn, Table::Broadcast, &columns, &params)?;
     Ok(())
 }
 
 /// Deletes a broadcast's row.
 pub(crate) fn delete_broadcast<S: Alter>(
-    tx: &mut Transaction<'_, S>,
+    conn: &mut Connection<S>,
     key: BroadcastKey,
 ) -> Result<(), Fault>
-    ensures same_reference { tx.new.conn.ghost_name ≡ tx.old.conn.ghost_name }
-    ensures applies { AppliesInTransaction (state S.Store tx.old.conn.now)
-        (state S.Store tx.new.conn.now) (is_ok result) (without_broadcast (broadcast_key_of key)) }
+    ensures { AppliesInTransaction (state S.Store conn.old)
+        (state S.Store conn.new) (is_ok result) (without_broadcast (broadcast_key_of key)) }
 {
     if key.id >= 9_223_372_036_854_775_808 || key.attempt >= 9_223_372_036_854_775_808 {
         return Err(Fault::Device);
     }
-    take(tx, Table::Broadcast, &broadcast_key(key))?;
+    take(conn, Table::Broadcast, &broadcast_key(key))?;
     Ok(())
 }
 
 /// Writes a pending download.
 pub(crate) fn put_wait<S: Alter>(
-    tx: &mut Transaction<'_, S>,
+    conn: &mut Connection<S>,
     key: WaitKey,
     of: Subject,
 ) -> Result<(), Fault>
-    ensures same_reference { tx.new.conn.ghost_name ≡ tx.old.conn.ghost_name }
-    ensures applies { AppliesInTransaction (state S.Store tx.old.conn.now)
-        (state S.Store tx.new.conn.now)
+    ensures { AppliesInTransaction (state S.Store conn.old)
+        (state S.Store conn.new)
         (is_ok result) (with_wait (wait_key_of key) (subject_of of)) }
 {
     if key.id >= 9_223_372_036_854_775_808 || key.attempt >= 9_223_372_036_854_775_808 {
@@ -273,20 +248,19 @@ pub(crate) fn put_wait<S: Alter>(
     let bytes = spid_bytes(key.carrier.number);
     let columns = wait_key(key, &bytes);
     let params = wait_params(key, of, &bytes);
-    replace(tx, Table::Wait, &columns, &params)?;
+    replace(conn, Table::Wait, &columns, &params)?;
     Ok(())
 }
 
 /// Deletes a pending download.
-pub(crate) fn delete_wait<S: Alter>(tx: &mut Transaction<'_, S>, key: WaitKey) -> Result<(), Fault>
-    ensures same_reference { tx.new.conn.ghost_name ≡ tx.old.conn.ghost_name }
-    ensures applies { AppliesInTransaction (state S.Store tx.old.conn.now)
-        (state S.Store tx.new.conn.now) (is_ok result) (without_wait (wait_key_of key)) }
+pub(crate) fn delete_wait<S: Alter>(conn: &mut Connection<S>, key: WaitKey) -> Result<(), Fault>
+    ensures { AppliesInTransaction (state S.Store conn.old)
+        (state S.Store conn.new) (is_ok result) (without_wait (wait_key_of key)) }
 {
     if key.id >= 9_223_372_036_854_775_808 || key.attempt >= 9_223_372_036_854_775_808 {
         return Err(Fault::Device);
     }
     let bytes = spid_bytes(key.carrier.number);
-    take(tx, Table::Wait, &wait_key(key, &bytes))?;
+    take(conn, Table::Wait, &wait_key(key, &bytes))?;
     Ok(())
 }

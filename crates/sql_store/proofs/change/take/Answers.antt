@@ -6,16 +6,18 @@ use Rattle.sql_rows.specs.Written.{Removed}
 use Rattle.sql_rows.proofs.WriteLemmas.{removes}
 use Rattle.sql_store.specs.Store.{WritesInTransaction}
 use Rattle.sql_store.proofs.CallLemmas.{clean_if_open, statement_writes}
+use Rattle.sql_store.specs.Transactions.{StaysInside}
+use Rattle.sql_store.proofs.TransactionLemmas.{delete_stays}
 use Rattle.sql_store.proofs.change.take.Goals as goal
 
-pub returns-in_err-execute-clause-writes : goal.returns-in_err-execute-clause-writes
-returns-in_err-execute-clause-writes g c =
-    let old = state g.S.Store c.args.tx.now.conn.now in
-    let new = state g.S.Store c.execute.new.self.conn.now in
+pub returns-in_err-execute : goal.returns-in_err-execute
+returns-in_err-execute g c =
+    let old = state g.S.Store c.args.conn.now in
+    let new = state g.S.Store c.execute.new.conn in
     let params = bound c.args.key.now in
     let fails : is_ok c.from_residual.result ≡ false = search rules in
     subst (λ b. WritesInTransaction old new b (Removed c.args.table params)) (sym fails)
-    (statement_writes g.S.Store c.args.tx.now.conn.now c.execute.new.self.conn.now
+    (statement_writes g.S.Store c.args.conn.now c.execute.new.conn
     c.delete_text.result.now params c.execute.result false (Removed c.args.table params)
     (clean_if_open new.is_clean new.is_open (g.met.S.Store.shut_if_dirty _)) c.execute.ensures.ended
     c.execute.ensures.runs c.execute.ensures.survives (λ bad. absurd (true≢false (sym bad)))
@@ -23,12 +25,12 @@ returns-in_err-execute-clause-writes g c =
     (inside.shaped c.args.table) (subst (λ t. Executes t params old new (Ok count))
     c.delete_text.ensures h)))
 
-pub returns-clause-writes : goal.returns-clause-writes
-returns-clause-writes g c =
-    let old = state g.S.Store c.args.tx.now.conn.now in
-    let new = state g.S.Store c.execute.new.self.conn.now in
+pub returns : goal.returns
+returns g c =
+    let old = state g.S.Store c.args.conn.now in
+    let new = state g.S.Store c.execute.new.conn in
     let params = bound c.args.key.now in
-    statement_writes g.S.Store c.args.tx.now.conn.now c.execute.new.self.conn.now
+    statement_writes g.S.Store c.args.conn.now c.execute.new.conn
     c.delete_text.result.now params c.execute.result true (Removed c.args.table params)
     (clean_if_open new.is_clean new.is_open (g.met.S.Store.shut_if_dirty _)) c.execute.ensures.ended
     c.execute.ensures.runs c.execute.ensures.survives
@@ -36,3 +38,7 @@ returns-clause-writes g c =
     (λ count inside h. removes c.args.table params old new inside.schema count
     (inside.shaped c.args.table) (subst (λ t. Executes t params old new (Ok count))
     c.delete_text.ensures h))
+
+pub execute-requires : goal.execute-requires
+execute-requires g c =
+    subst StaysInside (sym c.delete_text.ensures) (delete_stays c.args.table)

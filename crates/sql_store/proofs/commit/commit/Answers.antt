@@ -1,4 +1,4 @@
-use Rattle.std.proofs.Common.{rules, ◌≡◌, ◌∙◌, true, false, IsTrue, Option, is_ok, refl, sym, subst}
+use Rattle.std.proofs.Common.{rules, ◌≡◌, true, false, IsTrue, Option, is_ok, sym, subst}
 use Rattle.std.specs.Prelude.{option_map}
 use Rattle.sqlite.specs.Effect.{Database}
 use Rattle.sqlite.specs.Held.{state}
@@ -12,7 +12,7 @@ use Rattle.sql_rows.specs.Content.{content_in}
 use Rattle.sql_store.specs.Store.{HasQueried, HasCommitted, content_at}
 use Rattle.sql_store.specs.Changes.{IsChangedOver}
 use Rattle.sql_store.proofs.CallLemmas.{looked_turned, looked_unturned, read_leaves, unread_leaves}
-use Rattle.sql_store.proofs.KeptLemmas.{kept_by_commit, nothing_kept}
+use Rattle.sql_store.proofs.KeptLemmas.{kept_by_commit}
 use Rattle.sql_store.proofs.commit.commit.Goals as goal
 
 -- The clock's row that was read is the one before the changes.

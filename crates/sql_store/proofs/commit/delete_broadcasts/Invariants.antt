@@ -1,4 +1,4 @@
-use Rattle.std.proofs.Common.{◌≡◌, drop}
+use Rattle.std.proofs.Common.{drop}
 use Rattle.sqlite.specs.Held.{state}
 use Rattle.sql_store.specs.Changes.{all_made, without_broadcast}
 use Rattle.settle.specs.Abstraction.{broadcast_key_of}
@@ -8,8 +8,7 @@ use Rattle.sql_store.proofs.commit.delete_broadcasts.Given as goal
 -- The changes so far, with those left after them, are all changes.
 abbrev pub invariant-loop-key : goal.invariant-loop-key
 invariant-loop-key g l = record {
-  same_reference : l.tx.conn.ghost_name ≡ l.fn.tx.conn.ghost_name;
-  goes : IsTransactionProgress (state g.S.Store l.fn.tx.conn.now) (state g.S.Store l.tx.conn.now)
+  goes : IsTransactionProgress (state g.S.Store l.fn.conn) (state g.S.Store l.conn)
       (all_made (λ k. without_broadcast (broadcast_key_of k)) (drop l.key-index l.keys))
       (all_made (λ k. without_broadcast (broadcast_key_of k)) l.keys);
 }

@@ -9,12 +9,11 @@ use Rattle.sql_store.proofs.commit.put_waits.Goals as goal
 
 pub loop-row-preserved : goal.loop-row-preserved
 loop-row-preserved g c =
-    let a = state g.S.Store c.args.tx.now.conn.now in
-    let b = state g.S.Store c.loop-row.tx.conn.now in
-    let d = state g.S.Store c.put_wait.new.tx.conn.now in
+    let a = state g.S.Store c.args.conn.now in
+    let b = state g.S.Store c.loop-row.conn in
+    let d = state g.S.Store c.put_wait.new.conn in
     record {
-      same_reference = search rules;
-      goes = goes_then a b d _ _ _ _ c.loop-row.invariant.goes c.in_ok-put_wait.ensures.applies
+      goes = goes_then a b d _ _ _ _ c.loop-row.invariant.goes c.in_ok-put_wait.ensures
           (λ m. one_more (λ p. with_wait (wait_key_of p.0) (subject_of p.1)) c.args.rows.now
           c.loop-row.row-index c.row-item.result c.loop-row-test.true (search rules) m);
     }

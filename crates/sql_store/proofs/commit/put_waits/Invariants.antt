@@ -1,4 +1,4 @@
-use Rattle.std.proofs.Common.{◌≡◌, drop}
+use Rattle.std.proofs.Common.{drop}
 use Rattle.sqlite.specs.Held.{state}
 use Rattle.sql_store.specs.Changes.{all_made, with_wait}
 use Rattle.settle.specs.Abstraction.{wait_key_of}
@@ -9,8 +9,7 @@ use Rattle.sql_store.proofs.commit.put_waits.Given as goal
 -- The changes so far, with those left after them, are all changes.
 abbrev pub invariant-loop-row : goal.invariant-loop-row
 invariant-loop-row g l = record {
-  same_reference : l.tx.conn.ghost_name ≡ l.fn.tx.conn.ghost_name;
-  goes : IsTransactionProgress (state g.S.Store l.fn.tx.conn.now) (state g.S.Store l.tx.conn.now)
+  goes : IsTransactionProgress (state g.S.Store l.fn.conn) (state g.S.Store l.conn)
       (all_made (λ p. with_wait (wait_key_of p.0) (subject_of p.1)) (drop l.row-index l.rows))
       (all_made (λ p. with_wait (wait_key_of p.0) (subject_of p.1)) l.rows);
 }

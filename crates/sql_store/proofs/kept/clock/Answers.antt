@@ -1,6 +1,6 @@
 use Rattle.std.proofs.Common.{sym}
 use Rattle.sqlite.specs.Held.{state}
-use Rattle.sql_store.proofs.KeptLemmas.{kept_as_read, kept_queried}
+use Rattle.sql_store.proofs.KeptLemmas.{kept_queried}
 use Rattle.sql_store.proofs.kept.clock.Goals as goal
 
 pub returns-in-Some-clause-value : goal.returns-in-Some-clause-value

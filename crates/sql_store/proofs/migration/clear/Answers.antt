@@ -5,15 +5,17 @@ use Rattle.sql_rows.specs.Migration.{IsCleared, table_of_old}
 use Rattle.sql_rows.proofs.WriteLemmas.{clears}
 use Rattle.sql_store.specs.Store.{WritesInTransaction}
 use Rattle.sql_store.proofs.CallLemmas.{clean_if_open, statement_writes}
+use Rattle.sql_store.specs.Transactions.{StaysInside}
+use Rattle.sql_store.proofs.TransactionLemmas.{clear_stays}
 use Rattle.sql_store.proofs.migration.clear.Goals as goal
 
-pub returns-in_err-execute-clause-writes : goal.returns-in_err-execute-clause-writes
-returns-in_err-execute-clause-writes g c =
-    let old = state g.S.Store c.args.tx.now.conn.now in
-    let new = state g.S.Store c.execute.new.self.conn.now in
+pub returns-in_err-execute : goal.returns-in_err-execute
+returns-in_err-execute g c =
+    let old = state g.S.Store c.args.conn.now in
+    let new = state g.S.Store c.execute.new.conn in
     let fails : is_ok c.from_residual.result ≡ false = search rules in
     subst (λ b. WritesInTransaction old new b (IsCleared c.args.table)) (sym fails)
-    (statement_writes g.S.Store c.args.tx.now.conn.now c.execute.new.self.conn.now
+    (statement_writes g.S.Store c.args.conn.now c.execute.new.conn
     c.clear_text.result.now [] c.execute.result false (IsCleared c.args.table)
     (clean_if_open new.is_clean new.is_open (g.met.S.Store.shut_if_dirty _)) c.execute.ensures.ended
     c.execute.ensures.runs c.execute.ensures.survives (λ bad. absurd (true≢false (sym bad)))
@@ -21,11 +23,11 @@ returns-in_err-execute-clause-writes g c =
     (inside.shaped (table_of_old c.args.table)) (subst (λ t. Executes t [] old new (Ok count))
     c.clear_text.ensures h)))
 
-pub returns-clause-writes : goal.returns-clause-writes
-returns-clause-writes g c =
-    let old = state g.S.Store c.args.tx.now.conn.now in
-    let new = state g.S.Store c.execute.new.self.conn.now in
-    statement_writes g.S.Store c.args.tx.now.conn.now c.execute.new.self.conn.now
+pub returns : goal.returns
+returns g c =
+    let old = state g.S.Store c.args.conn.now in
+    let new = state g.S.Store c.execute.new.conn in
+    statement_writes g.S.Store c.args.conn.now c.execute.new.conn
     c.clear_text.result.now [] c.execute.result true (IsCleared c.args.table)
     (clean_if_open new.is_clean new.is_open (g.met.S.Store.shut_if_dirty _)) c.execute.ensures.ended
     c.execute.ensures.runs c.execute.ensures.survives
@@ -33,3 +35,7 @@ returns-clause-writes g c =
     (λ count inside h. clears c.args.table old new inside.schema count
     (inside.shaped (table_of_old c.args.table)) (subst (λ t. Executes t [] old new (Ok count))
     c.clear_text.ensures h))
+
+pub execute-requires : goal.execute-requires
+execute-requires g c =
+    subst StaysInside (sym c.clear_text.ensures) (clear_stays c.args.table)

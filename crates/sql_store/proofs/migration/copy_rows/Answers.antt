@@ -45,52 +45,52 @@ module _ (xs : List ℕ) (clock : Option OldClock) where
         shaped = w.did.2.0.1;
       })
 
-pub returns-in_err-put_each-clause-writes : goal.returns-in_err-put_each-clause-writes
-returns-in_err-put_each-clause-writes g c =
-    let a = state g.S.Store c.args.tx.now.conn.now in
-    let b = state g.S.Store c.put_each.new.tx.conn.now in
+pub returns-in_err-put_each : goal.returns-in_err-put_each
+returns-in_err-put_each g c =
+    let a = state g.S.Store c.args.conn.now in
+    let b = state g.S.Store c.put_each.new.conn in
     let fails : is_ok c.from_residual.result ≡ false = search rules in
     subst (λ x. WritesInTransaction a b x (AreRowsCopied c.args.ids.now c.args.clock)) (sym fails)
-    (writes_nothing a b _ _ c.in_err-put_each.ensures.writes)
+    (writes_nothing a b _ _ c.in_err-put_each.ensures)
 
-pub returns-in_err-put_first_set-clause-writes : goal.returns-in_err-put_first_set-clause-writes
-returns-in_err-put_first_set-clause-writes g c =
-    let a = state g.S.Store c.args.tx.now.conn.now in
-    let b = state g.S.Store c.put_each.new.tx.conn.now in
-    let d = state g.S.Store c.put_first_set.new.tx.conn.now in
+pub returns-in_err-put_first_set : goal.returns-in_err-put_first_set
+returns-in_err-put_first_set g c =
+    let a = state g.S.Store c.args.conn.now in
+    let b = state g.S.Store c.put_each.new.conn in
+    let d = state g.S.Store c.put_first_set.new.conn in
     let fails : is_ok c.from_residual-in_err-put_first_set.result ≡ false = search rules in
     let Filled = AreRowsCopied c.args.ids.now c.args.clock in
     subst (λ x. WritesInTransaction a d x Filled) (sym fails)
     (to_writes a d false Filled (does_stop a b d IsInTransaction IsInTransaction
     (ArePutBut [] c.args.ids.now)
     (IsChangedBy (first_set c.args.clock)) Filled
-    (from_writes a b true (ArePutBut [] c.args.ids.now) c.in_ok-put_each.ensures.writes)
+    (from_writes a b true (ArePutBut [] c.args.ids.now) c.in_ok-put_each.ensures)
     (from_makes b d false (first_set c.args.clock) c.in_err-put_first_set.ensures.applies)))
 
-pub returns-in_err-clear_versions-clause-writes : goal.returns-in_err-clear_versions-clause-writes
-returns-in_err-clear_versions-clause-writes g c =
-    let a = state g.S.Store c.args.tx.now.conn.now in
-    let b = state g.S.Store c.put_each.new.tx.conn.now in
-    let d = state g.S.Store c.put_first_set.new.tx.conn.now in
-    let e = state g.S.Store c.clear_versions.new.tx.conn.now in
+pub returns-in_err-clear_versions : goal.returns-in_err-clear_versions
+returns-in_err-clear_versions g c =
+    let a = state g.S.Store c.args.conn.now in
+    let b = state g.S.Store c.put_each.new.conn in
+    let d = state g.S.Store c.put_first_set.new.conn in
+    let e = state g.S.Store c.clear_versions.new.conn in
     let fails : is_ok c.from_residual-in_err-clear_versions.result ≡ false = search rules in
     let Filled = AreRowsCopied c.args.ids.now c.args.clock in
     let One = Both (ArePutBut [] c.args.ids.now) (IsFirstSetPut c.args.clock) in
     subst (λ x. WritesInTransaction a e x Filled) (sym fails)
     (to_writes a e false Filled (does_stop a d e IsInTransaction IsInTransaction One
     (IsCleared former.Version)
-    Filled (one c.args.ids.now c.args.clock a b d c.in_ok-put_each.ensures.writes
+    Filled (one c.args.ids.now c.args.clock a b d c.in_ok-put_each.ensures
     c.in_ok-put_first_set.ensures.applies
     c.in_ok-put_first_set.ensures.others)
-    (from_writes d e false (IsCleared former.Version) c.in_err-clear_versions.ensures.writes)))
+    (from_writes d e false (IsCleared former.Version) c.in_err-clear_versions.ensures)))
 
-pub returns-in_err-clear-clause-writes : goal.returns-in_err-clear-clause-writes
-returns-in_err-clear-clause-writes g c =
-    let a = state g.S.Store c.args.tx.now.conn.now in
-    let b = state g.S.Store c.put_each.new.tx.conn.now in
-    let d = state g.S.Store c.put_first_set.new.tx.conn.now in
-    let e = state g.S.Store c.clear_versions.new.tx.conn.now in
-    let f = state g.S.Store c.clear.new.tx.conn.now in
+pub returns-in_err-clear : goal.returns-in_err-clear
+returns-in_err-clear g c =
+    let a = state g.S.Store c.args.conn.now in
+    let b = state g.S.Store c.put_each.new.conn in
+    let d = state g.S.Store c.put_first_set.new.conn in
+    let e = state g.S.Store c.clear_versions.new.conn in
+    let f = state g.S.Store c.clear.new.conn in
     let xs = c.args.ids.now in
     let clock = c.args.clock in
     let fails : is_ok c.from_residual-in_err-clear.result ≡ false = search rules in
@@ -101,18 +101,18 @@ returns-in_err-clear-clause-writes g c =
     (to_writes a f false Filled (does_stop a e f IsInTransaction IsInTransaction Two
     (IsCleared former.Clock)
     Filled
-    (two xs clock a d e (one xs clock a b d c.in_ok-put_each.ensures.writes
+    (two xs clock a d e (one xs clock a b d c.in_ok-put_each.ensures
     c.in_ok-put_first_set.ensures.applies
-    c.in_ok-put_first_set.ensures.others) c.in_ok-clear_versions.ensures.writes)
-    (from_writes e f false (IsCleared former.Clock) c.in_err-clear.ensures.writes)))
+    c.in_ok-put_first_set.ensures.others) c.in_ok-clear_versions.ensures)
+    (from_writes e f false (IsCleared former.Clock) c.in_err-clear.ensures)))
 
-pub returns-clause-writes : goal.returns-clause-writes
-returns-clause-writes g c =
-    let a = state g.S.Store c.args.tx.now.conn.now in
-    let b = state g.S.Store c.put_each.new.tx.conn.now in
-    let d = state g.S.Store c.put_first_set.new.tx.conn.now in
-    let e = state g.S.Store c.clear_versions.new.tx.conn.now in
-    let f = state g.S.Store c.clear.new.tx.conn.now in
+pub returns : goal.returns
+returns g c =
+    let a = state g.S.Store c.args.conn.now in
+    let b = state g.S.Store c.put_each.new.conn in
+    let d = state g.S.Store c.put_first_set.new.conn in
+    let e = state g.S.Store c.clear_versions.new.conn in
+    let f = state g.S.Store c.clear.new.conn in
     let xs = c.args.ids.now in
     let clock = c.args.clock in
     let Two = Both (Both (ArePutBut [] xs) (IsFirstSetPut clock))
@@ -120,10 +120,10 @@ returns-clause-writes g c =
     to_writes a f true (AreRowsCopied xs clock) (alters_as a f IsInTransaction IsInTransaction true
     (Both Two (IsCleared former.Clock)) (AreRowsCopied xs clock)
     (does_then a e f IsInTransaction IsInTransaction Two (IsCleared former.Clock) true
-    (two xs clock a d e (one xs clock a b d c.in_ok-put_each.ensures.writes
+    (two xs clock a d e (one xs clock a b d c.in_ok-put_each.ensures
     c.in_ok-put_first_set.ensures.applies
-    c.in_ok-put_first_set.ensures.others) c.in_ok-clear_versions.ensures.writes)
-    (from_writes e f true (IsCleared former.Clock) c.in_ok-clear.ensures.writes)
+    c.in_ok-put_first_set.ensures.others) c.in_ok-clear_versions.ensures)
+    (from_writes e f true (IsCleared former.Clock) c.in_ok-clear.ensures)
     (λ inside w. let cleared = w.did.2 in record {
       is_open = w.is_open;
       inside = w.inside;

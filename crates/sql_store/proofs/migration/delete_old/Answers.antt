@@ -7,9 +7,9 @@ use Rattle.sql_store.specs.Store.{WritesInTransaction}
 use Rattle.sql_store.proofs.LookupLemmas.{one_bound}
 use Rattle.sql_store.proofs.migration.delete_old.Goals as goal
 
-pub returns-clause-writes : goal.returns-clause-writes
-returns-clause-writes g c =
-    let old = state g.S.Store c.args.tx.now.conn.now in
-    let new = state g.S.Store c.take.new.tx.conn.now in
+pub returns : goal.returns
+returns g c =
+    let old = state g.S.Store c.args.conn.now in
+    let new = state g.S.Store c.take.new.conn in
     subst (λ k. WritesInTransaction old new (is_ok c.take.result) (Removed OldVersion k))
-    (one_bound c.number.result (Int (pos c.args.id)) refl c.number.ensures) c.take.ensures.writes
+    (one_bound c.number.result (Int (pos c.args.id)) refl c.number.ensures) c.take.ensures

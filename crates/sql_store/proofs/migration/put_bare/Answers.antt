@@ -11,18 +11,18 @@ use Rattle.sql_store.proofs.CallLemmas.{writes_as, writes_nothing}
 use Rattle.sql_store.proofs.LookupLemmas.{one_bound}
 use Rattle.sql_store.proofs.migration.put_bare.Goals as goal
 
-pub returns-in_err-replace-clause-writes : goal.returns-in_err-replace-clause-writes
-returns-in_err-replace-clause-writes g c =
-    let old = state g.S.Store c.args.tx.now.conn.now in
-    let new = state g.S.Store c.replace.new.tx.conn.now in
+pub returns-in_err-replace : goal.returns-in_err-replace
+returns-in_err-replace g c =
+    let old = state g.S.Store c.args.conn.now in
+    let new = state g.S.Store c.replace.new.conn in
     let fails : is_ok c.from_residual.result ≡ false = search rules in
     subst (λ d. WritesInTransaction old new d (IsBarePut c.args.id c.args.row.now)) (sym fails)
-    (writes_nothing old new _ _ c.in_err-replace.ensures.writes)
+    (writes_nothing old new _ _ c.in_err-replace.ensures)
 
-pub returns-clause-writes : goal.returns-clause-writes
-returns-clause-writes g c =
-    let old = state g.S.Store c.args.tx.now.conn.now in
-    let new = state g.S.Store c.replace.new.tx.conn.now in
+pub returns : goal.returns
+returns g c =
+    let old = state g.S.Store c.args.conn.now in
+    let new = state g.S.Store c.replace.new.conn in
     let id = c.args.id in
     let row = c.args.row.now in
     let fit : IsTrue c.fits.result = search rules in
@@ -31,4 +31,4 @@ returns-clause-writes g c =
     (IsBarePut id row) (λ did. (did, back))
     (subst₂ (λ k r. WritesInTransaction old new true (Replaced Version k r))
     (one_bound c.number.result (Int (pos id)) refl c.number.ensures)
-    (bound_version _ id row c.version_params-params.ensures) c.in_ok-replace.ensures.writes)
+    (bound_version _ id row c.version_params-params.ensures) c.in_ok-replace.ensures)

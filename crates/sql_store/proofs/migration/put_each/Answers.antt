@@ -7,21 +7,19 @@ use Rattle.sql_store.proofs.migration.put_each.Goals as goal
 
 pub loop-id-init : goal.loop-id-init
 loop-id-init g c = record {
-  same_reference = search rules;
-  puts = put_none (state g.S.Store c.args.tx.now.conn.now) c.args.ids.now;
+  puts = put_none (state g.S.Store c.args.conn.now) c.args.ids.now;
 }
 
 pub loop-id-preserved : goal.loop-id-preserved
 loop-id-preserved g c =
-    let a = state g.S.Store c.args.tx.now.conn.now in
-    let b = state g.S.Store c.loop-id.tx.conn.now in
-    let d = state g.S.Store c.put_old.new.tx.conn.now in
+    let a = state g.S.Store c.args.conn.now in
+    let b = state g.S.Store c.loop-id.conn in
+    let d = state g.S.Store c.put_old.new.conn in
     let ids = c.args.ids.now in
     let i = c.loop-id.id-index in
     let within : i < length ids = search rules in
     record {
-      same_reference = search rules;
       puts = puts_then a b d (get_or ids i 0) (drop (i + 1) ids) ids
           (subst (λ l. WritesInTransaction a b true (ArePutBut l ids)) (one_left ids i within)
-          c.loop-id.invariant.puts) c.in_ok-put_old.ensures.writes;
+          c.loop-id.invariant.puts) c.in_ok-put_old.ensures;
     }

@@ -8,11 +8,11 @@ use Rattle.settle.specs.Abstraction.{broadcast_key_of}
 use Rattle.sql_store.proofs.MadeLemmas.{take_made}
 use Rattle.sql_store.proofs.rows.delete_broadcast.Goals as goal
 
-pub returns-clause-applies : goal.returns-clause-applies
-returns-clause-applies g c =
-    let old = state g.S.Store c.args.tx.now.conn.now in
-    let new = state g.S.Store c.take.new.tx.conn.now in
+pub returns : goal.returns
+returns g c =
+    let old = state g.S.Store c.args.conn.now in
+    let new = state g.S.Store c.take.new.conn in
     let k = broadcast_key_of c.args.key in
     take_made old new Broadcast (broadcast_key_params k) _ (without_broadcast k)
-    (bound_broadcast_key _ k c.broadcast_key.ensures) c.in_ok-take.ensures.writes
+    (bound_broadcast_key _ k c.broadcast_key.ensures) c.in_ok-take.ensures
     (λ shaped did. take_broadcast old.now new.now shaped k did)

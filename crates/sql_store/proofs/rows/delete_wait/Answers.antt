@@ -8,11 +8,11 @@ use Rattle.settle.specs.Abstraction.{wait_key_of}
 use Rattle.sql_store.proofs.MadeLemmas.{take_made}
 use Rattle.sql_store.proofs.rows.delete_wait.Goals as goal
 
-pub returns-clause-applies : goal.returns-clause-applies
-returns-clause-applies g c =
-    let old = state g.S.Store c.args.tx.now.conn.now in
-    let new = state g.S.Store c.take.new.tx.conn.now in
+pub returns : goal.returns
+returns g c =
+    let old = state g.S.Store c.args.conn.now in
+    let new = state g.S.Store c.take.new.conn in
     let k = wait_key_of c.args.key in
     take_made old new Wait (wait_key_params k) _ (without_wait k)
-    (bound_wait_key _ k c.wait_key.ensures) c.in_ok-take.ensures.writes
+    (bound_wait_key _ k c.wait_key.ensures) c.in_ok-take.ensures
     (λ shaped did. take_wait old.now new.now shaped c.args.key did)

@@ -12,10 +12,10 @@ use Rattle.sql_store.proofs.LookupLemmas.{one_bound}
 use Rattle.sql_store.proofs.MadeLemmas.{put_made}
 use Rattle.sql_store.proofs.rows.put_block.Goals as goal
 
-pub returns-clause-applies : goal.returns-clause-applies
-returns-clause-applies g c =
-    let old = state g.S.Store c.args.tx.now.conn.now in
-    let new = state g.S.Store c.replace.new.tx.conn.now in
+pub returns : goal.returns
+returns g c =
+    let old = state g.S.Store c.args.conn.now in
+    let new = state g.S.Store c.replace.new.conn in
     let n = c.args.block.number in
     let row = c.args.row.now in
     let fit : IsTrue c.fits_block.result = search rules in
@@ -24,6 +24,6 @@ returns-clause-applies g c =
     (c.number.ensures ∙ ap (λ k. Int (pos k)) c.from-key.ensures))
     (bound_block _ n (block_row_of row) (c.block_params-params.ensures
     ∙ ap (λ k. block_params k (block_row_of row)) c.from-key.ensures))
-    c.in_ok-replace.ensures.writes
+    c.in_ok-replace.ensures
     (λ shaped did. put_block old.now new.now shaped n (block_row_of row)
     (block_back c.args.block row (c.fits_block.ensures fit)) did)

@@ -10,10 +10,10 @@ use Rattle.settle.specs.Abstraction.{broadcast_key_of, broadcast_row_of}
 use Rattle.sql_store.proofs.MadeLemmas.{put_made}
 use Rattle.sql_store.proofs.rows.put_broadcast.Goals as goal
 
-pub returns-clause-applies : goal.returns-clause-applies
-returns-clause-applies g c =
-    let old = state g.S.Store c.args.tx.now.conn.now in
-    let new = state g.S.Store c.replace.new.tx.conn.now in
+pub returns : goal.returns
+returns g c =
+    let old = state g.S.Store c.args.conn.now in
+    let new = state g.S.Store c.replace.new.conn in
     let k = broadcast_key_of c.args.key in
     let b = broadcast_row_of c.args.broadcast.now in
     let low : c.args.key.id < 9223372036854775808 =
@@ -23,5 +23,5 @@ returns-clause-applies g c =
     put_made old new Broadcast (broadcast_key_params k) _ (broadcast_params k b) _
     (with_broadcast k b) (bound_broadcast_key _ k c.broadcast_key-columns.ensures)
     (bound_broadcast _ k b c.broadcast_params-params.ensures)
-    c.in_ok-replace.ensures.writes (λ shaped did. put_broadcast old.now new.now shaped k b
+    c.in_ok-replace.ensures (λ shaped did. put_broadcast old.now new.now shaped k b
     (λ rowid. broadcast_back rowid c.args.key c.args.broadcast.now low few) did)

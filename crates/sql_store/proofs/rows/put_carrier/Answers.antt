@@ -9,13 +9,13 @@ use Rattle.sql_store.proofs.LookupLemmas.{one_bound}
 use Rattle.sql_store.proofs.MadeLemmas.{put_made}
 use Rattle.sql_store.proofs.rows.put_carrier.Goals as goal
 
-pub returns-clause-applies : goal.returns-clause-applies
-returns-clause-applies g c =
-    let old = state g.S.Store c.args.tx.now.conn.now in
-    let new = state g.S.Store c.replace.new.tx.conn.now in
+pub returns : goal.returns
+returns g c =
+    let old = state g.S.Store c.args.conn.now in
+    let new = state g.S.Store c.replace.new.conn in
     let n = c.args.spid.number in
     put_made old new Carrier (carrier_params n) _ (carrier_params n) _ (with_carrier n)
     (one_bound c.text.result (Text _) refl (c.text.ensures ∙ ap Text c.spid_bytes-bytes.ensures))
     (one_bound c.text-2.result (Text _) refl (c.text-2.ensures
-    ∙ ap Text c.spid_bytes-bytes.ensures)) c.in_ok-replace.ensures.writes
+    ∙ ap Text c.spid_bytes-bytes.ensures)) c.in_ok-replace.ensures
     (λ shaped did. put_carrier old.now new.now shaped c.args.spid did)

@@ -12,16 +12,16 @@ use Rattle.sql_store.proofs.LookupLemmas.{one_bound}
 use Rattle.sql_store.proofs.MadeLemmas.{put_made}
 use Rattle.sql_store.proofs.rows.put_clock.Goals as goal
 
-pub returns-clause-applies : goal.returns-clause-applies
-returns-clause-applies g c =
-    let old = state g.S.Store c.args.tx.now.conn.now in
-    let new = state g.S.Store c.replace.new.tx.conn.now in
+pub returns : goal.returns
+returns g c =
+    let old = state g.S.Store c.args.conn.now in
+    let new = state g.S.Store c.replace.new.conn in
     let row = c.args.row.now in
     let few : row.next_id < 9223372036854775808 = search rules in
     let least : 0 < row.present = search rules in
     let most : row.present ≤ 1000 = search rules in
     put_made old new Clock (Int (pos 0) ∷ []) _ (clock_params 0 (clock_of row)) _
     (with_clock (clock_of row)) (one_bound c.number.result (Int (pos 0)) refl c.number.ensures)
-    (bound_clock _ 0 (clock_of row) c.clock_params.ensures) c.in_ok-replace.ensures.writes
+    (bound_clock _ 0 (clock_of row) c.clock_params.ensures) c.in_ok-replace.ensures
     (λ shaped did. put_clock old.now new.now shaped (clock_of row) (clock_back row few least most)
     did)

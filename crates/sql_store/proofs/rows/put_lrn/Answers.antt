@@ -10,15 +10,15 @@ use Rattle.sql_store.proofs.LookupLemmas.{one_bound}
 use Rattle.sql_store.proofs.MadeLemmas.{put_made, two_bound}
 use Rattle.sql_store.proofs.rows.put_lrn.Goals as goal
 
-pub returns-clause-applies : goal.returns-clause-applies
-returns-clause-applies g c =
-    let old = state g.S.Store c.args.tx.now.conn.now in
-    let new = state g.S.Store c.replace.new.tx.conn.now in
+pub returns : goal.returns
+returns g c =
+    let old = state g.S.Store c.args.conn.now in
+    let new = state g.S.Store c.replace.new.conn in
     let n = c.args.lrn.number in
     let m = c.args.owner.number in
     put_made old new Lrn (Int (pos n) ∷ []) _ (owner_params n m) _ (with_lrn n m)
     (one_bound c.number-key.result (Int (pos n)) refl c.number-key.ensures)
     (two_bound c.number-key.result c.text.result (Int (pos n)) (Text _) refl refl
     c.number-key.ensures (c.text.ensures ∙ ap Text c.spid_bytes-bytes.ensures))
-    c.in_ok-replace.ensures.writes
+    c.in_ok-replace.ensures
     (λ shaped did. put_lrn old.now new.now shaped n m (lrn_back c.args.lrn c.args.owner) did)

@@ -26,13 +26,13 @@ use Rattle.sql_store.proofs.rows.put_set.Goals as goal
 
 pub returns-in_err-replace-2-clause-applies : goal.returns-in_err-replace-2-clause-applies
 returns-in_err-replace-2-clause-applies g c =
-    let old = state g.S.Store c.args.tx.now.conn.now in
-    let mid = state g.S.Store c.replace.new.tx.conn.now in
-    let new = state g.S.Store c.replace-2.new.tx.conn.now in
+    let old = state g.S.Store c.args.conn.now in
+    let mid = state g.S.Store c.replace.new.conn in
+    let new = state g.S.Store c.replace-2.new.conn in
     let fails : is_ok c.from_residual-in_err-replace-2.result ≡ false = search rules in
     subst (λ d. AppliesInTransaction old new d (with_set (clock_of c.args.row.now)
     (windows_of c.args.windows.now))) (sym fails)
-    (two_stop old mid new _ _ _ c.in_ok-replace.ensures.writes c.in_err-replace-2.ensures.writes)
+    (two_stop old mid new _ _ _ c.in_ok-replace.ensures c.in_err-replace-2.ensures)
 
 -- What both statements wrote, by the values of the code.
 module _ (row : StoredImpl) (windows : WindowsImpl) (few : row.next_id < 9223372036854775808)
@@ -91,27 +91,27 @@ module _ (row : StoredImpl) (windows : WindowsImpl) (few : row.next_id < 9223372
 
 pub returns-in_err-replace-clause-others : goal.returns-in_err-replace-clause-others
 returns-in_err-replace-clause-others g c =
-    let old = state g.S.Store c.args.tx.now.conn.now in
-    let new = state g.S.Store c.replace.new.tx.conn.now in
+    let old = state g.S.Store c.args.conn.now in
+    let new = state g.S.Store c.replace.new.conn in
     let fails : is_ok c.from_residual.result ≡ false = search rules in
     subst (λ d. WritesInTransaction old new d IsSetPut) (sym fails)
-    (writes_nothing old new _ _ c.in_err-replace.ensures.writes)
+    (writes_nothing old new _ _ c.in_err-replace.ensures)
 
 pub returns-in_err-replace-2-clause-others : goal.returns-in_err-replace-2-clause-others
 returns-in_err-replace-2-clause-others g c =
-    let old = state g.S.Store c.args.tx.now.conn.now in
-    let mid = state g.S.Store c.replace.new.tx.conn.now in
-    let new = state g.S.Store c.replace-2.new.tx.conn.now in
+    let old = state g.S.Store c.args.conn.now in
+    let mid = state g.S.Store c.replace.new.conn in
+    let new = state g.S.Store c.replace-2.new.conn in
     let fails : is_ok c.from_residual-in_err-replace-2.result ≡ false = search rules in
     subst (λ d. WritesInTransaction old new d IsSetPut) (sym fails)
-    (two_unwritten old mid new _ _ _ c.in_ok-replace.ensures.writes
-    c.in_err-replace-2.ensures.writes)
+    (two_unwritten old mid new _ _ _ c.in_ok-replace.ensures
+    c.in_err-replace-2.ensures)
 
 pub returns-clause-applies : goal.returns-clause-applies
 returns-clause-applies g c =
-    let old = state g.S.Store c.args.tx.now.conn.now in
-    let mid = state g.S.Store c.replace.new.tx.conn.now in
-    let new = state g.S.Store c.replace-2.new.tx.conn.now in
+    let old = state g.S.Store c.args.conn.now in
+    let mid = state g.S.Store c.replace.new.conn in
+    let new = state g.S.Store c.replace-2.new.conn in
     let row = c.args.row.now in
     let few : row.next_id < 9223372036854775808 = search rules in
     let least : 0 < row.present = search rules in
@@ -121,18 +121,18 @@ returns-clause-applies g c =
     (one_bound c.number-key.result (Int (pos row.present)) refl (c.number-key.ensures
     ∙ ap (λ k. Int (pos k)) c.from.ensures)) (bound_set _ row.present
     (windows_of c.args.windows.now) c.set_params.ensures)
-    c.in_ok-replace.ensures.writes in
+    c.in_ok-replace.ensures in
     let second =
     subst₂ (λ k r. WritesInTransaction mid new true (Replaced Clock k r))
     (one_bound c.number.result (Int (pos 0)) refl c.number.ensures) (bound_clock _ 0 (clock_of row)
-    c.clock_params.ensures) c.in_ok-replace-2.ensures.writes in
+    c.clock_params.ensures) c.in_ok-replace-2.ensures in
     made row c.args.windows.now few least most old mid new first second
 
 pub returns-clause-others : goal.returns-clause-others
 returns-clause-others g c =
-    let old = state g.S.Store c.args.tx.now.conn.now in
-    let mid = state g.S.Store c.replace.new.tx.conn.now in
-    let new = state g.S.Store c.replace-2.new.tx.conn.now in
+    let old = state g.S.Store c.args.conn.now in
+    let mid = state g.S.Store c.replace.new.conn in
+    let new = state g.S.Store c.replace-2.new.conn in
     let row = c.args.row.now in
     let few : row.next_id < 9223372036854775808 = search rules in
     let least : 0 < row.present = search rules in
@@ -142,9 +142,9 @@ returns-clause-others g c =
     (one_bound c.number-key.result (Int (pos row.present)) refl (c.number-key.ensures
     ∙ ap (λ k. Int (pos k)) c.from.ensures)) (bound_set _ row.present
     (windows_of c.args.windows.now) c.set_params.ensures)
-    c.in_ok-replace.ensures.writes in
+    c.in_ok-replace.ensures in
     let second =
     subst₂ (λ k r. WritesInTransaction mid new true (Replaced Clock k r))
     (one_bound c.number.result (Int (pos 0)) refl c.number.ensures) (bound_clock _ 0 (clock_of row)
-    c.clock_params.ensures) c.in_ok-replace-2.ensures.writes in
+    c.clock_params.ensures) c.in_ok-replace-2.ensures in
     others row c.args.windows.now few least most old mid new first second

@@ -14,10 +14,10 @@ use Rattle.sql_store.proofs.LookupLemmas.{one_bound}
 use Rattle.sql_store.proofs.MadeLemmas.{put_made}
 use Rattle.sql_store.proofs.rows.put_set_alone.Goals as goal
 
-pub returns-clause-applies : goal.returns-clause-applies
-returns-clause-applies g c =
-    let old = state g.S.Store c.args.tx.now.conn.now in
-    let new = state g.S.Store c.replace.new.tx.conn.now in
+pub returns : goal.returns
+returns g c =
+    let old = state g.S.Store c.args.conn.now in
+    let new = state g.S.Store c.replace.new.conn in
     let set = c.args.set in
     let windows = windows_of set.windows in
     let least : 0 < set.number = search rules in
@@ -26,7 +26,7 @@ returns-clause-applies g c =
     (with_set_alone set.number windows)
     (one_bound c.number-key.result (Int (pos set.number)) refl (c.number-key.ensures
     ∙ ap (λ k. Int (pos k)) c.from.ensures)) (bound_set _ set.number windows c.set_params.ensures)
-    c.in_ok-replace.ensures.writes
+    c.in_ok-replace.ensures
     (λ shaped did. let b = put_set old.now new.now shaped set.number windows (set_back set least
     most) did in record {
       schema = b.schema;

@@ -28,20 +28,20 @@ whole_put old mid new shaped id v None sends back first second =
 whole_put old mid new shaped id v (Some r) sends back first second =
     put_modified old mid new shaped id v r sends back second.1 first second.0
 
-pub returns-in_err-put_next-clause-applies : goal.returns-in_err-put_next-clause-applies
-returns-in_err-put_next-clause-applies g c =
-    let old = state g.S.Store c.args.tx.now.conn.now in
-    let mid = state g.S.Store c.replace.new.tx.conn.now in
-    let new = state g.S.Store c.put_next.new.tx.conn.now in
+pub returns-in_err-put_next : goal.returns-in_err-put_next
+returns-in_err-put_next g c =
+    let old = state g.S.Store c.args.conn.now in
+    let mid = state g.S.Store c.replace.new.conn in
+    let new = state g.S.Store c.put_next.new.conn in
     let fails : is_ok c.from_residual-in_err-put_next.result ≡ false = search rules in
     subst (λ d. AppliesInTransaction old new d (with_version c.args.id c.args.row.now)) (sym fails)
-    (two_stop old mid new _ _ _ c.in_ok-replace.ensures.writes c.in_err-put_next.ensures.writes)
+    (two_stop old mid new _ _ _ c.in_ok-replace.ensures c.in_err-put_next.ensures)
 
-pub returns-clause-applies : goal.returns-clause-applies
-returns-clause-applies g c =
-    let old = state g.S.Store c.args.tx.now.conn.now in
-    let mid = state g.S.Store c.replace.new.tx.conn.now in
-    let new = state g.S.Store c.put_next.new.tx.conn.now in
+pub returns : goal.returns
+returns g c =
+    let old = state g.S.Store c.args.conn.now in
+    let mid = state g.S.Store c.replace.new.conn in
+    let new = state g.S.Store c.put_next.new.conn in
     let id = c.args.id in
     let row = c.args.row.now in
     let fit : IsTrue c.fits.result = search rules in
@@ -49,10 +49,10 @@ returns-clause-applies g c =
     let first =
     subst₂ (λ k r. WritesInTransaction old mid true (Replaced Version k r))
     (one_bound c.number.result (Int (pos id)) refl c.number.ensures)
-    (bound_version _ id row c.version_params-params.ensures) c.in_ok-replace.ensures.writes in
+    (bound_version _ id row c.version_params-params.ensures) c.in_ok-replace.ensures in
     let second =
     subst (λ (v : VersionRow). WritesInTransaction mid new true (IsNextPut id (next_of v.status)))
-    c.row.view_is c.in_ok-put_next.ensures.writes in
+    c.row.view_is c.in_ok-put_next.ensures in
     two_made old mid new true (Replaced Version (Int (pos id) ∷ []) (version_params id row))
     (IsNextPut id (next_of row.status)) (with_version id row) first second
     (λ shaped did. version_between old.now mid.now new.now shaped id row back did)

@@ -11,10 +11,10 @@ use Rattle.numbers.specs.Abstraction.{subject_of}
 use Rattle.sql_store.proofs.MadeLemmas.{put_made}
 use Rattle.sql_store.proofs.rows.put_wait.Goals as goal
 
-pub returns-clause-applies : goal.returns-clause-applies
-returns-clause-applies g c =
-    let old = state g.S.Store c.args.tx.now.conn.now in
-    let new = state g.S.Store c.replace.new.tx.conn.now in
+pub returns : goal.returns
+returns g c =
+    let old = state g.S.Store c.args.conn.now in
+    let new = state g.S.Store c.replace.new.conn in
     let k = wait_key_of c.args.key in
     let s = subject_of c.args.of in
     let low : c.args.key.id < 9223372036854775808 =
@@ -23,5 +23,5 @@ returns-clause-applies g c =
     grind (arith, c.if-key-ge9223372036854775808-2.false) in
     put_made old new Wait (wait_key_params k) _ (wait_params k s) _ (with_wait k s)
     (bound_wait_key _ k c.wait_key-columns.ensures) (bound_wait _ k s c.wait_params-params.ensures)
-    c.in_ok-replace.ensures.writes (λ shaped did. put_wait old.now new.now shaped c.args.key s
+    c.in_ok-replace.ensures (λ shaped did. put_wait old.now new.now shaped c.args.key s
     (λ rowid. wait_back rowid c.args.key c.args.of low few) did)

@@ -4,7 +4,7 @@ use Rattle.sqlite.specs.Held.{state}
 use Rattle.sqlite.specs.State.{HasCleanDisk, Shown, FailsToQuery, Survives, CommitsShowing}
 use Rattle.sqlite.specs.Values.{bound}
 use Rattle.sql_store.specs.Store.{HasQueried}
-use Rattle.sql_store.proofs.CallLemmas.{clean_if_open, looked_ok, looked_err, looked_ours, queried_ours, answers}
+use Rattle.sql_store.proofs.CallLemmas.{answers, clean_if_open, looked, looked_err, looked_ok, looked_ours}
 use Rattle.sql_store.proofs.KeptLemmas.{kept_by_query, nothing_kept}
 use Rattle.sql_store.proofs.select.select.Goals as goal
 
@@ -54,19 +54,17 @@ invariant_of-db g c =
     let old = state g.S.Store c.args.db.now.conn in
     let new = state g.S.Store c.query_all.new.self in
     let params = bound c.args.params.now in
+    let looked = looked c.args.query params old new c.args.db.now.ours c.query_all.result
+    (λ rows. rows.items) (clean_if_open new.is_clean new.is_open (g.met.S.Store.shut_if_dirty _))
+    (subst (λ t. HasCleanDisk new
+    → IfOk c.query_all.result (λ rows. Shown t params old new rows.items)) c.text.ensures
+    c.query_all.ensures.ok) (subst (λ t. HasCleanDisk new
+    → IfErr c.query_all.result (FailsToQuery t params old new)) c.text.ensures
+    c.query_all.ensures.err) (subst (λ t. Survives old new (CommitsShowing t params old))
+    c.text.ensures c.query_all.ensures.survives) in
     record {
-      ours = queried_ours c.args.query params old new c.args.db.now.ours c.query_all.result
-          (λ rows. rows.items)
-          (clean_if_open new.is_clean new.is_open (g.met.S.Store.shut_if_dirty _))
-          (subst (λ t. HasCleanDisk new
-          → IfOk c.query_all.result (λ rows. Shown t params old new rows.items)) c.text.ensures
-          c.query_all.ensures.ok)
-          (subst (λ t. HasCleanDisk new
-          → IfErr c.query_all.result (FailsToQuery t params old new)) c.text.ensures
-          c.query_all.ensures.err)
-          (subst (λ t. Survives old new (CommitsShowing t params old)) c.text.ensures
-          c.query_all.ensures.survives);
-      idle = c.query_all.ensures.mode c.args.db.now.idle;
+      ours = looked_ours old new (is_ok c.query_all.result) c.args.db.now.ours looked;
+      idle = λ up. c.query_all.ensures.mode (c.args.db.now.idle (looked.same up).was_open);
       kept = nothing_kept new c.take-clock.new.self c.take-clock.ensures.after;
     }
 
@@ -82,7 +80,7 @@ invariant_of-db-2 g c =
     c.text.ensures c.query_all.ensures.survives) in
     record {
       ours = looked_ours old new true c.args.db.now.ours looked;
-      idle = c.query_all.ensures.mode c.args.db.now.idle;
+      idle = λ up. c.query_all.ensures.mode (c.args.db.now.idle (looked.same up).was_open);
       kept = kept_by_query old new c.args.db.now.clock c.take-clock.result
           c.take-clock.ensures.value c.args.db.now.kept looked;
     }

@@ -14,4 +14,4 @@ of-db-requires-clause-ours g c up =
     opened_ours s (c.requires.opened clean) (sym c.schema.ensures.value ∙ c.is_ours.ensures ok)
 
 pub of-db-requires-clause-idle : goal.of-db-requires-clause-idle
-of-db-requires-clause-idle g c = c.requires.fresh.autocommit
+of-db-requires-clause-idle g c = λ _. c.requires.fresh.autocommit

@@ -1,0 +1,31 @@
+use Rattle.std.proofs.Common.{[], rules, subst}
+use Rattle.std.specs.Prelude.{codes}
+use Rattle.sqlite.specs.Held.{state}
+use Rattle.sqlite.specs.State.{Executes}
+use Rattle.sql_store.proofs.TransactionLemmas.{commit_survives, ended, not_ended}
+use Rattle.sql_store.proofs.transaction.commit.Goals as goal
+
+pub returns-in_err-execute-clause-err : goal.returns-in_err-execute-clause-err
+returns-in_err-execute-clause-err g c clean =
+    let old = state g.S.Store c.args.conn.now in
+    let new = state g.S.Store c.execute.new.self in
+    let fails = not_ended old new _ (subst (Executes (codes "COMMIT") [] old new)
+    c.in_err-execute.was (c.execute.ensures.runs clean)) in
+    search (rules, fails)
+
+pub returns-in_err-execute-clause-survives : goal.returns-in_err-execute-clause-survives
+returns-in_err-execute-clause-survives g c =
+    commit_survives (state g.S.Store c.args.conn.now) (state g.S.Store c.execute.new.self)
+    c.execute.ensures.survives
+
+pub returns-clause-committed : goal.returns-clause-committed
+returns-clause-committed g c clean =
+    let old = state g.S.Store c.args.conn.now in
+    let new = state g.S.Store c.execute.new.self in
+    ended old new c.in_ok-execute.field-0 (subst (Executes (codes "COMMIT") [] old new)
+    c.in_ok-execute.was (c.execute.ensures.runs clean))
+
+pub returns-clause-survives : goal.returns-clause-survives
+returns-clause-survives g c =
+    commit_survives (state g.S.Store c.args.conn.now) (state g.S.Store c.execute.new.self)
+    c.execute.ensures.survives
