@@ -1,5 +1,5 @@
 //! Opens and closes a store over the file at a path.
-ghost use Rattle.std.specs.Prelude.{◌≡◌, [], IsTrue, IfErr, IfOk};
+ghost use Rattle.std.specs.Prelude.{◌≡◌, ◌≢◌, [], IsTrue, IfErr, IfOk};
 ghost use Rattle.model.specs.Content.{empty_content};
 ghost use Rattle.sql_rows.specs.Content.{content_in};
 ghost use Rattle.sqlite.specs.Closing.{IsCopied};
@@ -8,8 +8,9 @@ ghost use Rattle.sqlite.specs.State.{HasCleanDisk};
 ghost use Rattle.sqlite.specs.Tree.{Trees};
 ghost use Rattle.sqlite.specs.WalFiles.{image_at};
 ghost use Rattle.sqlite.specs.WalReads.{AreClean};
-ghost use Rattle.sql_store.specs.Files.{IsRefusedAt};
-ghost use Rattle.sql_store.specs.Opened.{IsTakenAs};
+ghost use Rattle.sql_store.specs.Files.{IsKeptAt, IsRefusedAt};
+ghost use Rattle.sql_store.specs.Opened.{HasSameRows, IsTakenAs};
+ghost use Rattle.sql_store.specs.Whole.{IsBegunOrEmpty};
 ghost use Rattle.version.specs.Abstraction.{windows_of};
 
 use crate::SqlStore;
@@ -19,6 +20,9 @@ use crate::refused::Refused;
 use settle::StoreFault;
 use sqlite::{Alter, Connection, FileFrom, FileStore, Files, Leftover, Start};
 use sqlite_disk::Disk;
+use std::fs;
+use std::io::ErrorKind;
+use std::rt::Files as FileSystem;
 use windows::Windows;
 
 /// What is returned with the fault if a file could not be opened.
@@ -79,6 +83,65 @@ impl<S: Start> SqlStore<FileStore<FileFrom<S>>> {
             },
             Err((error, left)) => Err((FileFault::from(fault_of(error)), Unopened::Files(left))),
         }
+    }
+
+    /// Opens the file at `path` as a store if it has the present schema. Creates no file and no
+    /// table, migrates nothing and keeps every row. `start` is as for `at`. Checks the database
+    /// once, and reads each row once.
+    ///
+    /// # Errors
+    ///
+    /// - `Storage` if there is no file, or the file is empty, is no database, has other tables or an
+    ///   earlier schema, a row that cannot be read, or no present set of windows, or the device
+    ///   failed.
+    /// - `NoMemory` if an allocation fails.
+    ///
+    /// A refused database is returned unchanged.
+    pub fn existing_at(
+        rt: &HostRuntime,
+        path: &str,
+        start: S,
+    ) -> Result<StoreAt<S>, (FileFault, UnopenedAt<S>)>
+        ensures open { IfOk result (λ s. HasCleanDisk (file_state s.db.conn) → IsTrue (file_state
+            s.db.conn).is_open) }
+        ensures same { IfOk result (λ s. HasCleanDisk (file_state s.db.conn) → (db : Trees)
+            → HoldsDatabase (image_at S.Start) db
+            → HasSameRows db (file_state s.db.conn).now.trees) }
+        ensures begun { IfOk result (λ s. HasCleanDisk (file_state s.db.conn)
+            → IsBegunOrEmpty (file_state s.db.conn).now.trees) }
+        ensures none { IfOk result (λ s. s.failures ≡ 0) }
+        ensures refused { IfErr result (λ e. (db : Trees) → HoldsDatabase (image_at S.Start) db
+            → IsKeptAt over_files db e.1) }
+        ensures fault { IfErr result (λ e. e.0 ≢ FileFault.WindowsDiffer) }
+    {
+        if let Err(fault) = find_file(rt, path) {
+            return Err((fault, Unopened::Files(None)));
+        }
+        match Connection::open_from(rt, path, false, start) {
+            Ok(conn) => match SqlStore::found(conn) {
+                Ok(it) => Ok(it),
+                Err((fault, refused)) => Err((FileFault::from(fault), Unopened::Database(refused))),
+            },
+            Err((error, left)) => Err((FileFault::from(fault_of(error)), Unopened::Files(left))),
+        }
+    }
+}
+
+/// Returns whether there is a file at `path`, as success or a fault. Creates nothing.
+///
+/// Not proved: whether there is one.
+///
+/// # Errors
+///
+/// - `Storage` if there is no file, or its folder cannot be searched.
+/// - `NoMemory` if an allocation fails.
+pub fn find_file<T: FileSystem>(rt: &T, path: &str) -> Result<(), FileFault>
+    ensures { IfErr result (λ fault. fault ≢ FileFault.WindowsDiffer) }
+{
+    match fs::exists(rt, path) {
+        Ok(true) => Ok(()),
+        Err(error) if error.kind() == ErrorKind::OutOfMemory => Err(FileFault::NoMemory),
+        _ => Err(FileFault::Storage),
     }
 }
 

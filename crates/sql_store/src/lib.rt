@@ -25,7 +25,7 @@ mod through;
 mod transaction;
 mod whole;
 
-pub use file::{StoreAt, Unopened, UnopenedAt};
+pub use file::{StoreAt, Unopened, UnopenedAt, find_file};
 pub use file_fault::FileFault;
 pub use refused::Refused;
 pub use store::SqlStore;

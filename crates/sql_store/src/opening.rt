@@ -238,7 +238,7 @@ impl<S: Alter + Drop> SqlStore<S> {
     }
 
     // Takes a connection to a database with the present schema.
-    fn found(conn: Connection<S>) -> Result<SqlStore<S>, (StoreFault, Refused<S>)>
+    pub(crate) fn found(conn: Connection<S>) -> Result<SqlStore<S>, (StoreFault, Refused<S>)>
         requires opened { HasCleanDisk (state S.Store conn) → WasOpened (state S.Store conn) }
         requires fresh { IsNew conn }
         ensures open { IfOk result (λ s. HasCleanDisk (state S.Store s.db.conn) → IsTrue (state
