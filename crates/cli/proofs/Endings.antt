@@ -6,7 +6,8 @@ use Rattle.settle.specs.Reads.{HasDeviceFailed}
 use Rattle.register.specs.declared.register.OpenFault.TheVariants as opening
 use Rattle.cli.specs.CommandLine.{IsLine}
 use Rattle.cli.specs.declared.parse.CommandLine.{CommandLine}
-use Rattle.cli.specs.Faults.{IsOfListening, IsOfSubcommand, MayEnd, MayEndListening}
+use Rattle.cli.specs.declared.parse.Parsed.{Parsed}
+use Rattle.cli.specs.Faults.{IsOfListening, IsOfSubcommand, MayEnd, MayEndAs, MayEndListening}
 use Rattle.cli.specs.declared.parse.ServeLimits.{ServeLimits}
 use Rattle.cli.specs.declared.parse.Subcommand.{Subcommand}
 use Rattle.cli.specs.declared.parse.Subcommand.TheVariants as sub
@@ -35,8 +36,8 @@ module _ (words : List (List ℕ)) (had has : Option (List ℕ)) (status : ℕ) 
       inr (inl (fault.NoMemory, inr (inr refl), reported.memory three))
 
   -- The command line was executed, or failed.
-  pub outcome_ends : (line : CommandLine) → IsLine words line → (o : Result (Unit {0}) Fault)
-      → IfErr o (MayEnd line) → ReportsOutcome o had has status → Ends words had has status
+  pub outcome_ends : (line : Parsed) → IsLine words line → (o : Result (Unit {0}) Fault)
+      → IfErr o (MayEndAs line) → ReportsOutcome o had has status → Ends words had has status
   outcome_ends line is (Ok done) may reported = inl (reported.0, inl (line, is), reported.1)
   outcome_ends line is (Err f) may reported = inr (inl (f, inl (line, is, may), reported))
 

@@ -23,6 +23,15 @@ serve_only rows none (sub.Audit spid) h = let e : 115 ≡ 97 = first_same h.0 in
     absurd (omega (arith, e))
 serve_only rows none (sub.Serve port connections limits log) h = none port connections limits log h
 
+-- No subcommand over a register has the name `windows`.
+pub no_windows : (rows : List Row) (s : Subcommand) → IsSubcommand (codes "windows") rows s → ⊥
+no_windows rows sub.Feed h = let e : 119 ≡ 102 = first_same h in absurd (omega (arith, e))
+no_windows rows sub.Bulk h = let e : 119 ≡ 98 = first_same h in absurd (omega (arith, e))
+no_windows rows sub.Export h = let e : 119 ≡ 101 = first_same h in absurd (omega (arith, e))
+no_windows rows (sub.Audit spid) h = let e : 119 ≡ 97 = first_same h.0 in absurd (omega (arith, e))
+no_windows rows (sub.Serve port connections limits log) h = let e : 119 ≡ 115 = first_same h.0 in
+    absurd (omega (arith, e))
+
 pub no_connections : (rows : List Row) → IsNoNumber (codes "connections") rows
     → (s : Subcommand) → IsSubcommand (codes "serve") rows s → ⊥
 no_connections rows none =

@@ -1,6 +1,9 @@
 -- The command line: what the rule of `clap` reads from the words.
-use Rattle.std.specs.Prelude.{◌≡◌, ℕ, nat_lt, Bool, true, false, List, ◌∷◌, [], codes, Option, Some, None, option_map, option_and_then, unwrap_or, find, if◌then◌else◌}
+use Rattle.std.specs.Prelude.{◌≡◌, ℕ, nat_lt, Bool, true, false, not, List, ◌∷◌, [], codes, Option, Some, None, option_map, option_and_then, unwrap_or, find, if◌then◌else◌}
+use Rattle.clap.specs.declared.builder.action.ArgAction.TheVariants.{SetTrue}
 use Rattle.clap.specs.declared.builder.value_parser.ValueParser.TheVariants.{Unsigned}
+use Rattle.std.specs.List.{list_any}
+use Rattle.std.specs.Str.{bytes_eq}
 use Rattle.http_messages.specs.Fields.{number_of}
 use Rattle.clap.specs.Walk.{answers_to, rows_after}
 use Rattle.clap.specs.Simple.{built, label_of}
@@ -10,6 +13,10 @@ use Rattle.cli.specs.declared.parse.ServeLimits.{ServeLimits}
 use Rattle.cli.specs.declared.parse.Subcommand.{Subcommand}
 use Rattle.cli.specs.declared.parse.Subcommand.TheVariants as sub
 use Rattle.cli.specs.declared.parse.CommandLine.{CommandLine}
+use Rattle.cli.specs.declared.parse.Parsed.{Parsed}
+use Rattle.cli.specs.declared.parse.Parsed.TheVariants as parsed
+use Rattle.cli.specs.declared.parse.WindowsSource.{WindowsSource}
+use Rattle.cli.specs.declared.parse.WindowsSource.TheVariants as source
 
 -- The rule of an option `--id`, which may be required.
 abbrev pub option_rule : Text → Bool → Rule
@@ -23,11 +30,20 @@ option_rule id required = record (new_rule id) {
 abbrev pub number_rule : Text → (most : ℕ) → Bool → Rule
 number_rule id most required = record (option_rule id required) { parser = Some (Unsigned 1 most) }
 
--- A subcommand with the options that each subcommand has.
-abbrev pub plain_app : Text → App
-plain_app name =
-    with_rule (with_rule (with_rule (new_app name) (option_rule (codes "windows") true))
-    (option_rule (codes "feed") false)) (option_rule (codes "db") false)
+-- The rule of a flag `--id`.
+abbrev pub flag_rule : Text → Rule
+flag_rule id = record (new_rule id) { long = Some id; action = Some SetTrue }
+
+-- `a` with the options that say where the windows are: in a file of theirs, which is required, or,
+-- if `present`, in the database.
+abbrev pub with_sources : (present : Bool) → App → App
+with_sources present a = with_rule (with_rule a (option_rule (codes "windows") (not present)))
+    (flag_rule (codes "present-windows"))
+
+-- A subcommand with the options that each subcommand over a register has.
+abbrev pub plain_app : (present : Bool) → Text → App
+plain_app present name = with_rule (with_rule (with_sources present (new_app name))
+    (option_rule (codes "feed") false)) (option_rule (codes "db") present)
 
 -- `a` with the options that limit connections.
 abbrev pub with_limits : App → App
@@ -38,14 +54,18 @@ with_limits a =
     (number_rule (codes "idle-limit") 65535 false))
     (number_rule (codes "sending-limit") 65535 false)
 
-abbrev pub serve_app : App
-serve_app =
-    with_limits (with_rule (with_rule (with_rule (plain_app (codes "serve"))
+abbrev pub serve_app : (present : Bool) → App
+serve_app present =
+    with_limits (with_rule (with_rule (with_rule (plain_app present (codes "serve"))
     (number_rule (codes "port") 65535 true)) (number_rule (codes "connections") 65535 false))
     (option_rule (codes "log") false))
 
-abbrev pub audit_app : App
-audit_app = with_rule (plain_app (codes "audit")) (option_rule (codes "spid") true)
+abbrev pub audit_app : (present : Bool) → App
+audit_app present =
+    with_rule (plain_app present (codes "audit")) (option_rule (codes "spid") true)
+
+abbrev pub windows_app : App
+windows_app = with_rule (new_app (codes "windows")) (option_rule (codes "db") true)
 
 abbrev pub with_wanted_subcommand : App → App
 with_wanted_subcommand a = record a { top = record a.top { subcommand_required = true } }
@@ -54,18 +74,22 @@ abbrev pub with_version : App → App
 with_version a = record a { top = record a.top { has_version = true } }
 
 -- `a` with the subcommands that serve messages added.
-abbrev pub with_serving : App → App
-with_serving a = with_subcommand (with_subcommand a (plain_app (codes "feed")).top) serve_app.top
+abbrev pub with_serving : (present : Bool) → App → App
+with_serving present a =
+    with_subcommand (with_subcommand a (plain_app present (codes "feed")).top)
+    (serve_app present).top
 
 -- `a` with the subcommands that read and write files added.
-abbrev pub with_files : App → App
-with_files a =
-    with_subcommand (with_subcommand (with_subcommand a (plain_app (codes "bulk")).top)
-    (plain_app (codes "export")).top) audit_app.top
+abbrev pub with_files : (present : Bool) → App → App
+with_files present a =
+    with_subcommand (with_subcommand (with_subcommand a (plain_app present (codes "bulk")).top)
+    (plain_app present (codes "export")).top) (audit_app present).top
 
-abbrev pub npacd_app : App
-npacd_app =
-    with_files (with_serving (with_wanted_subcommand (with_version (new_app (codes "npacd")))))
+-- The whole command. `present` says whether `--present-windows` is given.
+abbrev pub npacd_app : (present : Bool) → App
+npacd_app present =
+    with_subcommand (with_files present (with_serving present (with_wanted_subcommand
+    (with_version (new_app (codes "npacd")))))) windows_app.top
 
 -- A number, if it is below 2^16.
 abbrev pub small_number : Option ℕ → Option ℕ
@@ -116,41 +140,66 @@ IsSubcommand name rows (sub.Serve port connections limits log) =
 abbrev pub IsNoSubcommand : Text → List Row → Type 0
 IsNoSubcommand name rows = (subcommand : Subcommand) → ¬ (IsSubcommand name rows subcommand)
 
-pub record IsLineOf (name : Text) (rows : List Row) (line : CommandLine) : Type 0 where
+-- Holds if the windows are there: in their file, or, if `present`, in the database.
+abbrev pub AreWindowsIn : (present : Bool) → List Row → WindowsSource → Type 0
+AreWindowsIn present rows (source.File path) =
+    (present ≡ false) × (first_of (codes "windows") rows ≡ Some path.now)
+AreWindowsIn present rows (source.Database path) =
+    (present ≡ true) × (first_of (codes "windows") rows ≡ None)
+    × (first_of (codes "db") rows ≡ Some path.now)
+
+abbrev pub AreNoWindows : (present : Bool) → List Row → Type 0
+AreNoWindows present rows = (source : WindowsSource) → ¬ (AreWindowsIn present rows source)
+
+pub record IsLineOf (present : Bool) (name : Text) (rows : List Row)
+    (line : CommandLine) : Type 0 where
   pub subcommand : IsSubcommand name rows line.subcommand
-  pub windows : first_of (codes "windows") rows ≡ Some line.windows.now
+  pub windows : AreWindowsIn present rows line.windows
   pub feed : first_of (codes "feed") rows ≡ option_map (λ s. s.now) line.feed
   pub db : first_of (codes "db") rows ≡ option_map (λ s. s.now) line.db
 
-abbrev pub IsNoLineOf : Text → List Row → Type 0
-IsNoLineOf name rows = (line : CommandLine) → ¬ (IsLineOf name rows line)
+abbrev pub IsNoLineOf : (present : Bool) → Text → List Row → Type 0
+IsNoLineOf present name rows = (line : CommandLine) → ¬ (IsLineOf present name rows line)
+
+-- Holds if the name and the rows ask for this.
+abbrev pub IsParsedOf : (present : Bool) → Text → List Row → Parsed → Type 0
+IsParsedOf present name rows (parsed.Windows db) =
+    (name ≡ codes "windows") × (first_of (codes "db") rows ≡ Some db.now)
+IsParsedOf present name rows (parsed.Line line) = IsLineOf present name rows line
+
+abbrev pub IsNoParsedOf : (present : Bool) → Text → List Row → Type 0
+IsNoParsedOf present name rows = (parsed : Parsed) → ¬ (IsParsedOf present name rows parsed)
 
 -- The rows that the rule of the named subcommand reads from the words after it.
-abbrev pub rows_named : Text → List Text → Option (List Row)
-rows_named name words =
+abbrev pub rows_named : (present : Bool) → Text → List Text → Option (List Row)
+rows_named present name words =
     option_map (λ s. rows_after s.rules [] words) (find (λ s. answers_to name (label_of s))
-    (built npacd_app).subs)
+    (built (npacd_app present)).subs)
+
+-- Whether `--present-windows` is among the words.
+abbrev pub wants_present : List Text → Bool
+wants_present words = list_any (λ word. bytes_eq word (codes "--present-windows")) words
 
 -- Holds if `clap` finds no fault in the words: no unknown option, no value out of its range,
 -- nothing missing, and nothing that asks for help.
 abbrev pub IsAccepted : List Text → Type 0
-IsAccepted words = fault_of npacd_app words ≡ []
+IsAccepted words = fault_of (npacd_app (wants_present words)) words ≡ []
 
--- Holds if the words are this command line: `clap` accepts them, the first after the program's name
--- is the subcommand, and its rule reads the values from the words after it.
-pub record IsLine (words : List Text) (line : CommandLine) : Type 0 where
+-- Holds if the words ask for this: `clap` accepts them, the first after the program's name is the
+-- subcommand, and its rule reads the values from the words after it.
+pub record IsLine (words : List Text) (parsed : Parsed) : Type 0 where
   pub accepted : IsAccepted words
   pub program : Text
   pub name : Text
   pub after : List Text
   pub rows : List Row
   pub words_are : words ≡ program ∷ name ∷ after
-  pub rows_are : rows_named name after ≡ Some rows
-  pub line_is : IsLineOf name rows line
+  pub rows_are : rows_named (wants_present words) name after ≡ Some rows
+  pub line_is : IsParsedOf (wants_present words) name rows parsed
 
 -- Holds if the words are no command line.
 abbrev pub IsNoLine : List Text → Type 0
-IsNoLine words = (line : CommandLine) → ¬ (IsLine words line)
+IsNoLine words = (parsed : Parsed) → ¬ (IsLine words parsed)
 
 -- Holds if the second word is `name`.
 abbrev pub HasSecond : List Text → Text → Type 0

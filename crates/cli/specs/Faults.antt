@@ -11,6 +11,10 @@ use Rattle.bulk.specs.declared.fault.FaultKind.TheVariants as kind
 use Rattle.cli.specs.declared.fault.Fault.{Fault}
 use Rattle.cli.specs.declared.fault.Fault.TheVariants as fault
 use Rattle.cli.specs.declared.parse.CommandLine.{CommandLine}
+use Rattle.cli.specs.declared.parse.Parsed.{Parsed}
+use Rattle.cli.specs.declared.parse.WindowsSource.{WindowsSource}
+use Rattle.cli.specs.declared.parse.WindowsSource.TheVariants as source
+use Rattle.cli.specs.declared.parse.Parsed.TheVariants as parsed
 use Rattle.cli.specs.declared.parse.Subcommand.{Subcommand}
 use Rattle.cli.specs.declared.parse.Subcommand.TheVariants as sub
 
@@ -110,6 +114,13 @@ abbrev pub MayEndListening : Fault → Type 0
 MayEndListening (fault.Open opening.Storage) = ⊤
 MayEndListening other = IsOfListening other
 
+-- Holds for the faults of writing the present windows of a file.
+abbrev pub IsOfShowing : Fault → Type 0
+IsOfShowing (fault.Open refused) = ⊤
+IsOfShowing fault.Write = ⊤
+IsOfShowing fault.NoMemory = ⊤
+IsOfShowing other = ⊥
+
 -- Holds for the faults of a subcommand over an open register.
 abbrev pub IsOfSubcommand : Subcommand → Fault → Type 0
 IsOfSubcommand sub.Feed refused = IsOfServing refused
@@ -118,14 +129,23 @@ IsOfSubcommand sub.Bulk refused = IsOfFile refused
 IsOfSubcommand sub.Export refused = IsOfFile refused
 IsOfSubcommand (sub.Audit spid) refused = IsOfFile refused
 
+-- Holds if the windows are a database's.
+abbrev pub IsOfDatabase : WindowsSource → Type 0
+IsOfDatabase (source.File path) = ⊥
+IsOfDatabase (source.Database path) = ⊤
+
+-- Holds if the command line is over a file.
+abbrev pub HasFile : CommandLine → Type 0
+HasFile line = IsSome line.db ⊎ IsOfDatabase line.windows
+
 -- Holds if executing this command line may end with this fault: one of the windows file, of opening
 -- the register, of the file of `--feed`, or of the subcommand. Only a file has other windows, and a
 -- device that fails as it is opened or while connections are served.
 abbrev pub MayEnd : CommandLine → Fault → Type 0
 MayEnd line (fault.Windows refused) = ⊤
 MayEnd line (fault.Open opening.NoMemory) = ⊤
-MayEnd line (fault.Open opening.WindowsDiffer) = IsSome line.db
-MayEnd line (fault.Open opening.Storage) = IsSome line.db
+MayEnd line (fault.Open opening.WindowsDiffer) = HasFile line
+MayEnd line (fault.Open opening.Storage) = HasFile line
 MayEnd line fault.Read = ⊤
 MayEnd line fault.NoMemory = ⊤
 MayEnd line other =
@@ -135,3 +155,8 @@ MayEnd line other =
 abbrev pub MayEndOverFile : CommandLine → Fault → Type 0
 MayEndOverFile line (fault.Open refused) = ⊤
 MayEndOverFile line other = MayEnd line other
+
+-- Holds if executing what the words ask for may end with this fault.
+abbrev pub MayEndAs : Parsed → Fault → Type 0
+MayEndAs (parsed.Windows db) refused = IsOfShowing refused
+MayEndAs (parsed.Line line) refused = MayEnd line refused

@@ -1,16 +1,16 @@
 -- The report of the program as it ends, and its exit status.
-use Rattle.std.specs.Prelude.{◌≡◌, ◌≢◌, ◌⊎◌, ℕ, List, [], ◌∷◌, ◌++◌, codes, Option, Result, Ok, Err}
+use Rattle.std.specs.Prelude.{◌≡◌, ◌≢◌, ◌⊎◌, ℕ, Bool, true, false, List, [], ◌∷◌, ◌++◌, codes, Option, Result, Ok, Err}
 use Rattle.std.specs.Io.KnownBytes.{Appends, Keeps}
 use Rattle.http_messages.specs.Sending.{AppendsPrefix}
 use Rattle.clap.specs.Faults.{fault_of}
 use Rattle.clap.specs.Kinds.{IsAmong}
 use Rattle.clap.specs.declared.error.kind.ErrorKind.{ErrorKind}
 use Rattle.clap.specs.declared.error.kind.ErrorKind.TheVariants as kind
-use Rattle.cli.specs.CommandLine.{IsAccepted, IsLine, IsNoLine, npacd_app}
-use Rattle.cli.specs.Faults.{MayEnd, exit_status, fault_name}
+use Rattle.cli.specs.CommandLine.{IsAccepted, IsLine, IsNoLine, npacd_app, wants_present}
+use Rattle.cli.specs.Faults.{MayEndAs, exit_status, fault_name}
 use Rattle.cli.specs.declared.fault.Fault.{Fault}
 use Rattle.cli.specs.declared.fault.Fault.TheVariants as fault
-use Rattle.cli.specs.declared.parse.CommandLine.{CommandLine}
+use Rattle.cli.specs.declared.parse.Parsed.{Parsed}
 
 -- The line on standard error for a fault's name.
 abbrev pub line_of : List ℕ → List ℕ
@@ -61,34 +61,40 @@ IsMistake status = (status ≡ 2) ⊎ (status ≡ 3)
 
 -- Holds if the words ask for help or for the version, by the rule of `clap`.
 abbrev pub AsksForHelp : List (List ℕ) → Type 0
-AsksForHelp words = IsAmong kind.DisplayHelp (fault_of npacd_app words)
-    ⊎ IsAmong kind.DisplayVersion (fault_of npacd_app words)
+AsksForHelp words = IsAmong kind.DisplayHelp (fault_of (npacd_app (wants_present words)) words)
+    ⊎ IsAmong kind.DisplayVersion (fault_of (npacd_app (wants_present words)) words)
 
 -- Holds if `clap` refuses the words, and not only to show help or the version.
 abbrev pub IsRefused : List (List ℕ) → Type 0
-IsRefused words = (why : ErrorKind) × IsAmong why (fault_of npacd_app words)
+IsRefused words = (why : ErrorKind) × IsAmong why (fault_of (npacd_app (wants_present words)) words)
     × (why ≢ kind.DisplayHelp) × (why ≢ kind.DisplayVersion)
 
 -- Holds if `clap` accepts the words, and yet they are no command line: `clap` takes a sign before a
--- number.
-abbrev pub HasBadNumber : List (List ℕ) → Type 0
-HasBadNumber words = IsAccepted words × IsNoLine words
+-- number, and `--windows` beside `--present-windows`.
+abbrev pub IsAcceptedOnly : List (List ℕ) → Type 0
+IsAcceptedOnly words = IsAccepted words × IsNoLine words
+
+-- The text for such words.
+abbrev pub mistake_text : (present : Bool) → List ℕ
+mistake_text true =
+    codes "error: --windows stands beside --present-windows, or a number is not in digits\n"
+mistake_text false = codes "error: a number is written in digits\n"
 
 -- Holds if the text explains what is wrong with the words. What `clap` writes is not known.
 abbrev pub ExplainsMistake : (words : List (List ℕ)) → (text : List ℕ) → Type 0
 ExplainsMistake words text = IsRefused words
-    ⊎ (HasBadNumber words × (text ≡ codes "error: a number is written in digits\n"))
+    ⊎ (IsAcceptedOnly words × (text ≡ mistake_text (wants_present words)))
 
 -- Holds if the words are a command line, which was executed, or ask for help, and nothing was
 -- reported.
 abbrev pub EndsWell : (words : List (List ℕ)) → (had has : Option (List ℕ)) → (status : ℕ) → Type 0
 EndsWell words had has status =
-    (status ≡ 0) × (((line : CommandLine) × IsLine words line) ⊎ AsksForHelp words) × Keeps had has
+    (status ≡ 0) × (((parsed : Parsed) × IsLine words parsed) ⊎ AsksForHelp words) × Keeps had has
 
 -- Holds if the words are a command line that may end with this fault; if they ask for help, which
 -- could not be written; or if an allocation failed.
 abbrev pub MayEndWith : (words : List (List ℕ)) → Fault → Type 0
-MayEndWith words refused = ((line : CommandLine) × IsLine words line × MayEnd line refused)
+MayEndWith words refused = ((parsed : Parsed) × IsLine words parsed × MayEndAs parsed refused)
     ⊎ (AsksForHelp words × (refused ≡ fault.Write)) ⊎ (refused ≡ fault.NoMemory)
 
 -- Holds if such a fault was reported: its line with its own status, or only a prefix of the line

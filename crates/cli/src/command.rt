@@ -2,10 +2,10 @@
 ghost use Rattle.std.specs.Prelude.{◌≡◌, IfOk, codes, false};
 ghost use Rattle.clap.specs.Words.{app_of, rule_of, new_app, with_rule, with_subcommand};
 ghost use Rattle.clap.specs.declared.builder.command.Command.TheViews.{out-Command};
-ghost use Rattle.cli.specs.CommandLine.{audit_app, number_rule, option_rule, plain_app, serve_app, npacd_app, with_files, with_limits, with_serving, with_version, with_wanted_subcommand};
+ghost use Rattle.cli.specs.CommandLine.{audit_app, flag_rule, number_rule, option_rule, plain_app, serve_app, npacd_app, with_files, with_limits, with_serving, with_sources, with_version, with_wanted_subcommand, windows_app};
 
 use clap::builder::ValueParser;
-use clap::{Arg, Command};
+use clap::{Arg, ArgAction, Command};
 use std::alloc::{AllocError, Global};
 
 // The version that `--version` prints after the program's name.
@@ -64,20 +64,60 @@ fn with_option<'a>(
     command.arg(option(alloc, id, value, help, required))
 }
 
-// Creates a subcommand with the options that each subcommand has.
-fn plain<'a>(alloc: Global, name: &'a str, about: &'a str) -> Result<Command<'a>, AllocError>
+// Creates a flag `--id` with its line of help.
+fn flag<'a>(alloc: Global, id: &'a str, help: &'a str) -> Arg<'a>
+    ensures rule { rule_of result ≡ flag_rule id.entry.now }
+    ensures local { result.global ≡ false }
+{
+    Arg::new(alloc, id)
+        .long(id)
+        .help(help)
+        .action(ArgAction::SetTrue)
+}
+
+// Adds a flag to a command.
+fn with_flag<'a>(
+    alloc: Global,
+    command: Command<'a>,
+    id: &'a str,
+    help: &'a str,
+) -> Result<Command<'a>, AllocError>
+    requires { (out-Command command).has_globals ≡ false }
+    ensures { IfOk result (λ c.
+        (app_of c ≡ with_rule (app_of command.entry) (flag_rule id.entry.now))
+        × ((out-Command c).has_globals ≡ false)) }
+{
+    command.arg(flag(alloc, id, help))
+}
+
+// Adds the options that say where the windows are: a file of theirs, or, if `present`, the database.
+fn with_sources<'a>(
+    alloc: Global,
+    command: Command<'a>,
+    present: bool,
+) -> Result<Command<'a>, AllocError>
+    requires { (out-Command command).has_globals ≡ false }
+    ensures { IfOk result (λ c. (app_of c ≡ with_sources present (app_of command.entry))
+        × ((out-Command c).has_globals ≡ false)) }
+{
+    let help = "The windows, in TOML";
+    let command = with_option(alloc, command, "windows", "FILE", help, !present)?;
+    let help = "Go on with the present windows of the database, in place of --windows";
+    with_flag(alloc, command, "present-windows", help)
+}
+
+// Creates a subcommand with the options that each subcommand over a register has.
+fn plain<'a>(
+    alloc: Global,
+    present: bool,
+    name: &'a str,
+    about: &'a str,
+) -> Result<Command<'a>, AllocError>
     ensures { IfOk result
-        (λ c. (app_of c ≡ plain_app name.entry.now) × ((out-Command c).has_globals ≡ false)) }
+        (λ c. (app_of c ≡ plain_app present name.entry.now) × ((out-Command c).has_globals ≡ false)) }
 {
     let command = Command::new(alloc, name).about(about);
-    let command = with_option(
-        alloc,
-        command,
-        "windows",
-        "FILE",
-        "The windows, in TOML",
-        true,
-    )?;
+    let command = with_sources(alloc, command, present)?;
     let command = with_option(
         alloc,
         command,
@@ -92,7 +132,7 @@ fn plain<'a>(alloc: Global, name: &'a str, about: &'a str) -> Result<Command<'a>
         "db",
         "FILE",
         "The database of the register, in place of memory",
-        false,
+        present,
     )
 }
 
@@ -130,11 +170,12 @@ fn with_limits<'a>(alloc: Global, command: Command<'a>) -> Result<Command<'a>, A
 }
 
 // Creates the subcommand that listens to a port.
-fn serve<'a>(alloc: Global) -> Result<Command<'a>, AllocError>
-    ensures { IfOk result (λ c. (app_of c ≡ serve_app) × ((out-Command c).has_globals ≡ false)) }
+fn serve<'a>(alloc: Global, present: bool) -> Result<Command<'a>, AllocError>
+    ensures { IfOk result (λ c. (app_of c ≡ serve_app present) × ((out-Command c).has_globals ≡ false)) }
 {
     let command = plain(
         alloc,
+        present,
         "serve",
         "Serve connections to a port of this machine",
     )?;
@@ -157,16 +198,28 @@ fn serve<'a>(alloc: Global) -> Result<Command<'a>, AllocError>
 }
 
 // Creates the subcommand that compares a carrier's copy.
-fn audit<'a>(alloc: Global) -> Result<Command<'a>, AllocError>
-    ensures { IfOk result (λ c. (app_of c ≡ audit_app) × ((out-Command c).has_globals ≡ false)) }
+fn audit<'a>(alloc: Global, present: bool) -> Result<Command<'a>, AllocError>
+    ensures { IfOk result (λ c. (app_of c ≡ audit_app present) × ((out-Command c).has_globals ≡ false)) }
 {
     let command = plain(
         alloc,
+        present,
         "audit",
         "Compare a carrier's copy with what is in force",
     )?;
     let spid = option(alloc, "spid", "SPID", "The carrier whose copy it is", true);
     command.arg(spid)
+}
+
+// Creates the subcommand that writes the present windows of a file.
+fn windows<'a>(alloc: Global) -> Result<Command<'a>, AllocError>
+    ensures { IfOk result (λ c. (app_of c ≡ windows_app) × ((out-Command c).has_globals ≡ false)) }
+{
+    let command = Command::new(alloc, "windows").about(
+        "Write the present windows of a database, as a windows file",
+    );
+    let help = "The database of the register, which exists";
+    with_option(alloc, command, "db", "FILE", help, true)
 }
 
 fn with<'a>(command: Command<'a>, part: Command<'a>) -> Result<Command<'a>, AllocError>
@@ -190,61 +243,90 @@ fn top<'a>(alloc: Global) -> Command<'a>
 fn with_plain<'a>(
     alloc: Global,
     command: Command<'a>,
+    present: bool,
     name: &'a str,
     about: &'a str,
 ) -> Result<Command<'a>, AllocError>
     ensures { IfOk result (λ c.
-        app_of c ≡ with_subcommand (app_of command.entry) (plain_app name.entry.now).top) }
+        app_of c ≡ with_subcommand (app_of command.entry) (plain_app present name.entry.now).top) }
 {
-    let part = plain(alloc, name, about)?;
+    let part = plain(alloc, present, name, about)?;
     with(command, part)
 }
 
-fn with_serve<'a>(alloc: Global, command: Command<'a>) -> Result<Command<'a>, AllocError>
-    ensures { IfOk result (λ c. app_of c ≡ with_subcommand (app_of command.entry) serve_app.top) }
+fn with_serve<'a>(
+    alloc: Global,
+    command: Command<'a>,
+    present: bool,
+) -> Result<Command<'a>, AllocError>
+    ensures { IfOk result (λ c. app_of c ≡ with_subcommand (app_of command.entry) (serve_app present).top) }
 {
-    let part = serve(alloc)?;
+    let part = serve(alloc, present)?;
     with(command, part)
 }
 
-fn with_audit<'a>(alloc: Global, command: Command<'a>) -> Result<Command<'a>, AllocError>
-    ensures { IfOk result (λ c. app_of c ≡ with_subcommand (app_of command.entry) audit_app.top) }
+fn with_audit<'a>(
+    alloc: Global,
+    command: Command<'a>,
+    present: bool,
+) -> Result<Command<'a>, AllocError>
+    ensures { IfOk result (λ c. app_of c ≡ with_subcommand (app_of command.entry) (audit_app present).top) }
 {
-    let part = audit(alloc)?;
+    let part = audit(alloc, present)?;
+    with(command, part)
+}
+
+fn with_windows<'a>(alloc: Global, command: Command<'a>) -> Result<Command<'a>, AllocError>
+    ensures { IfOk result (λ c. app_of c ≡ with_subcommand (app_of command.entry) windows_app.top) }
+{
+    let part = windows(alloc)?;
     with(command, part)
 }
 
 // Adds the subcommands that serve messages.
-fn with_serving<'a>(alloc: Global, command: Command<'a>) -> Result<Command<'a>, AllocError>
-    ensures { IfOk result (λ c. app_of c ≡ with_serving (app_of command.entry)) }
+fn with_serving<'a>(
+    alloc: Global,
+    command: Command<'a>,
+    present: bool,
+) -> Result<Command<'a>, AllocError>
+    ensures { IfOk result (λ c. app_of c ≡ with_serving present (app_of command.entry)) }
 {
     let command = with_plain(
         alloc,
         command,
+        present,
         "feed",
         "Serve standard input to standard output",
     )?;
-    with_serve(alloc, command)
+    with_serve(alloc, command, present)
 }
 
 // Adds the subcommands that read and write files.
-fn with_files<'a>(alloc: Global, command: Command<'a>) -> Result<Command<'a>, AllocError>
-    ensures { IfOk result (λ c. app_of c ≡ with_files (app_of command.entry)) }
+fn with_files<'a>(
+    alloc: Global,
+    command: Command<'a>,
+    present: bool,
+) -> Result<Command<'a>, AllocError>
+    ensures { IfOk result (λ c. app_of c ≡ with_files present (app_of command.entry)) }
 {
     let command = with_plain(
         alloc,
         command,
+        present,
         "bulk",
         "Run a bulk file, and write its report",
     )?;
-    let command = with_plain(alloc, command, "export", "Write everything in force")?;
-    with_audit(alloc, command)
+    let help = "Write everything in force";
+    let command = with_plain(alloc, command, present, "export", help)?;
+    with_audit(alloc, command, present)
 }
 
-/// Creates the whole command.
-pub fn npacd<'a>(alloc: Global) -> Result<Command<'a>, AllocError>
-    ensures { IfOk result (λ c. app_of c ≡ npacd_app) }
+/// Creates the whole command. `present` says whether `--present-windows` is given: `--db` is then
+/// required, and otherwise `--windows`.
+pub fn npacd<'a>(alloc: Global, present: bool) -> Result<Command<'a>, AllocError>
+    ensures { IfOk result (λ c. app_of c ≡ npacd_app present) }
 {
-    let command = with_serving(alloc, top(alloc))?;
-    with_files(alloc, command)
+    let command = with_serving(alloc, top(alloc), present)?;
+    let command = with_files(alloc, command, present)?;
+    with_windows(alloc, command)
 }

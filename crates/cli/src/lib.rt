@@ -11,6 +11,8 @@ mod options;
 pub mod parse;
 mod reporting;
 mod running;
+mod showing;
+mod windows_text;
 
 pub use arguments::words_of;
 pub use fault::Fault;

@@ -2,9 +2,9 @@
 ghost use Rattle.std.specs.Prelude.{◌≡◌, IfErr, IfOk, option_map, codes};
 ghost use Rattle.http_messages.specs.Fields.{number_of as number_in};
 ghost use Rattle.clap.specs.Words.{first_of, rows_of, found_of};
-ghost use Rattle.cli.specs.CommandLine.{AreLimits, AreNoLimits, IsLineOf, IsNoLineOf, IsNoNumber, IsNoSubcommand, IsNumberIfAny, IsNumberOr, IsSubcommand, number_under, small_number};
+ghost use Rattle.cli.specs.CommandLine.{AreLimits, AreNoLimits, AreNoWindows, AreWindowsIn, IsLineOf, IsNoLineOf, IsNoNumber, IsNoParsedOf, IsNoSubcommand, IsNumberIfAny, IsNumberOr, IsParsedOf, IsSubcommand, number_under, small_number};
 
-use crate::parse::{CommandLine, ServeLimits, Subcommand};
+use crate::parse::{CommandLine, Parsed, ServeLimits, Subcommand, WindowsSource};
 use clap::ArgMatches;
 use http_messages::read_number;
 
@@ -135,19 +135,74 @@ fn subcommand_of<'a>(name: &str, matches: &ArgMatches<'a>) -> Result<Subcommand<
     Err(NoLine)
 }
 
-/// Returns the command line of a subcommand and its matches.
-pub fn line_of<'a>(name: &str, matches: &ArgMatches<'a>) -> Result<CommandLine<'a>, NoLine>
-    ensures given { IfOk result (IsLineOf name.now (rows_of (found_of matches.now))) }
-    ensures none { IfErr result (λ _. IsNoLineOf name.now (rows_of (found_of matches.now))) }
+// Returns where the windows are. `present` says whether `--present-windows` is given.
+fn source_of<'a>(present: bool, matches: &ArgMatches<'a>) -> Result<WindowsSource<'a>, NoLine>
+    ensures given { IfOk result (AreWindowsIn present (rows_of (found_of matches.now))) }
+    ensures none { IfErr result (λ _. AreNoWindows present (rows_of (found_of matches.now))) }
+{
+    let windows = text_of(matches, "windows");
+    if !present {
+        return match windows {
+            Some(path) => Ok(WindowsSource::File(path)),
+            None => Err(NoLine),
+        };
+    }
+    match (windows, text_of(matches, "db")) {
+        (None, Some(path)) => Ok(WindowsSource::Database(path)),
+        _ => Err(NoLine),
+    }
+}
+
+// Returns the command line of a subcommand over a register, and its matches.
+fn line_of<'a>(
+    present: bool,
+    name: &str,
+    matches: &ArgMatches<'a>,
+) -> Result<CommandLine<'a>, NoLine>
+    ensures given { IfOk result (IsLineOf present name.now (rows_of (found_of matches.now))) }
+    ensures none { IfErr result (λ _. IsNoLineOf present name.now (rows_of (found_of matches.now))) }
 {
     let subcommand = subcommand_of(name, matches)?;
-    match text_of(matches, "windows") {
-        Some(windows) => Ok(CommandLine {
+    match source_of(present, matches) {
+        Ok(windows) => Ok(CommandLine {
             subcommand,
             windows,
             feed: text_of(matches, "feed"),
             db: text_of(matches, "db"),
         }),
+        Err(_) => Err(NoLine),
+    }
+}
+
+// Returns the file of `windows`.
+fn windows_of<'a>(present: bool, matches: &ArgMatches<'a>) -> Result<Parsed<'a>, NoLine>
+    ensures given { IfOk result
+        (IsParsedOf present (codes "windows") (rows_of (found_of matches.now))) }
+    ensures none { IfErr result (λ _. IsNoParsedOf present (codes "windows")
+        (rows_of (found_of matches.now))) }
+{
+    match text_of(matches, "db") {
+        Some(db) => Ok(Parsed::Windows { db }),
         None => Err(NoLine),
+    }
+}
+
+/// Returns what a subcommand and its matches ask for. `present` says whether `--present-windows` is
+/// given.
+pub fn parsed_of<'a>(
+    present: bool,
+    name: &str,
+    matches: &ArgMatches<'a>,
+) -> Result<Parsed<'a>, NoLine>
+    ensures given { IfOk result (IsParsedOf present name.now (rows_of (found_of matches.now))) }
+    ensures none { IfErr result (λ _. IsNoParsedOf present name.now
+        (rows_of (found_of matches.now))) }
+{
+    if name == "windows" {
+        return windows_of(present, matches);
+    }
+    match line_of(present, name, matches) {
+        Ok(line) => Ok(Parsed::Line(line)),
+        Err(_) => Err(NoLine),
     }
 }

@@ -1,12 +1,14 @@
 //! Parses command lines.
-ghost use Rattle.std.specs.Prelude.{◌≡◌, ◌≢◌, ◌↔◌, ◌⊎◌, IfErr, IfOk, IsTrue, map, string_bytes};
+ghost use Rattle.std.specs.Prelude.{◌≡◌, ◌≢◌, ◌↔◌, ◌⊎◌, IfErr, IfOk, IsTrue, codes, map, string_bytes};
+ghost use Rattle.std.specs.List.{list_any};
+ghost use Rattle.std.specs.Str.{bytes_eq};
 ghost use Rattle.clap.specs.Values.{kind_of};
 ghost use Rattle.clap.specs.declared.error.kind.ErrorKind.TheVariants.{DisplayHelp, DisplayVersion, OutOfMemory as NoRoom};
-ghost use Rattle.cli.specs.CommandLine.{IsLine, IsNoLine, HasSecond};
-ghost use Rattle.cli.specs.Reporting.{AsksForHelp, ExplainsMistake, IsMistake, IsUsage};
+ghost use Rattle.cli.specs.CommandLine.{IsLine, IsNoLine, HasSecond, wants_present};
+ghost use Rattle.cli.specs.Reporting.{AsksForHelp, ExplainsMistake, IsMistake, IsUsage, mistake_text};
 
 use crate::command::npacd;
-use crate::options::line_of;
+use crate::options::parsed_of;
 use clap::Error;
 use clap::error::ErrorKind;
 use std::alloc::Global;
@@ -47,16 +49,36 @@ pub enum Subcommand<'a> {
     },
 }
 
-/// A valid command line.
+/// Where the windows of a register are.
+#[derive(Clone, Copy, PartialEq, Eq, Debug)]
+pub enum WindowsSource<'a> {
+    /// In the windows file at this path.
+    File(&'a str),
+    /// In the database file at this path, whose present windows they are.
+    Database(&'a str),
+}
+
+/// A valid command line over a register.
 #[derive(Clone, Copy, PartialEq, Eq, Debug)]
 pub struct CommandLine<'a> {
     pub subcommand: Subcommand<'a>,
-    /// The path of the windows file.
-    pub windows: &'a str,
+    pub windows: WindowsSource<'a>,
     /// The path of the file with messages to serve first, if there is one.
     pub feed: Option<&'a str>,
     /// The path of the database file, or `None` for a register in memory.
     pub db: Option<&'a str>,
+}
+
+/// What the words of a command line ask for.
+#[derive(Clone, Copy, PartialEq, Eq, Debug)]
+pub enum Parsed<'a> {
+    /// Writes the present windows of a database file to standard output.
+    Windows {
+        /// The path of the file.
+        db: &'a str,
+    },
+    /// Executes a subcommand over a register.
+    Line(CommandLine<'a>),
 }
 
 /// A text for the user and the exit status: 0 for help, 2 for a mistake, 3 without a text if an
@@ -120,15 +142,52 @@ fn is_second<S: AsStr>(words: &[S], name: &str) -> bool
     }
 }
 
+// Returns whether a word is `--present-windows`.
+fn is_present_flag<S: AsStr>(word: &S) -> bool
+    ensures { result ≡ bytes_eq (S.text word.now) (codes "--present-windows") }
+{
+    word.as_str() == "--present-windows"
+}
+
+// Returns whether some word is `--present-windows`.
+fn has_present_flag<S: AsStr>(words: &[S]) -> bool
+    ensures { result
+        ≡ list_any (λ word. bytes_eq (S.text word) (codes "--present-windows")) words.now }
+{
+    words.iter().any(|word| is_present_flag(word))
+}
+
+// Returns whether `--present-windows` is among the words.
+fn wants_present<S: AsStr>(words: &[S]) -> bool
+    ensures { result ≡ wants_present (map S.text words.now) }
+{
+    has_present_flag(words)
+}
+
+// Returns the usage for words that `clap` accepts and that are no command line.
+fn no_line(alloc: Global, present: bool) -> Usage
+    ensures status { IsMistake result.status }
+    ensures text { result.status ≡ 2 → string_bytes result.text ≡ mistake_text present }
+{
+    if present {
+        return mistake(
+            alloc,
+            "error: --windows stands beside --present-windows, or a number is not in digits\n",
+        );
+    }
+    mistake(alloc, "error: a number is written in digits\n")
+}
+
 /// Parses the words of a command line, starting with the program's name.
 ///
 /// # Errors
 ///
 /// A text for the user with an exit status:
 /// - 0 if the words ask for help or for the version;
-/// - 2 if `clap` refuses them, with its text, or if a number is not written in digits;
+/// - 2 if `clap` refuses them, with its text, if a number is not written in digits, or if both
+///   `--windows` and `--present-windows` are given;
 /// - 3 if an allocation failed.
-pub fn parse<'a, S: AsStr>(alloc: Global, words: &'a [S]) -> Result<CommandLine<'a>, Usage>
+pub fn parse<'a, S: AsStr>(alloc: Global, words: &'a [S]) -> Result<Parsed<'a>, Usage>
     ensures line { IfOk result (IsLine (map S.text words.entry.now)) }
     ensures status { IfErr result (λ usage. IsUsage usage.status) }
     ensures help { IfErr result (λ usage. usage.status ≡ 0
@@ -138,7 +197,8 @@ pub fn parse<'a, S: AsStr>(alloc: Global, words: &'a [S]) -> Result<CommandLine<
     ensures refused { IfErr result (λ usage. usage.status ≢ 3
         → IsNoLine (map S.text words.entry.now)) }
 {
-    let command = match npacd(alloc) {
+    let present = wants_present(words);
+    let command = match npacd(alloc, present) {
         Ok(command) => command,
         Err(_) => return Err(no_memory(alloc)),
     };
@@ -147,9 +207,9 @@ pub fn parse<'a, S: AsStr>(alloc: Global, words: &'a [S]) -> Result<CommandLine<
         Err(error) => return Err(usage_of(alloc, &error)),
     };
     match matches.subcommand() {
-        Some((name, found)) if is_second(words, name) => match line_of(name, found) {
-            Ok(line) => Ok(line),
-            Err(_) => Err(mistake(alloc, "error: a number is written in digits\n")),
+        Some((name, found)) if is_second(words, name) => match parsed_of(present, name, found) {
+            Ok(parsed) => Ok(parsed),
+            Err(_) => Err(no_line(alloc, present)),
         },
         _ => Err(no_memory(alloc)),
     }

@@ -12,15 +12,16 @@ ghost use Rattle.model.specs.Windows.{Windows as WindowsModel};
 ghost use Rattle.version.specs.Abstraction.{windows_of};
 ghost use Rattle.register.specs.Refinement.{Refines};
 ghost use Rattle.cli.specs.Feeding.{Feeds, io_of_feed, outcome_of};
-ghost use Rattle.cli.specs.Faults.{IsOfFeeding, IsOfNewFeeding, IsOfReading, IsOfServing, IsOfWindows, MayEnd, MayEndListening, MayEndOverFile, fault_of_opening};
+ghost use Rattle.cli.specs.Faults.{IsOfFeeding, IsOfNewFeeding, IsOfReading, IsOfServing, IsOfShowing, IsOfWindows, MayEnd, MayEndAs, MayEndListening, MayEndOverFile, fault_of_opening};
 ghost use Rattle.cli.specs.Reporting.{Ends};
 ghost use Rattle.cli.specs.declared.parse.CommandLine.{CommandLine as CommandLineImpl};
 ghost use Rattle.cli.specs.WindowsFile.{DefinesWindows, IsFaultOfBytes};
 
 use crate::fault::Fault;
 use crate::listening::listen;
-use crate::parse::{CommandLine, Subcommand, parse};
+use crate::parse::{CommandLine, Parsed, Subcommand, WindowsSource, parse};
 use crate::reporting::{report_outcome, report_usage};
+use crate::showing::{present_set, show_windows};
 use api::{End, NoTicks, Options, Served, serve};
 use bulk::{BulkFault, FaultKind, audit, export, run_file};
 use connections::Limits;
@@ -393,7 +394,7 @@ fn run_over<S: Store, R: Read, W: Write>(
 }
 
 // Returns the fault for a file that could not be opened, and closes what is open of it.
-fn open_fault(refused: (FileFault, UnopenedAt<Unknown>)) -> Fault
+pub(crate) fn open_fault(refused: (FileFault, UnopenedAt<Unknown>)) -> Fault
     ensures { result ≡ fault_of_opening refused.0 }
 {
     let (fault, _left) = refused;
@@ -427,8 +428,9 @@ fn run_open<R: Read, W: Write>(
 }
 
 // Closes the file of `--db`.
-fn close(store: StoreAt<Unknown>) -> Result<(), Fault>
-    ensures { (line : CommandLineImpl) → IfErr result (MayEndOverFile line) }
+pub(crate) fn close(store: StoreAt<Unknown>) -> Result<(), Fault>
+    ensures over_file { (line : CommandLineImpl) → IfErr result (MayEndOverFile line) }
+    ensures showing { IfErr result IsOfShowing }
 {
     match store.close_files() {
         Ok(_files) => Ok(()),
@@ -456,6 +458,39 @@ fn run_at<R: Read, W: Write>(
     closed
 }
 
+// Executes a command line over a store with its present windows, and returns the store.
+fn run_present<S: Store, R: Read, W: Write>(
+    rt: &HostRuntime,
+    mut store: S,
+    line: &CommandLine<'_>,
+    reader: &mut R,
+    writer: &mut W,
+) -> (S, Result<(), Fault>)
+    ensures { IfErr result.1 (MayEndOverFile line.now) }
+{
+    match present_set(&mut store) {
+        Ok(set) => run_over(rt, store, &set.windows, line, reader, writer),
+        Err(fault) => (store, Err(Fault::Open(fault))),
+    }
+}
+
+// Executes a command line over an existing file with its present windows, and closes the file.
+fn run_present_at<R: Read, W: Write>(
+    rt: &HostRuntime,
+    path: &str,
+    line: &CommandLine<'_>,
+    reader: &mut R,
+    writer: &mut W,
+) -> Result<(), Fault>
+    ensures { IfErr result (MayEndOverFile line.now) }
+{
+    let store = SqlStore::existing_at(rt, path, Unknown).map_err(open_fault)?;
+    let (store, outcome) = run_present(rt, store, line, reader, writer);
+    let closed = close(store);
+    outcome?;
+    closed
+}
+
 // Executes a command line over a new register in memory.
 fn run_in_memory<R: Read, W: Write>(
     rt: &HostRuntime,
@@ -471,7 +506,26 @@ fn run_in_memory<R: Read, W: Write>(
     outcome
 }
 
-// Executes a command line. A plain `feed` calls the function whose contract states its answers.
+// Executes a command line with the windows of a file. A plain `feed` calls the function whose
+// contract states its answers.
+fn run_with<R: Read, W: Write>(
+    rt: &HostRuntime,
+    path: &str,
+    line: &CommandLine<'_>,
+    reader: &mut R,
+    writer: &mut W,
+) -> Result<(), Fault>
+    ensures { IfErr result (MayEnd line.now) }
+{
+    let windows = windows_at(rt, path)?;
+    match (line.subcommand, line.feed, line.db) {
+        (_, _, Some(path)) => run_at(rt, path, &windows, line, reader, writer),
+        (Subcommand::Feed, None, None) => feed_buffered(rt.alloc(), &windows, reader, writer),
+        _ => run_in_memory(rt, &windows, line, reader, writer),
+    }
+}
+
+// Executes a command line.
 fn run_line<R: Read, W: Write>(
     rt: &HostRuntime,
     line: &CommandLine<'_>,
@@ -480,11 +534,24 @@ fn run_line<R: Read, W: Write>(
 ) -> Result<(), Fault>
     ensures { IfErr result (MayEnd line.now) }
 {
-    let windows = windows_at(rt, line.windows)?;
-    match (line.subcommand, line.feed, line.db) {
-        (_, _, Some(path)) => run_at(rt, path, &windows, line, reader, writer),
-        (Subcommand::Feed, None, None) => feed_buffered(rt.alloc(), &windows, reader, writer),
-        _ => run_in_memory(rt, &windows, line, reader, writer),
+    match line.windows {
+        WindowsSource::File(path) => run_with(rt, path, line, reader, writer),
+        WindowsSource::Database(path) => run_present_at(rt, path, line, reader, writer),
+    }
+}
+
+// Executes what the words of a command line ask for.
+fn run_parsed<R: Read, W: Write>(
+    rt: &HostRuntime,
+    parsed: &Parsed<'_>,
+    reader: &mut R,
+    writer: &mut W,
+) -> Result<(), Fault>
+    ensures { IfErr result (MayEndAs parsed.now) }
+{
+    match parsed {
+        Parsed::Windows { db } => show_windows(rt, db, writer),
+        Parsed::Line(line) => run_line(rt, line, reader, writer),
     }
 }
 
@@ -509,7 +576,7 @@ pub fn run<S: AsStr, R: Read, W: Write, E: Write>(
     ensures { Ends (map S.text words.now) (E.contents errors.old) (E.contents errors.new) result }
 {
     match parse(rt.alloc(), words) {
-        Ok(line) => report_outcome(errors, run_line(rt, &line, reader, writer)),
+        Ok(parsed) => report_outcome(errors, run_parsed(rt, &parsed, reader, writer)),
         Err(usage) => report_usage(writer, errors, &usage),
     }
 }

@@ -1,7 +1,7 @@
 //! Tests command lines, executed whole, with files that the test makes.
 use super::one_by_one::{CUT, FIRST, LAST, new_listener};
 use crate::messages::WINDOWS;
-use cli::parse::{CommandLine, ServeLimits, Subcommand, parse};
+use cli::parse::{CommandLine, Parsed, ServeLimits, Subcommand, WindowsSource, parse};
 use cli::{run, words_of};
 use std::alloc::{AllocError, Global};
 use std::env::{Env, FillError};
@@ -43,7 +43,7 @@ const FIRST_AND_CUT: &str = "POST /carriers HTTP/1.1\r\nx-spid: NPAC\r\n\
     x-spid: NPAC\r\ncontent-length: 15\r\n\r\n{\"spid\"";
 
 // Mistakes in the line, found before any file is opened.
-static MISTAKES: [LineCase<'static>; 11] = [
+static MISTAKES: [LineCase<'static>; 16] = [
     ("npacd", "", 2, NO_OUTPUT, None),
     ("npacd listen --windows good.toml", "", 2, NO_OUTPUT, None),
     ("npacd feed", "", 2, NO_OUTPUT, None),
@@ -62,6 +62,23 @@ static MISTAKES: [LineCase<'static>; 11] = [
         None,
     ),
     ("npacd serve --windows good.toml", "", 2, NO_OUTPUT, None),
+    ("npacd windows", "", 2, NO_OUTPUT, None),
+    ("npacd feed --present-windows", "", 2, NO_OUTPUT, None),
+    (
+        "npacd feed --present-windows --db none.db --windows none.toml",
+        "",
+        2,
+        NO_OUTPUT,
+        Some("error: --windows stands beside --present-windows, or a number is not in digits\n"),
+    ),
+    ("npacd windows --windows good.toml", "", 2, NO_OUTPUT, None),
+    (
+        "npacd windows --db none.db --feed none.http",
+        "",
+        2,
+        NO_OUTPUT,
+        None,
+    ),
     (
         "npacd serve --windows none.toml --port 0",
         "",
@@ -99,9 +116,10 @@ static MISTAKES: [LineCase<'static>; 11] = [
     ),
 ];
 
-static HELP: [LineCase<'static>; 3] = [
+static HELP: [LineCase<'static>; 4] = [
     ("npacd --help", FIRST, 0, None, NO_OUTPUT),
     ("npacd serve --help", FIRST, 0, None, NO_OUTPUT),
+    ("npacd windows --help", FIRST, 0, None, NO_OUTPUT),
     (
         "npacd --version",
         FIRST,
@@ -257,14 +275,68 @@ static FED: [LineCase<'static>; 3] = [
     ),
 ];
 
-// Lines over a file, each after the ones before it.
-static STORED: [LineCase<'static>; 5] = [
+// The first windows of a file, as `npacd windows` writes them.
+const FIRST_SET: &str = "# Set 1\ninitial_concurrence = 60\nfinal_concurrence = 60\n\
+    conflict_restriction = 30\nconflict_resolution = 120\nconflict_expiration = 1000\n\
+    cancellation_initial = 60\ncancellation_final = 60\npending_retention = 500\nbroadcast = 15\n";
+
+// Lines over a file, each after the ones before it. `windows` makes no file.
+static STORED: [LineCase<'static>; 12] = [
+    (
+        "npacd windows --db made.db",
+        "",
+        3,
+        NO_OUTPUT,
+        Some("npacd: storage\n"),
+    ),
+    (
+        "npacd windows --db made.db",
+        "",
+        3,
+        NO_OUTPUT,
+        Some("npacd: storage\n"),
+    ),
+    (
+        "npacd feed --present-windows --db made.db",
+        FIRST,
+        3,
+        NO_OUTPUT,
+        Some("npacd: storage\n"),
+    ),
     (
         "npacd feed --windows good.toml --db made.db",
         FIRST,
         0,
         Some(REGISTERED),
         NO_OUTPUT,
+    ),
+    (
+        "npacd feed --db made.db --present-windows",
+        FIRST,
+        0,
+        Some(TAKEN),
+        NO_OUTPUT,
+    ),
+    (
+        "npacd windows --db made.db",
+        "",
+        0,
+        Some(FIRST_SET),
+        NO_OUTPUT,
+    ),
+    (
+        "npacd windows --db good.toml",
+        "",
+        3,
+        NO_OUTPUT,
+        Some("npacd: storage\n"),
+    ),
+    (
+        "npacd windows --db :memory:",
+        "",
+        3,
+        NO_OUTPUT,
+        Some("npacd: storage\n"),
     ),
     (
         "npacd feed --windows good.toml --db made.db",
@@ -392,11 +464,11 @@ fn is_port_taken(rt: &HostRuntime) -> Option<bool> {
 fn is_line(alloc: Global, text: &str, line: &CommandLine<'_>) -> Option<bool> {
     let words = words_in(alloc, text).ok()?;
     let parsed = parse(alloc, words.as_slice()).ok()?;
-    Some(parsed == *line)
+    Some(parsed == Parsed::Line(*line))
 }
 
 fn are_lines(alloc: Global) -> Option<bool> {
-    let windows = "w";
+    let windows = WindowsSource::File("w");
     let feed = Some("f");
     let subcommand = Subcommand::Serve {
         port: 65_535,

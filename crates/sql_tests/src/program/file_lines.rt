@@ -349,8 +349,13 @@ static KEPT: [LineCase<'static>; 1] = [(
     NO_OUTPUT,
 )];
 
+// The windows that the administrator sets, as `npacd windows` writes them.
+const SECOND_SET: &str = "# Set 2\ninitial_concurrence = 60\nfinal_concurrence = 60\n\
+    conflict_restriction = 30\nconflict_resolution = 120\nconflict_expiration = 1000\n\
+    cancellation_initial = 60\ncancellation_final = 60\npending_retention = 500\nbroadcast = 16\n";
+
 // The administrator sets other windows: the file then opens with these, and not with the first.
-static WINDOWS_CHANGED: [LineCase<'static>; 3] = [
+static WINDOWS_CHANGED: [LineCase<'static>; 5] = [
     (
         "npacd export --windows good.toml --db files.db --feed wide.http",
         "",
@@ -364,6 +369,20 @@ static WINDOWS_CHANGED: [LineCase<'static>; 3] = [
         1,
         NO_OUTPUT,
         Some("npacd: windows_differ\n"),
+    ),
+    (
+        "npacd export --present-windows --db files.db",
+        "",
+        0,
+        Some("subject,lrn,cic\n2025331234,2025440000,\n"),
+        NO_OUTPUT,
+    ),
+    (
+        "npacd windows --db files.db",
+        "",
+        0,
+        Some(SECOND_SET),
+        NO_OUTPUT,
     ),
     (
         "npacd export --windows wide.toml --db files.db",
@@ -429,11 +448,12 @@ static UNREAD: [&str; 3] = [
 ];
 
 // Lines, with their input, whose output cannot be written.
-static UNWRITTEN: [(&str, &str); 5] = [
+static UNWRITTEN: [(&str, &str); 6] = [
     ("npacd --help", ""),
     ("npacd feed --windows good.toml", LAST),
     ("npacd bulk --windows good.toml", ACTIVATES),
     ("npacd export --windows good.toml", ""),
+    ("npacd windows --db files.db", ""),
     (
         "npacd audit --windows good.toml --feed carriers.http --spid AAAA",
         COPY,
