@@ -22,6 +22,8 @@ module _ {S : Type 0} {store : Ghosts S} {a b : S} where
   reads_told read answers turn = record {
     same = read.same;
     honest = read.honest;
+    begins = read.begins;
+    ends = read.ends;
     stays = λ answered. read.stays (answers answered);
     rises = read.rises;
     storage = λ says. read.storage (turn says);
@@ -48,6 +50,8 @@ module _ {S : Type 0} {store : Ghosts S} {a b : S} where
     same = λ usable. let mid = second.same usable in let start = first.same mid.0 in
         (start.0, mid.1 ∙ start.1);
     honest = λ honest. first.honest (second.honest honest);
+    begins = λ m inside. first.begins m (second.begins m inside);
+    ends = λ usable m inside. second.ends usable m (first.ends (second.same usable).0 m inside);
     stays = λ answered usable honest.
         second.stays (answers answered) (first.stays found usable (second.honest honest)) honest;
     rises = le_trans first.rises second.rises;

@@ -17,6 +17,10 @@ pub trait StoreModel {
     // What a crash at this moment may leave.
     ghost IsCrashState: { Self → Content → Type 0 };
 
+    // A group of commits that began with this content has not ended. If one of its calls has failed,
+    // the store is not usable until the group ends.
+    ghost IsInGroup: { Self → Content → Type 0 } = { λ _ _. ⊥ };
+
     // An implementation's own fact about one call; the flag says whether it returned `Storage`.
     ghost IsStep: { Self → Self → Bool → Type 0 } = { λ _ _ _. Unit {0} };
 

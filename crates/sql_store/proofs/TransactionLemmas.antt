@@ -489,7 +489,8 @@ module _ (text : List ℕ) (k : Command) (turns : Turns k) (old new : State)
   never_writes Rollback is row db h = absurd (let e = h.3 in cc)
   never_writes _ bad row db h = bad
 
-  may_be : (Commits : Trees → Type 0) → ((db : Trees) → k ≡ Commit → db ≡ old.now.trees → Commits db)
+  may_be : (Commits : Trees → Type 0)
+      → ((db : Trees) → k ≡ Commit → db ≡ old.now.trees → Commits db)
       → (db : Trees) → CommitsBy text [] old db → Commits db
   unfolding CommitsBy
   may_be Commits means db h =

@@ -173,11 +173,25 @@ impl<S: Alter> Store for SqlStore<S> {
         counted(&mut self.failures, commit::commit(&mut self.db, changes))
     }
 
+    fn begin_group(&mut self) -> Result<bool, StoreFault> {
+        Ok(false)
+    }
+
+    fn end_group(&mut self) -> Result<(), StoreFault> {
+        Ok(())
+    }
+
+    fn undo_group(&mut self) -> Result<(), StoreFault> {
+        Ok(())
+    }
+
     fn failures(&self) -> u64 {
         self.failures
     }
 
-    ghost leaves_content = { λ s m up left. left_one m left.0 _ _ left.2 (S.settled s.db.conn.store
+    ghost leaves_start = { λ s start m inside _. absurd inside };
+
+    ghost leaves_content = { λ s m up _ left. left_one m left.0 _ _ left.2 (S.settled s.db.conn.store
         left.0 up left.1) (s.db.ours up).same_trees };
 
     ghost usable_is_honest = { λ s up. clean_if_open _ _ (S.shut_if_dirty s.db.conn.store) up };

@@ -31,7 +31,8 @@ use Rattle.store.proofs.SubjectsListed.{found-entry, key-among}
 pub id-among : (m : Box (BTreeMap ℕ (Unit {0}))) (id : ℕ) → has_id (More m) id ≡ true
     → Among id (tree.keys m.value)
 id-among m id has =
-    let e = found-entry (is_at (nat_cmp id)) m.value.entries (some (tree.get nat_cmp m.value id) has) in
+    let e =
+    found-entry (is_at (nat_cmp id)) m.value.entries (some (tree.get nat_cmp m.value id) has) in
     subst (λ k. Among k (tree.keys m.value)) (sym (nat_cmp-IsAntisymmetric id e.0.0 (tied _ e.2)))
     (key-among e.0 m.value.entries e.1)
   where

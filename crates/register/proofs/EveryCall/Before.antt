@@ -6,10 +6,8 @@ use Rattle.std.specs.FinMap.{get}
 use Rattle.std.proofs.Math.Nat.{le_trans}
 use Rattle.numbers.specs.Digits.{block_of}
 use Rattle.numbers.specs.Subjects.{Subject, Number, Block, subject_eq}
-use Rattle.numbers.specs.Abstraction.{subject_of}
 use Rattle.numbers.specs.declared.block_id.BlockId.{BlockId}
 use Rattle.numbers.specs.declared.tn.Tn.{Tn}
-use Rattle.numbers.specs.declared.ported.Subject.{Subject as SubjectImpl}
 use Rattle.numbers.specs.declared.ported.Subject.TheVariants.{Number as NumberImpl, Block as BlockImpl}
 use Rattle.model.specs.Machine.{Reply, HasHistory}
 use Rattle.model.specs.State.{State, record_now}
@@ -199,6 +197,9 @@ owes_after store before middle after old mid input settles first kept
     then_owed = record {
       usable = λ usable. first.usable (then_owed.usable usable);
       honest = λ honest. first.honest (then_owed.honest honest);
+      begins = λ m inside. first.begins m (then_owed.begins m inside);
+      ends = λ usable m inside. then_owed.ends usable m (first.ends (then_owed.usable usable) m
+          inside);
       stays = λ answers usable honest. then_owed.stays answers
           (first.stays settles usable (then_owed.honest honest)) honest;
       rises = le_trans first.rises then_owed.rises;

@@ -62,12 +62,17 @@ module _ {S : Type 0} (store : Ghosts S) (a b d : S) where
       (was.0, same_stays (store.content a) (store.content b) was.1))
       (λ done m may. inl (read done m may))
 
-  -- A call that was answered: the store is usable, and a crash leaves only its content.
-  pub left_kept : ((s : S) (m : Content) → store.IsUsable s → store.IsCrashState s m
-      → m ≡ store.content s)
-      → (Holds : Content → Type 0) → (store.HasHonestDevice d → store.IsUsable d)
-      → (store.IsUsable d → store.IsUsable a)
-      → (store.IsUsable d → Holds (store.content d)) →
-      AddsOnlyCrashStates store a d (λ m. store.IsUsable a × Holds m)
-  left_kept alone Holds ready was holds done m may = let used = ready done in
-      inr (was used, subst Holds (sym (alone d m used may)) (holds used))
+  -- A commit after a look-up that was answered.
+  pub left_committed : (Made Holds : Content → Type 0)
+      → (store.HasHonestDevice d → store.HasHonestDevice b)
+      → (store.HasHonestDevice b → store.IsUsable b) → (store.IsUsable b → store.IsUsable a)
+      → AddsNoCrashState store a b → AddsOnlyCrashStates store b d Made
+      → (store.IsUsable b → (m : Content) → Made m → Holds m)
+      → AddsOnlyCrashStates store a d (λ m. store.IsUsable a × Holds m)
+  left_committed Made Holds honest ready was read commits holds done m may =
+      by_cases (commits done m may)
+    where
+      by_cases : store.IsCrashState b m ⊎ Made m
+          → store.IsCrashState a m ⊎ (store.IsUsable a × Holds m)
+      by_cases (inl before) = inl (read (honest done) m before)
+      by_cases (inr made) = let used = ready (honest done) in inr (was used, holds used m made)

@@ -28,13 +28,17 @@ impl<S: Store> StoreModel for CommitCounter<'_, S> {
 
     ghost IsCrashState = { λ s m. S.IsCrashState s.store m };
 
+    ghost IsInGroup = { λ s m. S.IsInGroup s.store m };
+
     ghost failed = { λ s. S.failed s.store };
 
     ghost faults = { λ s. S.faults s.store };
 }
 
 impl<S: Store> Store for CommitCounter<'_, S> {
-    ghost leaves_content = { λ s m usable left. S.leaves_content s.store m usable left };
+    ghost leaves_content = { λ s m usable alone left. S.leaves_content s.store m usable alone left };
+
+    ghost leaves_start = { λ s start m inside left. S.leaves_start s.store start m inside left };
 
     ghost usable_is_honest = { λ s usable. S.usable_is_honest s.store usable };
 
@@ -125,6 +129,18 @@ impl<S: Store> Store for CommitCounter<'_, S> {
     fn commit(&mut self, changes: &Changes) -> Result<(), StoreFault> {
         self.commits.set(self.commits.get().saturating_add(1));
         self.store.commit(changes)
+    }
+
+    fn begin_group(&mut self) -> Result<bool, StoreFault> {
+        self.store.begin_group()
+    }
+
+    fn end_group(&mut self) -> Result<(), StoreFault> {
+        self.store.end_group()
+    }
+
+    fn undo_group(&mut self) -> Result<(), StoreFault> {
+        self.store.undo_group()
     }
 
     fn failures(&self) -> u64 {

@@ -24,7 +24,8 @@ pub enum Failing {
 }
 
 /// A store over another one. One of its calls fails as if the device had failed: it does not reach
-/// the store below, and the count of failures rises by one.
+/// the store below, and the count of failures rises by one. If it ends a group, the group below is
+/// undone.
 #[derive(Drop)]
 pub struct Flaky<S: Store> {
     store: S,
@@ -129,6 +130,8 @@ impl<S: Store> StoreModel for Flaky<S> {
 
     ghost IsCrashState = { λ s. S.IsCrashState s.store };
 
+    ghost IsInGroup = { λ s. S.IsInGroup s.store };
+
     ghost failed = { λ s. s.failures };
 
     ghost faults = { λ s. S.faults s.store };
@@ -142,6 +145,8 @@ impl<S: Store> StoreModel for Flaky<S> {
 
 impl<S: Store> Store for Flaky<S> {
     ghost leaves_content = { λ s. S.leaves_content s.store };
+
+    ghost leaves_start = { λ s. S.leaves_start s.store };
 
     ghost usable_is_honest = { λ s. S.usable_is_honest s.store };
 
@@ -252,6 +257,29 @@ impl<S: Store> Store for Flaky<S> {
     fn commit(&mut self, changes: &Changes) -> Result<(), StoreFault> {
         self.count_down()?;
         counted(&mut self.failures, self.store.commit(changes))
+    }
+
+    fn begin_group(&mut self) -> Result<bool, StoreFault> {
+        self.count_down()?;
+        counted(&mut self.failures, self.store.begin_group())
+    }
+
+    // The end that fails undoes the group below.
+    fn end_group(&mut self) -> Result<(), StoreFault> {
+        if let Err(fault) = self.count_down() {
+            let _ = self.store.undo_group();
+            return Err(fault);
+        }
+        counted(&mut self.failures, self.store.end_group())
+    }
+
+    // The undoing that fails has undone the group below.
+    fn undo_group(&mut self) -> Result<(), StoreFault> {
+        if let Err(fault) = self.count_down() {
+            let _ = self.store.undo_group();
+            return Err(fault);
+        }
+        counted(&mut self.failures, self.store.undo_group())
     }
 
     fn failures(&self) -> u64 {

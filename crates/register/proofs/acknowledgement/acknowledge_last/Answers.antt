@@ -39,6 +39,8 @@ pub returns-in_default-clause-read_only : goal.returns-in_default-clause-read_on
 returns-in_default-clause-read_only g c = record {
   same = search rules;
   honest = search rules;
+  begins = search rules;
+  ends = search rules;
   stays = search rules;
   rises = search rules;
   storage = λ (usable, there, said). absurd

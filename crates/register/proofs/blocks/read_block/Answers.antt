@@ -15,6 +15,8 @@ returns-in_err-last-clause-read_only g c = record {
       let first = c.code-2.ensures.looks_up.read_only.same at_code.0 in
       (first.0, at_row.1 ∙ at_code.1 ∙ first.1);
   honest = search rules;
+  begins = search rules;
+  ends = search rules;
   stays = search rules;
   rises = let a = c.code-2.ensures.looks_up.read_only.rises in let b =
       c.block.ensures.looks_up.read_only.rises in

@@ -1,4 +1,4 @@
-use Rattle.std.proofs.Common.{arith, rules, ap, ◌∙◌, inl, inr}
+use Rattle.std.proofs.Common.{arith, rules, ap, ◌∙◌}
 use Rattle.std.specs.Prelude.{Err}
 use Rattle.model.specs.Refusals.{RequestFrom}
 use Rattle.settle.proofs.Risen.{risen-since}
@@ -8,7 +8,7 @@ use Rattle.register.specs.Requesting.{request_of}
 use Rattle.register.proofs.EveryCall.Composed.{answers_fault}
 use Rattle.settle.proofs.Faults.{fault_is_none}
 use Rattle.register.proofs.EveryCall.Deciding.{carried, carried_refused}
-use Rattle.register.proofs.EveryCall.Left.{comes, left_kept}
+use Rattle.register.proofs.EveryCall.Left.{comes, left_committed}
 use Rattle.settle.proofs.Faults.{same_refusal, storage_by}
 use Rattle.register.proofs.commands.execute.Goals as goal
 
@@ -42,6 +42,8 @@ pub returns-in_err-reply-clause-preserves : goal.returns-in_err-reply-clause-pre
 returns-in_err-reply-clause-preserves g c = record {
   usable = search rules;
   honest = search rules;
+  begins = search rules;
+  ends = search rules;
   stays = search rules;
   rises = search rules;
   storage = λ says. c.in_err-reply.ensures.read_only.storage (record {
@@ -58,6 +60,8 @@ pub returns-in_err-commit-clause-preserves : goal.returns-in_err-commit-clause-p
 returns-in_err-commit-clause-preserves g c = record {
   usable = search rules;
   honest = search rules;
+  begins = search rules;
+  ends = search rules;
   stays = λ answered. absurd (fault_is_none c.from_residual-in_err-commit.result
       c.in_err-commit.field-0.0 (search rules) answered);
   rises = omega arith;
@@ -70,34 +74,29 @@ returns-in_err-commit-clause-preserves g c = record {
 }
 
 pub returns-in_err-commit-clause-left : goal.returns-in_err-commit-clause-left
-returns-in_err-commit-clause-left g c = λ honest m may.
-    let before = c.commit.ensures.preserves.honest honest in
-    let ready = c.in_ok-reply.ensures.open before in
-    let start = c.in_ok-reply.ensures.read_only.same ready in
+returns-in_err-commit-clause-left g c =
     let old = g.S.StoreModel.content c.args.store.now in
-    elim (c.commit.ensures.left honest m may) [
-      | inl earlier ↦ inl (c.in_ok-reply.ensures.read_only.left before m earlier)
-      | inr changed ↦ inr (
-        start.0,
-        comes old m (RequestFrom c.args.caller.number (request_of c.args.request)) _
-            (carried old (g.S.StoreModel.content c.decide.new.store) m
-            (RequestFrom c.args.caller.number
-            (request_of c.args.request)) _ c.in_ok-reply.reply start.1
-            (c.in_ok-reply.ensures.decides ready) changed),
-      )
-    ]
+    let input = RequestFrom c.args.caller.number (request_of c.args.request) in
+    left_committed g.S.StoreModel c.args.store.now c.decide.new.store c.commit.new.self _
+    (TakesSettledStep old input)
+    (λ honest. c.in_err-commit.ensures.preserves.honest honest)
+    (λ honest. c.in_ok-reply.ensures.open honest)
+    (λ used. (c.in_ok-reply.ensures.read_only.same used).0)
+    c.in_ok-reply.ensures.read_only.left c.in_err-commit.ensures.left
+    (λ used m changed. comes old m input _
+    (carried old (g.S.StoreModel.content c.decide.new.store) m input _ c.in_ok-reply.reply
+    (c.in_ok-reply.ensures.read_only.same used).1 (c.in_ok-reply.ensures.decides used) changed))
 
 pub returns-clause-left : goal.returns-clause-left
 returns-clause-left g c =
-    let old = c.args.store.now in
-    left_kept g.S.StoreModel
-    old old
-    c.commit.new.self g.met.S.Store.leaves_content
-    (TakesSettledStep (g.S.StoreModel.content old) (RequestFrom c.args.caller.number
-    (request_of c.args.request)))
-    (λ honest. c.in_ok-commit.ensures.preserves.stays tt (c.in_ok-reply.ensures.open
-    (c.in_ok-commit.ensures.preserves.honest honest)) honest)
-    (λ used. search (rules, used))
-    (λ used. comes (g.S.StoreModel.content old) (g.S.StoreModel.content c.commit.new.self)
-    (RequestFrom c.args.caller.number (request_of c.args.request)) _
-    (returns-clause-answers g c used))
+    let old = g.S.StoreModel.content c.args.store.now in
+    let input = RequestFrom c.args.caller.number (request_of c.args.request) in
+    left_committed g.S.StoreModel c.args.store.now c.decide.new.store c.commit.new.self _
+    (TakesSettledStep old input)
+    (λ honest. c.in_ok-commit.ensures.preserves.honest honest)
+    (λ honest. c.in_ok-reply.ensures.open honest)
+    (λ used. (c.in_ok-reply.ensures.read_only.same used).0)
+    c.in_ok-reply.ensures.read_only.left c.in_ok-commit.ensures.left
+    (λ used m changed. comes old m input _
+    (carried old (g.S.StoreModel.content c.decide.new.store) m input _ c.in_ok-reply.reply
+    (c.in_ok-reply.ensures.read_only.same used).1 (c.in_ok-reply.ensures.decides used) changed))

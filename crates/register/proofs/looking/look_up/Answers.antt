@@ -19,6 +19,13 @@ returns-in_err-held-clause-read_only g c = record {
   honest = λ honest. c.in_ok-clock.ensures.looks_up.read_only.honest
       (c.in_ok-row.ensures.looks_up.read_only.honest (c.in_err-held.ensures.read_only.honest
       honest));
+  begins = search rules;
+  ends = λ usable m inside.
+      let third = c.in_err-held.ensures.read_only.same usable in
+      let second = c.in_ok-row.ensures.looks_up.read_only.same third.0 in
+      c.in_err-held.ensures.read_only.ends usable m
+      (c.in_ok-row.ensures.looks_up.read_only.ends third.0 m
+      (c.in_ok-clock.ensures.looks_up.read_only.ends second.0 m inside));
   stays = search rules;
   rises = omega arith;
   storage = λ (usable, has, said).

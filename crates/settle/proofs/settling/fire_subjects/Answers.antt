@@ -57,4 +57,7 @@ loop-subject-preserved g c =
                 let was = c.loop-subject.invariant.4 ready st rep is in
                 kept st was.represents was.clock_row)
           ],
+      λ m inside. c.loop-subject.invariant.6 m (c.fire_due.ensures.preserves.begins m inside),
+      λ usable m inside. c.fire_due.ensures.preserves.ends usable m
+          (c.loop-subject.invariant.7 (c.fire_due.ensures.preserves.usable usable) m inside),
     )

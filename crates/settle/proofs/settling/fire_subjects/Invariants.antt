@@ -1,5 +1,5 @@
 use Rattle.std.proofs.Common.{◌≤◌, drop}
-use Rattle.settle.specs.StoreContract.{AddsOnlyCrashStates}
+use Rattle.settle.specs.StoreContract.{AddsOnlyCrashStates, BeginsNoGroup, EndsNoGroup}
 use Rattle.settle.specs.Settling.{PreservesAtClock}
 use Rattle.settle.specs.Abstraction.{clock_row_of}
 use Rattle.settle.proofs.SettledEach.{SettlesUpTo}
@@ -18,3 +18,5 @@ invariant-loop-subject g l =
     × (g.S.StoreModel.IsUsable l.fn.store
     → AddsOnlyCrashStates g.S.StoreModel l.fn.store
     l.store (PreservesAtClock (clock_row_of l.clock) (g.S.StoreModel.content l.fn.store)))
+    × BeginsNoGroup g.S.StoreModel l.fn.store l.store
+    × EndsNoGroup g.S.StoreModel l.fn.store l.store

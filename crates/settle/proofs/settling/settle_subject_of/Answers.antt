@@ -51,6 +51,8 @@ pub returns-clause-preserves : goal.returns-clause-preserves
 returns-clause-preserves g c = record {
   usable = search rules;
   honest = search rules;
+  begins = search rules;
+  ends = search rules;
   stays = λ answers usable honest. c.fire_due.ensures.preserves.stays answers
       (c.in_ok-row.ensures.looks_up.answers tt (c.fire_due.ensures.preserves.honest honest)) honest;
   rises = omega (

@@ -64,6 +64,8 @@ pub returns-clause-preserves : goal.returns-clause-preserves
 returns-clause-preserves g c = record {
   usable = search rules;
   honest = search rules;
+  begins = search rules;
+  ends = search rules;
   stays = λ answers usable honest. c.fire_subjects.ensures.preserves.stays answers
       (c.in_ok-numbers.ensures.looks_up.answers tt (c.fire_subjects.ensures.preserves.honest
       honest)) honest;

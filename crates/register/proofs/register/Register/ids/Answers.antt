@@ -30,6 +30,8 @@ pub returns-in_err-settle_number-clause-preserves : goal.returns-in_err-settle_n
 returns-in_err-settle_number-clause-preserves g c = record {
   usable = search rules;
   honest = search rules;
+  begins = search rules;
+  ends = search rules;
   stays = λ answered. absurd (fault_is_none c.from_residual.result c.in_err-settle_number.field-0.0
       (search rules) answered);
   rises = search rules;
