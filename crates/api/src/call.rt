@@ -8,7 +8,7 @@ ghost use Rattle.json_api.specs.Failures.{failure_text};
 ghost use Rattle.json_api.specs.Forms.{ApiCall as ApiCallModel, RegisterCall, api_call_model as asked_model, json_of};
 ghost use Rattle.json_api.specs.ResponseBuffers.{HasCapacity, IsEmpty, IsWritten};
 ghost use Rattle.api.specs.ReplyBounds.{HasCapacityFor, AreReplyBounds};
-ghost use Rattle.settle.specs.StoreContract.{IsAvailable, PreservesStore};
+ghost use Rattle.settle.specs.StoreContract.{BeginsNoGroup, EndsNoGroup, IsAvailable, PreservesStore};
 ghost use Rattle.api.specs.Step.{Step, Dispatches, DispatchesCallOn, IsCallerAdmitted, IsCallerRefused, BodyAsks, IdAsks, NumberAsks, CountAsks, PathAsks, Performs, IsPerformed, IsUnavailableRefusal, response_text, IsReplyAvailable, IsUnavailableText};
 
 use crate::query::query;
@@ -464,6 +464,8 @@ pub fn write_response<S: Store>(
     ensures usable { S.IsUsable register.new.store → S.IsUsable register.old.store }
     ensures rises { S.failed register.old.store ≤ S.failed register.new.store }
     ensures honest { S.HasHonestDevice register.new.store → S.HasHonestDevice register.old.store }
+    ensures begins { BeginsNoGroup S.StoreModel register.old.store register.new.store }
+    ensures ends { EndsNoGroup S.StoreModel register.old.store register.new.store }
     ensures stays { S.IsUsable register.old.store → S.HasHonestDevice register.new.store
         → IsUnavailableText (string_bytes response.new.text) ⊎ S.IsUsable register.new.store }
     ensures step { S.IsUsable register.new.store → (st : State)

@@ -1,6 +1,7 @@
 //! Executes the messages that have arrived.
 ghost use Rattle.std.specs.Prelude.{◌≡◌, ◌≤◌, ◌<◌, ◌^◌, ℕ, Option, Some, None, string_bytes, length, vec_len, drop, option_map, IfOk, IfSome, OnOk, ◌⊎◌};
 ghost use Rattle.model.specs.State.{State};
+ghost use Rattle.settle.specs.StoreContract.{BeginsNoGroup, EndsNoGroup};
 ghost use Rattle.register.specs.Refinement.{Refines};
 ghost use Rattle.http_messages.specs.ReadBuffer.{buffered_bytes, remaining_input};
 ghost use Rattle.http_messages.specs.Reading.{IsAtHand, IsBufferedAhead, IsRead, message_length};
@@ -88,6 +89,8 @@ fn tick_and_answer<S: Store, T: Ticks>(
     ensures usable { S.IsUsable register.new.store → S.IsUsable register.old.store }
     ensures rises { S.failed register.old.store ≤ S.failed register.new.store }
     ensures honest { S.HasHonestDevice register.new.store → S.HasHonestDevice register.old.store }
+    ensures begins { BeginsNoGroup S.StoreModel register.old.store register.new.store }
+    ensures ends { EndsNoGroup S.StoreModel register.old.store register.new.store }
     ensures stays { S.IsUsable register.old.store → S.HasHonestDevice register.new.store
         → IsUnavailableText (string_bytes response.new.text) ⊎ S.IsUsable register.new.store }
     ensures responds { S.IsUsable register.new.store
@@ -240,6 +243,8 @@ impl Executor {
         ensures rises { S.failed register.old.store ≤ S.failed register.new.store }
         ensures honest { S.HasHonestDevice register.new.store
             → S.HasHonestDevice register.old.store }
+        ensures begins { BeginsNoGroup S.StoreModel register.old.store register.new.store }
+        ensures ends { EndsNoGroup S.StoreModel register.old.store register.new.store }
         ensures stays { S.IsUsable register.old.store → S.HasHonestDevice register.new.store
             → IsUnavailableResponse next.now.message (string_bytes self.new.response.text)
             ⊎ S.IsUsable register.new.store }
@@ -319,6 +324,8 @@ impl Executor {
         ensures rises { S.failed register.old.store ≤ S.failed register.new.store }
         ensures honest { S.HasHonestDevice register.new.store
             → S.HasHonestDevice register.old.store }
+        ensures begins { BeginsNoGroup S.StoreModel register.old.store register.new.store }
+        ensures ends { EndsNoGroup S.StoreModel register.old.store register.new.store }
     {
         let clock = options.clock_route;
         let mut consumed = 0;

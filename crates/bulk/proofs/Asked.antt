@@ -39,6 +39,8 @@ owes_on {store = store} {before = before} {mid = mid} {after = after} first sett
     record {
       usable = λ u. first.usable (second.usable u);
       honest = λ h. first.honest (second.honest h);
+      begins = λ m inside. first.begins m (second.begins m inside);
+      ends = λ u m inside. second.ends u m (first.ends (second.usable u) m inside);
       stays = λ answers usable honest.
           second.stays answers (first.stays settles usable (second.honest honest)) honest;
       rises = le_trans first.rises second.rises;
@@ -77,6 +79,8 @@ pub owes_none : {S : Type 0} (store : Ghosts S) (s : S)
 owes_none store s = record {
   usable = λ u. u;
   honest = λ h. h;
+  begins = λ m inside. inside;
+  ends = λ u m inside. inside;
   stays = λ settles usable honest. usable;
   rises = le_refl (store.failed s);
   storage = λ x. absurd x;

@@ -65,6 +65,10 @@ loop-number-preserved g c = record {
   owed = record {
     usable = λ u. c.loop-number.invariant.owed.usable (c.run_number.ensures.preserves.usable u);
     honest = λ h. c.loop-number.invariant.owed.honest (c.run_number.ensures.preserves.honest h);
+    begins = λ m inside. c.loop-number.invariant.owed.begins m
+        (c.run_number.ensures.preserves.begins m inside);
+    ends = λ u m inside. c.run_number.ensures.preserves.ends u m
+        (c.loop-number.invariant.owed.ends (c.run_number.ensures.preserves.usable u) m inside);
     stays = λ settles usable honest.
         c.in_ok-written.ensures.preserves.stays tt
         (c.loop-number.invariant.owed.stays tt usable

@@ -81,6 +81,10 @@ loop-row-preserved g c =
       owed = record {
         usable = λ u. c.loop-row.invariant.owed.usable (c.run_row.ensures.preserves.usable u);
         honest = λ h. c.loop-row.invariant.owed.honest (c.run_row.ensures.preserves.honest h);
+        begins = λ m inside. c.loop-row.invariant.owed.begins m
+            (c.run_row.ensures.preserves.begins m inside);
+        ends = λ u m inside. c.run_row.ensures.preserves.ends u m
+            (c.loop-row.invariant.owed.ends (c.run_row.ensures.preserves.usable u) m inside);
         stays = λ settles usable honest.
             c.in-Ok.ensures.preserves.stays tt
             (c.loop-row.invariant.owed.stays tt usable

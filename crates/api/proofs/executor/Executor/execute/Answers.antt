@@ -304,6 +304,9 @@ loop-count-preserved g c =
           c.loop-count.output.items c.extend_from_slice.new.self.items _ _ _
           c.extend_from_slice.ensures.items (c.is_err.ensures.negation ∙ ap not c.if-is_err.false)
           c.as_bytes.ensures.value)),
+      λ m inside. c.loop-count.invariant.6 m (c.respond-end.ensures.begins m inside),
+      λ usable m inside. c.respond-end.ensures.ends usable m
+          (c.loop-count.invariant.7 (c.respond-end.ensures.usable usable) m inside),
     )
 
 pub returns-clause-executes : goal.returns-clause-executes

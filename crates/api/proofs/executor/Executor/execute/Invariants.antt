@@ -1,4 +1,5 @@
 use Rattle.std.proofs.Common.{◌⊎◌, ◌≤◌, drop, length, Some}
+use Rattle.settle.specs.StoreContract.{BeginsNoGroup, EndsNoGroup}
 use Rattle.api.proofs.Going.{Progress}
 use Rattle.api.proofs.Withheld.{Past}
 use Rattle.api.proofs.executor.Executor.execute.Given as goal
@@ -21,3 +22,5 @@ invariant-loop-count g l =
     (g.S.StoreModel.content l.register.store) (Some l.fn.input) (Some (drop l.consumed l.fn.input))
     (Some l.fn.output.items) (Some l.output.items) (g.T.Ticks.remaining l.fn.ticks)
     (g.T.Ticks.remaining l.ticks) l.count)
+    × BeginsNoGroup g.S.StoreModel l.fn.register.store l.register.store
+    × EndsNoGroup g.S.StoreModel l.fn.register.store l.register.store
