@@ -1,11 +1,14 @@
 -- Chains of steps, the messages at the start of an input, and their responses.
-use Rattle.std.proofs.Common.{◌≡◌, ℕ, List, [], ◌∷◌, ◌++◌, drop, Option, Some, None, Bool, refl, sym, ap, ◌∙◌, subst, append-nil}
+use Rattle.std.proofs.Common.{◌≡◌, ℕ, List, [], ◌∷◌, ◌++◌, drop, Option, Some, None, Result, Ok, Err, Bool, refl, sym, ap, ◌∙◌, subst, append-nil}
 use Rattle.std.proofs.lemmas.Grind.{flat_map-append}
 use Rattle.std.proofs.lemmas.List.{map-append}
 use Rattle.model.specs.State.{State}
 use Rattle.http_messages.proofs.AtHandLemmas.{message_more}
 use Rattle.api.specs.Run.{Exchange, Run, responses, ticks_of}
 use Rattle.api.specs.Ticks.{ConsumesTick, ConsumesTicks, later_ticks}
+use Rattle.api.specs.declared.executor.Executed.{Executed}
+use Rattle.api.specs.declared.executor.Lost.{Lost}
+use Rattle.connections.specs.Connections.{ConnectionModel, with_executed}
 use Rattle.connections.specs.Schedules.{Begins, Chain}
 
 pub run_chain : (offered : Bool) (from to : ℕ) (st : State) (input : List ℕ) (xs : List Exchange)
@@ -96,3 +99,9 @@ renamed P input input' had had' has start e f g p =
     subst (λ (t : List ℕ). P t had' (drop start has)) e
     (subst (λ (t : List ℕ). P input t (drop start has)) f
     (subst (λ (n : ℕ). P input had (drop n has)) (sym g) p))
+
+-- What is unsent after messages were executed.
+pub unsent_after : (new old : ConnectionModel) (executed : Result Executed Lost) (unsent : List ℕ)
+    → new ≡ with_executed old executed unsent → new.unsent ≡ unsent
+unsent_after new old (Ok done) unsent same = ap (λ (c : ConnectionModel). c.unsent) same
+unsent_after new old (Err lost) unsent same = ap (λ (c : ConnectionModel). c.unsent) same

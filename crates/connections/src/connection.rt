@@ -1,6 +1,7 @@
 //! A connection as two byte lists: what has arrived, and what is to be sent.
-ghost use Rattle.std.specs.Prelude.{◌≡◌, ◌≤◌, ◌⊎◌, Some, drop, length, IfOk, OnOk, OnErr};
+ghost use Rattle.std.specs.Prelude.{◌≡◌, ◌≤◌, ◌⊎◌, ◌++◌, Err, Some, drop, length, IfOk, OnOk, OnErr};
 ghost use Rattle.model.specs.State.{State};
+ghost use Rattle.settle.specs.StoreContract.{BeginsNoGroup, EndsNoGroup};
 ghost use Rattle.register.specs.Refinement.{Refines};
 ghost use Rattle.api.specs.Executing.{Executes, consumed_of};
 ghost use Rattle.api.specs.Serving.{WritesUntil};
@@ -202,7 +203,7 @@ impl Connection {
         self.output.move_to_start();
         let input = self.input.as_slice();
         let output = &mut self.output.bytes;
-        match executor.execute(
+        let result = executor.execute(
             register,
             ticks,
             options,
@@ -210,17 +211,93 @@ impl Connection {
             self.has_ended,
             most,
             output,
-        ) {
-            Ok(executed) => {
-                self.input.take(executed.consumed);
-                self.wanted = wanted_of(executed.progress);
-                self.phase = phase_of(executed.progress);
-                Ok(executed)
+        );
+        self.note_executed(&result);
+        result
+    }
+
+    // Takes what was executed from the input.
+    fn note_executed(&mut self, executed: &Result<Executed, Lost>)
+        ensures { connection_of self.new ≡ with_executed (connection_of self.old) executed.now
+            (connection_of self.old).unsent }
+    {
+        match executed {
+            Ok(done) => {
+                self.input.take(done.consumed);
+                self.wanted = wanted_of(done.progress);
+                self.phase = phase_of(done.progress);
             }
-            Err(lost) => {
-                self.phase = Phase::Lost;
-                Err(lost)
-            }
+            Err(_) => self.phase = Phase::Lost,
+        }
+    }
+
+    /// Executes the whole messages that have arrived, at most `most`, as `Executor::execute` does,
+    /// and appends their responses to `responses`. The connection stays as it is until
+    /// `take_executed`; without that, the same messages are executed by the next call.
+    ///
+    /// # Errors
+    ///
+    /// `Lost` if `responses` cannot grow.
+    pub fn execute_ahead<S: Store, T: Ticks>(
+        &self,
+        executor: &mut Executor,
+        register: &mut Register<S>,
+        ticks: &mut T,
+        options: &Options,
+        most: u64,
+        responses: &mut Vec<u8>,
+    ) -> Result<Executed, Lost>
+        ensures executes { S.IsUsable register.new.store → (st : State)
+            → Refines (S.content register.old.store) st
+            → Executes result options.now.clock_route most self.now.has_ended
+            (S.failed register.old.store) (S.failed register.new.store) st
+            (S.content register.new.store)
+            (record {
+              input = (connection_of self.now).unread;
+              unread = Some (drop (consumed_of result) (connection_of self.now).unread);
+              ticks_before = T.remaining ticks.old;
+              ticks_after = T.remaining ticks.new;
+              written_before = Some responses.old.items;
+              written_after = Some responses.new.items;
+            }) }
+        ensures within { IfOk result (λ done.
+            (done.consumed ≤ length (connection_of self.now).unread) × (done.count ≤ most)) }
+        ensures until { S.IsUsable register.old.store → S.HasHonestDevice register.new.store
+            → S.IsUsable register.new.store
+            ⊎ ((st : State) → Refines (S.content register.old.store) st
+            → WritesUntil options.now.clock_route (S.failed register.old.store) st
+            (connection_of self.now).unread (T.remaining ticks.old)
+            (Some responses.old.items) (Some responses.new.items)) }
+        ensures follows { RowsFollow S.StoreModel register.old.store register.new.store }
+        ensures begins { BeginsNoGroup S.StoreModel register.old.store register.new.store }
+        ensures ends { EndsNoGroup S.StoreModel register.old.store register.new.store }
+    {
+        let input = self.unread();
+        executor.execute(
+            register,
+            ticks,
+            options,
+            input,
+            self.has_ended(),
+            most,
+            responses,
+        )
+    }
+
+    /// Takes what `execute_ahead` executed: the messages are no longer unread, and `responses` are to
+    /// be sent. Without memory for them, they are lost, and the connection is `Phase::Lost`.
+    pub fn take_executed(&mut self, executed: &Result<Executed, Lost>, responses: &[u8])
+        ensures { (connection_of self.new ≡ with_executed (connection_of self.old) executed.now
+            ((connection_of self.old).unsent ++ responses.now))
+            ⊎ (connection_of self.new ≡ with_executed (connection_of self.old) (Err (record {
+              count = 0;
+            }))
+            (connection_of self.old).unsent) }
+    {
+        if self.output.add(responses).is_ok() {
+            self.note_executed(executed);
+        } else {
+            self.phase = Phase::Lost;
         }
     }
 

@@ -1,4 +1,5 @@
-//! How many connections are open at once, and how long each may take.
+//! How many connections are open at once, how long each may take, and how many messages share a
+//! commit.
 ghost use Rattle.std.specs.Prelude.{◌≡◌};
 ghost use Rattle.connections.specs.Waits.{AreLimits, limit_of};
 
@@ -17,10 +18,13 @@ pub enum Wait {
     Discarding,
 }
 
-/// How many connections are open at once, and how long each may wait.
+/// How many connections are open at once, how long each may wait, and how many messages share a
+/// commit.
 #[derive(Clone, Copy, Debug, PartialEq, Eq)]
 pub struct Limits {
     pub at_once: usize,
+    /// The most messages in a group of commits. With 1, each commits by itself.
+    pub group: u64,
     /// From the first byte of a message to its last.
     pub message: Duration,
     /// Between messages.
@@ -36,12 +40,14 @@ pub struct Limits {
 impl Limits {
     /// Returns limits for `at_once` connections, with seconds for a message, between messages, and
     /// until further bytes are taken. Between messages it is 1 second while another connection
-    /// waits. Input is discarded for 2 seconds.
+    /// waits. Input is discarded for 2 seconds. At most 256 messages share a commit.
     pub fn new(at_once: usize, message: u64, idle: u64, sending: u64) -> Limits
-        ensures { AreLimits at_once message idle 1 sending 2 result }
+        ensures limits { AreLimits at_once message idle 1 sending 2 result }
+        ensures group { result.group ≡ 256 }
     {
         Limits {
             at_once,
+            group: 256,
             message: Duration::from_secs(message),
             idle: Duration::from_secs(idle),
             idle_when_full: Duration::from_secs(1),

@@ -1,6 +1,7 @@
 //! A connection and its socket: moves bytes between them, and keeps the time.
 ghost use Rattle.std.specs.Prelude.{◌≡◌, ◌+◌, ◌≤◌, IfSome, length, min, nat_eq, not};
 ghost use Rattle.std.specs.Duration.{as_nanos, max_nanos};
+ghost use Rattle.settle.specs.StoreContract.{BeginsNoGroup, EndsNoGroup};
 ghost use Rattle.connections.specs.Connections.{connection_of};
 ghost use Rattle.connections.specs.Rows.{RowsFollow};
 ghost use Rattle.connections.specs.Waits.{limit_of, start_of, wait_of};
@@ -8,7 +9,7 @@ ghost use Rattle.connections.specs.Waits.{limit_of, start_of, wait_of};
 use crate::connection::{Connection, Phase};
 use crate::limits::{Limits, Wait};
 use crate::log::{Ending, Summary};
-use api::{End, Executor, Options, Tally, Ticks};
+use api::{End, Executed, Executor, Lost, Options, Tally, Ticks};
 use mio::event::Event;
 use mio::net::TcpStream;
 use register::Register;
@@ -80,6 +81,23 @@ const SLICES: usize = 8;
 
 // How long a turn lasts at most, but for its first and its last slice, in milliseconds.
 const TURN: u64 = 1;
+
+/// What was executed for a connection ahead of the end of its group of commits.
+#[derive(Clone, Copy, Debug)]
+pub struct Ahead {
+    result: Result<Executed, Lost>,
+    tally: Tally,
+}
+
+impl Ahead {
+    /// Returns how many messages were answered.
+    pub fn count(&self) -> u64 {
+        match self.result {
+            Ok(executed) => executed.count,
+            Err(lost) => lost.count,
+        }
+    }
+}
 
 // Returns whether the time of a turn is over. At the first look, which begins it, it is not.
 fn is_over<C: Clock>(end: &mut Option<Duration>, clock: &C) -> bool {
@@ -364,6 +382,40 @@ impl Peer {
             self.since = now;
         }
         self.tally = executor.tally;
+    }
+
+    /// Executes the messages of one turn, at most `most`, and appends their responses to
+    /// `responses`. The peer stays as it is until `take_executed`.
+    pub fn execute_ahead<S: Store, T: Ticks>(
+        &self,
+        executor: &mut Executor,
+        register: &mut Register<S>,
+        ticks: &mut T,
+        most: u64,
+        responses: &mut Vec<u8>,
+    ) -> Option<Ahead>
+        ensures follows { RowsFollow S.StoreModel register.old.store register.new.store }
+        ensures begins { BeginsNoGroup S.StoreModel register.old.store register.new.store }
+        ensures ends { EndsNoGroup S.StoreModel register.old.store register.new.store }
+    {
+        if !self.is_talking() || !self.connection.has_work() {
+            return None;
+        }
+        executor.tally = self.tally;
+        let options = Options { clock_route: false };
+        let connection = &self.connection;
+        let result = connection.execute_ahead(executor, register, ticks, &options, most, responses);
+        let tally = executor.tally;
+        Some(Ahead { result, tally })
+    }
+
+    /// Takes what `execute_ahead` executed, with its responses.
+    pub fn take_executed(&mut self, ahead: &Ahead, responses: &[u8], now: Duration) {
+        self.connection.take_executed(&ahead.result, responses);
+        self.tally = ahead.tally;
+        if ahead.count() > 0 {
+            self.since = now;
+        }
     }
 
     // Writes once.

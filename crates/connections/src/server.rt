@@ -1,12 +1,13 @@
 //! The event loop: serves the connections of a port in turns.
 ghost use Rattle.std.specs.Prelude.{◌≡◌, ◌≢◌, ◌≤◌, Err};
 ghost use Rattle.settle.specs.Reads.{HasDeviceFailed};
+ghost use Rattle.settle.specs.StoreContract.{BeginsNoGroup, EndsNoGroup};
 ghost use Rattle.connections.specs.Rows.{RowsFollow};
 
 use crate::acceptor::Acceptor;
 use crate::limits::{Limits, Wait};
 use crate::log::{Ending, log_connection, log_failure};
-use crate::peer::{Accepted, Peer};
+use crate::peer::{Accepted, Ahead, Peer};
 use api::{Executor, Ticks};
 use mio::net::TcpListener;
 use mio::{Events, Interest, Poll, Token};
@@ -15,10 +16,10 @@ use settle::{Store, StoreFault};
 use slab::Slab;
 use std::alloc::{AllocError, Global};
 use std::collections::VecDeque;
-use std::io;
 use std::io::Write;
 use std::net::Net;
 use std::time::{Clock, Duration};
+use std::{io, mem};
 
 // The token of the listener. That of a connection is its key.
 const LISTENER: Token = Token(usize::MAX);
@@ -28,6 +29,12 @@ const READ_SIZE: usize = 65_536;
 
 // How many events are taken at once.
 const EVENTS: usize = 256;
+
+// The most messages of one turn in a group of commits.
+const TURN: u64 = 64;
+
+// With more bytes of responses than this, a group of commits ends.
+const GROUP_RESPONSES: usize = 65_536;
 
 // How long the loop sleeps at most while all places are taken and a connection waits, in
 // milliseconds.
@@ -66,6 +73,16 @@ impl From<io::Error> for ServerFault {
     }
 }
 
+// A connection's turn in a group of commits: whether bytes were unsent before, what was executed,
+// and where its responses end among those of the group.
+#[derive(Clone, Copy, Debug)]
+struct GroupTurn {
+    key: usize,
+    had_unsent: bool,
+    ahead: Option<Ahead>,
+    end: usize,
+}
+
 // The connections, and what serving them needs.
 #[derive(Drop)]
 struct Server {
@@ -75,6 +92,9 @@ struct Server {
     // The keys of those with work.
     queue: VecDeque<usize>,
     executor: Executor,
+    // The turns of a group of commits, and the responses to their messages.
+    turns: Vec<GroupTurn>,
+    responses: Vec<u8>,
     scratch: Vec<u8>,
     limits: Limits,
     now: Duration,
@@ -97,6 +117,8 @@ impl Server {
             peers: Slab::with_capacity(alloc, limits.at_once)?,
             queue: VecDeque::with_capacity(alloc, limits.at_once)?,
             executor: Executor::new(alloc)?,
+            turns: Vec::new(alloc),
+            responses: Vec::new(alloc),
             scratch: vec![in alloc; 0; READ_SIZE]?,
             limits,
             now: Duration::ZERO,
@@ -209,8 +231,17 @@ impl Server {
         self.enqueue(key);
     }
 
-    // Gives a connection its turn: one read, some messages, one write.
-    fn turn<S: Store, T: Ticks, C: Clock, L: Write>(
+    // Begins the turn of a connection: reads once. Returns whether bytes were unsent before.
+    fn begin_turn(&mut self, key: usize) -> Option<bool> {
+        let peer = self.peers.get_mut(key)?;
+        peer.is_queued = false;
+        let had_unsent = !peer.connection().unsent().is_empty();
+        peer.read_more(&mut self.scratch, self.now);
+        Some(had_unsent)
+    }
+
+    // Executes some messages of a connection.
+    fn execute<S: Store, T: Ticks, C: Clock, L: Write>(
         &mut self,
         key: usize,
         register: &mut Register<S>,
@@ -223,19 +254,15 @@ impl Server {
         let Some(peer) = self.peers.get_mut(key) else {
             return;
         };
-        peer.is_queued = false;
-        let had_unsent = !peer.connection().unsent().is_empty();
-        peer.read_more(&mut self.scratch, self.now);
         let failures = register.failures();
         peer.execute(&mut self.executor, register, ticks, clock, self.now);
         if register.failures() != failures {
             log_failure(self.alloc, peer.number(), register.failures(), log);
         }
-        self.end_turn(key, had_unsent, log);
     }
 
-    // Gives each connection in the queue one turn.
-    fn turns<S: Store, T: Ticks, C: Clock, L: Write>(
+    // Gives each connection in the queue its turn: one read, some messages, one write.
+    fn turns_alone<S: Store, T: Ticks, C: Clock, L: Write>(
         &mut self,
         register: &mut Register<S>,
         ticks: &mut T,
@@ -245,9 +272,125 @@ impl Server {
         ensures follows { RowsFollow S.StoreModel register.old.store register.new.store }
     {
         for _ in 0..self.queue.len() {
-            if let Some(key) = self.queue.pop_front() {
-                self.turn(key, register, ticks, clock, log);
+            if let Some(key) = self.queue.pop_front()
+                && let Some(had_unsent) = self.begin_turn(key)
+            {
+                self.execute(key, register, ticks, clock, log);
+                self.end_turn(key, had_unsent, log);
             }
+        }
+    }
+
+    // Executes messages of a connection ahead of the end of their group, at most `most`. Returns how
+    // many.
+    fn execute_ahead<S: Store, T: Ticks>(
+        &mut self,
+        key: usize,
+        register: &mut Register<S>,
+        ticks: &mut T,
+        most: u64,
+    ) -> u64
+        ensures follows { RowsFollow S.StoreModel register.old.store register.new.store }
+        ensures begins { BeginsNoGroup S.StoreModel register.old.store register.new.store }
+        ensures ends { EndsNoGroup S.StoreModel register.old.store register.new.store }
+    {
+        if self.turns.reserve(1).is_err() {
+            let _ = self.queue.push_back(key);
+            return 0;
+        }
+        let Some(had_unsent) = self.begin_turn(key) else {
+            return 0;
+        };
+        let Some(peer) = self.peers.get(key) else {
+            return 0;
+        };
+        let responses = &mut self.responses;
+        let ahead = peer.execute_ahead(&mut self.executor, register, ticks, most, responses);
+        let end = self.responses.len();
+        let turn = GroupTurn {
+            key,
+            had_unsent,
+            ahead,
+            end,
+        };
+        let _ = self.turns.push(turn);
+        match ahead {
+            Some(ahead) => ahead.count(),
+            None => 0,
+        }
+    }
+
+    // Executes messages of the connections in the queue, until the group is full.
+    fn turns_ahead<S: Store, T: Ticks>(&mut self, register: &mut Register<S>, ticks: &mut T)
+        ensures follows { RowsFollow S.StoreModel register.old.store register.new.store }
+        ensures begins { BeginsNoGroup S.StoreModel register.old.store register.new.store }
+        ensures ends { EndsNoGroup S.StoreModel register.old.store register.new.store }
+    {
+        let mut left = self.limits.group;
+        for _ in 0..self.queue.len() {
+            if left == 0 || self.responses.len() > GROUP_RESPONSES {
+                break;
+            }
+            if let Some(key) = self.queue.pop_front() {
+                let executed = self.execute_ahead(key, register, ticks, left.min(TURN));
+                left = left.saturating_sub(executed);
+            }
+        }
+    }
+
+    // Ends the turns of a group. If its commits last, its responses are sent. Otherwise each message
+    // is executed again, and commits by itself.
+    fn end_turns<S: Store, T: Ticks, C: Clock, L: Write>(
+        &mut self,
+        lasts: bool,
+        register: &mut Register<S>,
+        ticks: &mut T,
+        clock: &C,
+        log: &mut L,
+    )
+        ensures follows { RowsFollow S.StoreModel register.old.store register.new.store }
+    {
+        let mut turns = mem::replace(&mut self.turns, Vec::new(self.alloc));
+        let mut start = 0;
+        for turn in turns.iter() {
+            if !lasts {
+                self.execute(turn.key, register, ticks, clock, log);
+            } else if let Some(peer) = self.peers.get_mut(turn.key)
+                && let Some(ahead) = turn.ahead
+            {
+                let responses = self.responses.get(start..turn.end).unwrap_or(&[]);
+                peer.take_executed(&ahead, responses, self.now);
+            }
+            start = turn.end;
+            self.end_turn(turn.key, turn.had_unsent, log);
+        }
+        turns.clear();
+        self.turns = turns;
+        self.responses.clear();
+    }
+
+    // Gives the connections in the queue a turn each: if the store has groups of commits, as many as
+    // one group takes.
+    fn turns<S: Store, T: Ticks, C: Clock, L: Write>(
+        &mut self,
+        register: &mut Register<S>,
+        ticks: &mut T,
+        clock: &C,
+        log: &mut L,
+    )
+        ensures follows { RowsFollow S.StoreModel register.old.store register.new.store }
+    {
+        if self.queue.is_empty() {
+            return;
+        }
+        if self.limits.group > 1
+            && let Ok(true) = register.begin_group()
+        {
+            self.turns_ahead(register, ticks);
+            let ended = register.end_group();
+            self.end_turns(ended.is_ok(), register, ticks, clock, log);
+        } else {
+            self.turns_alone(register, ticks, clock, log);
         }
     }
 

@@ -1,44 +1,81 @@
-use Rattle.std.proofs.Common.{◌⊎◌, Some, drop}
+use Rattle.std.proofs.Common.{◌≡◌, ◌⊎◌, ℕ, List, Some, drop, sym, subst}
 use Rattle.model.specs.State.{State}
 use Rattle.register.specs.Refinement.{Refines}
-use Rattle.api.specs.Executing.{LosesAfter}
+use Rattle.api.specs.Executing.{Executes, consumed_of}
 use Rattle.api.specs.Serving.{WritesUntil}
-use Rattle.connections.proofs.Chains.{renamed}
+use Rattle.connections.specs.Connections.{connection_of, queued}
+use Rattle.connections.proofs.Chains.{renamed, unsent_after}
 use Rattle.connections.proofs.connection.Connection.execute.Goals as goal
 
-pub returns-in-Ok-clause-until : goal.returns-in-Ok-clause-until
-returns-in-Ok-clause-until g c = λ usable honest. renamed
-    (λ input had has. g.S.StoreModel.IsUsable c.execute.new.register.store ⊎ ((st : State)
-    → Refines (g.S.StoreModel.content c.args.register.now.store) st
-    → WritesUntil c.args.options.now.clock_route
-    (g.S.StoreModel.failed c.args.register.now.store) st input
-    (g.T.Ticks.remaining c.args.ticks.now) (Some had) (Some has))) _ _ _ _ _ _
-    c.as_slice-input.ensures c.move_to_start.ensures.bytes c.move_to_start.ensures.start
-    (c.execute.ensures.until usable honest)
-
-pub returns-in-Err-clause-executes : goal.returns-in-Err-clause-executes
-returns-in-Err-clause-executes g c = λ usable st s. renamed
-    (λ input had has. LosesAfter c.args.options.now.clock_route
+pub returns-clause-executes : goal.returns-clause-executes
+returns-clause-executes g c = λ usable st s.
+    let unsent : queued c.note_executed.new.self.output
+    ≡ drop c.move_to_start.new.self.start c.execute-result.new.output.items =
+    unsent_after (connection_of c.note_executed.new.self)
+    (record {
+      phase = c.args.self.now.phase;
+      unread = queued c.args.self.now.input;
+      wanted = c.args.self.now.wanted;
+      has_ended = c.args.self.now.has_ended;
+      unsent = drop c.move_to_start.new.self.start c.execute-result.new.output.items;
+    }) c.execute-result.result
+    (drop c.move_to_start.new.self.start c.execute-result.new.output.items)
+    c.note_executed.ensures in
+    subst (λ (has : List ℕ). Executes c.execute-result.result c.args.options.now.clock_route
+    c.args.most c.args.self.now.has_ended
     (g.S.StoreModel.failed c.args.register.now.store)
-    (g.S.StoreModel.failed c.execute.new.register.store) st
-    (g.S.StoreModel.content c.execute.new.register.store)
+    (g.S.StoreModel.failed c.execute-result.new.register.store) st
+    (g.S.StoreModel.content c.execute-result.new.register.store)
+    (record {
+      input = queued c.args.self.now.input;
+      unread = Some (drop (consumed_of c.execute-result.result) (queued c.args.self.now.input));
+      ticks_before = g.T.Ticks.remaining c.args.ticks.now;
+      ticks_after = g.T.Ticks.remaining c.execute-result.new.ticks;
+      written_before = Some (queued c.args.self.now.output);
+      written_after = Some has;
+    })) (sym unsent)
+    (renamed
+    (λ input had has. Executes c.execute-result.result c.args.options.now.clock_route c.args.most
+    c.args.self.now.has_ended
+    (g.S.StoreModel.failed c.args.register.now.store)
+    (g.S.StoreModel.failed c.execute-result.new.register.store) st
+    (g.S.StoreModel.content c.execute-result.new.register.store)
     (record {
       input = input;
-      unread = Some (drop 0 input);
+      unread = Some (drop (consumed_of c.execute-result.result) input);
       ticks_before = g.T.Ticks.remaining c.args.ticks.now;
-      ticks_after = g.T.Ticks.remaining c.execute.new.ticks;
+      ticks_after = g.T.Ticks.remaining c.execute-result.new.ticks;
       written_before = Some had;
       written_after = Some has;
-    }) c.in-Err.lost.count) _ _ _ _ _ _
+    })) _ _ _ _ _ _
     c.as_slice-input.ensures c.move_to_start.ensures.bytes c.move_to_start.ensures.start
-    (c.in-Err.ensures.executes usable st s)
+    (c.execute-result.ensures.executes usable st s))
 
-pub returns-in-Err-clause-until : goal.returns-in-Err-clause-until
-returns-in-Err-clause-until g c = λ usable honest. renamed
-    (λ input had has. g.S.StoreModel.IsUsable c.execute.new.register.store ⊎ ((st : State)
+pub returns-clause-until : goal.returns-clause-until
+returns-clause-until g c = λ usable honest.
+    let unsent : queued c.note_executed.new.self.output
+    ≡ drop c.move_to_start.new.self.start c.execute-result.new.output.items =
+    unsent_after (connection_of c.note_executed.new.self)
+    (record {
+      phase = c.args.self.now.phase;
+      unread = queued c.args.self.now.input;
+      wanted = c.args.self.now.wanted;
+      has_ended = c.args.self.now.has_ended;
+      unsent = drop c.move_to_start.new.self.start c.execute-result.new.output.items;
+    }) c.execute-result.result
+    (drop c.move_to_start.new.self.start c.execute-result.new.output.items)
+    c.note_executed.ensures in
+    subst (λ (has : List ℕ). g.S.StoreModel.IsUsable c.execute-result.new.register.store
+    ⊎ ((st : State) → Refines (g.S.StoreModel.content c.args.register.now.store) st
+    → WritesUntil c.args.options.now.clock_route
+    (g.S.StoreModel.failed c.args.register.now.store) st (queued c.args.self.now.input)
+    (g.T.Ticks.remaining c.args.ticks.now) (Some (queued c.args.self.now.output)) (Some has)))
+    (sym unsent)
+    (renamed
+    (λ input had has. g.S.StoreModel.IsUsable c.execute-result.new.register.store ⊎ ((st : State)
     → Refines (g.S.StoreModel.content c.args.register.now.store) st
     → WritesUntil c.args.options.now.clock_route
     (g.S.StoreModel.failed c.args.register.now.store) st input
     (g.T.Ticks.remaining c.args.ticks.now) (Some had) (Some has))) _ _ _ _ _ _
     c.as_slice-input.ensures c.move_to_start.ensures.bytes c.move_to_start.ensures.start
-    (c.execute.ensures.until usable honest)
+    (c.execute-result.ensures.until usable honest))

@@ -1,5 +1,5 @@
 use Rattle.connections.specs.Rows.{RowsFollow}
-use Rattle.connections.proofs.server.Server.turns.Given as goal
+use Rattle.connections.proofs.server.Server.turns_alone.Given as goal
 
 abbrev pub invariant-loop : goal.invariant-loop
 invariant-loop g l = record {
