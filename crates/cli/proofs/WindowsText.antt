@@ -98,7 +98,7 @@ then_line : (before after line rest : List ℕ) → after ≡ before ++ line
 then_line before after line rest e =
     ap (λ (t : List ℕ). t ++ rest) e ∙ append_assoc before line rest
 
--- A text to which the lines were added one by one.
+-- A text after the lines were added one by one.
 pub all_lines : (number : ℕ) (w : Windows) (a b c d e f g h i j : List ℕ)
     → a ≡ comment_line number
     → b ≡ a ++ window_line (codes "initial_concurrence") w.initial_concurrence.minutes

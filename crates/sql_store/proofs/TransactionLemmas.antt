@@ -594,7 +594,7 @@ undone_still s idle settled = record {
 }
 
 module _ (old new : State) (clean_of : IsTrue new.is_open → HasCleanDisk new) where
-  -- Where no transaction began, there is none.
+  -- If no transaction had begun, none has afterwards.
   pub unbegun_idle : (IsTrue old.is_open → old.in_transaction ≡ false)
       → (HasCleanDisk new → IsUnchanged old new ⊎ IsRolledBack old new) → IsTrue new.is_open
       → new.in_transaction ≡ false

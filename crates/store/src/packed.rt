@@ -1,7 +1,7 @@
 //! The rows of versions, packed.
 //!
 //! A packed row takes 88 bytes, a `VersionRow` 152. Fields lie in their order, so the widest are
-//! first. A number beyond all others stands for a missing minute, code or routing.
+//! first. A missing minute, code or routing is a number beyond all others.
 ghost use Rattle.std.specs.Prelude.{◌≡◌, option_map};
 ghost use Rattle.numbers.specs.Abstraction.{minute_of, routing_of, subject_of};
 ghost use Rattle.model.specs.Abstraction.{status_of};
@@ -23,7 +23,7 @@ const NO_MINUTE: u64 = Minute::LIMIT;
 // The number of a missing carrier identification code.
 const NO_CIC: u64 = 10_000;
 
-// A routing's number is that of its LRN by this factor, and that of its code.
+// A routing's number is its LRN's by this factor, plus its code's.
 const CICS: u64 = 1 << 14;
 
 // The number of a missing routing.

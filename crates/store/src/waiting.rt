@@ -14,8 +14,8 @@ use std::alloc::{AllocError, Global};
 // The number of carriers that a row gets room for with its third one, so that most rows grow once.
 const MANY: usize = 16;
 
-/// A broadcast's subject, and the carriers for which the broadcast is pending. Up to two carriers
-/// need no memory beside the row.
+/// A broadcast's subject, and the carriers that still have to acknowledge it. Up to two carriers need
+/// no memory beside the row.
 #[derive(Drop)]
 pub struct Waiting {
     pub subject: Subject,
