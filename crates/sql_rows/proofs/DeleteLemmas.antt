@@ -11,6 +11,7 @@ use Rattle.sqlite_trees.specs.declared.store.Shape.TheVariants.{Table}
 use Rattle.sqlite.specs.Edit.{without_all, id_in}
 use Rattle.sqlite_rules.specs.Lists.{Has}
 use Rattle.sqlite_rules.specs.Calls.{ids_of}
+use Rattle.sqlite_rules.proofs.ListLemmas.{some_has}
 use Rattle.sqlite_rules.proofs.PlaceLemmas.{tied_same}
 use Rattle.sqlite_rules.proofs.TableLemmas.{int_is}
 use Rattle.sqlite_value.proofs.OrderLemmas.{value_cmp_total}
@@ -57,6 +58,12 @@ pub int_at : (rows : List Row) (r : Row) → AllByRecursion (λ r. IsTrue (is_in
 int_at [] r ints at = absurd at
 int_at (x ∷ rows) r ints (inl same) = ap (λ y. is_int (rowid y)) same ∙ search ints.0
 int_at (x ∷ rows) r ints (inr at) = int_at rows r ints.1 at
+
+any_has : {X : Type 0} (f : X → Bool) (xs : List X) (x : X) → Has xs x → f x ≡ true
+    → list_any f xs ≡ true
+any_has f [] x at is = absurd at
+any_has f (y ∷ xs) x (inl same) is = rw (ap f (sym same) ∙ is) refl
+any_has f (y ∷ xs) x (inr at) is = rw (any_has f xs x at is) (or_true (f y))
 
 -- Whether the row has the rowid of the other.
 abbrev meets : Row → Row → Bool
@@ -133,6 +140,36 @@ module _ (p : Row → Bool) where
             ≡ map (λ x. id_in (rowid x)) xs
         map_map_rowid [] = refl
         map_map_rowid (x ∷ xs) = ap (λ l. id_in (rowid x) ∷ l) (map_map_rowid xs)
+
+    hit_each : (found : List Row) → ((r : Row) → Has rows r → p r ≡ true
+        → Has found (rowid r ∷ [])) → (r : Row) → Has rows r → p r ≡ true
+        → list_any (meets r) found ≡ true
+    hit_each found complete r at is =
+        any_has (meets r) found (rowid r ∷ []) (complete r at is)
+        (meets_itself r (int_at rows r ints at))
+
+    -- Deleting these rowids leaves the rows that fail the test, if they are the rowids of the rows
+    -- that pass it.
+    pub deleted_each : (found : List Row) → ((x : Row) → Has found x → (r : Row) × Has rows r
+        × (p r ≡ true) × (x ≡ rowid r ∷ [])) → ((r : Row) → Has rows r → p r ≡ true
+        → Has found (rowid r ∷ [])) → without_all rows (ids_of found) ≡ filter (λ r. not (p r)) rows
+    deleted_each found sound complete =
+        without_all_is (ids_of found) rows ∙ filter_alike _ _ rows (λ r at. ap not (
+        any_mapped r found ∙ by_cases r at (list_any (meets r) found) refl (p r) refl))
+      where
+        by_cases : (r : Row) → Has rows r → (b : Bool) → list_any (meets r) found ≡ b → (c : Bool)
+            → p r ≡ c → list_any (meets r) found ≡ p r
+        by_cases r at b e true f = hit_each found complete r at f ∙ sym f
+        by_cases r at false e false f = e ∙ sym f
+        by_cases r at true e false f =
+            let x = some_has (meets r) found e in
+            let s = sound x.0 x.1 in
+            let met : meets r s.0 ≡ true = subst (λ y. meets r y ≡ true) s.3 x.2 in
+            let tied : value_cmp (rowid r) (rowid s.0) ≡ Equal =
+            ap (value_cmp (rowid r)) (int_is (rowid s.0) (int_at rows s.0 ints s.1))
+            ∙ equal_from _ met in
+            let same : r ≡ s.0 = tied_same rows r s.0 up at s.1 tied in
+            absurd (true≢false (sym s.2 ∙ ap p (sym same) ∙ f))
 
 kept_all : (P : Row → Type 0) (p : Row → Bool) (rows : List Row) → AllByRecursion P rows
     → AllByRecursion P (filter p rows)

@@ -52,7 +52,7 @@ due_terms = due_query.filter
 abbrev pub is_due : ℕ → Row → Bool
 is_due n = passes due_terms (Int (pos n) ∷ [])
 
-same_head : (a b : Row) → a ∷ [] ≡ b ∷ [] → a ≡ b
+pub same_head : (a b : Row) → a ∷ [] ≡ b ∷ [] → a ≡ b
 same_head a b h = cc
 
 behind_true : (b : Bool) → list_all (λ (c : Bool). c) (true ∷ b ∷ []) ≡ b

@@ -87,7 +87,7 @@ pub two_of : (b c : Bool) → both (b ∷ c ∷ []) ≡ (b && c)
 two_of true c = one_of c
 two_of false c = refl
 
-four_of : (a b c d : Bool) → both (a ∷ b ∷ c ∷ d ∷ []) ≡ (a && (b && (c && d)))
+pub four_of : (a b c d : Bool) → both (a ∷ b ∷ c ∷ d ∷ []) ≡ (a && (b && (c && d)))
 four_of true true c d = two_of c d
 four_of true false c d = refl
 four_of false b c d = refl

@@ -10,6 +10,8 @@ pub mod Orders
 pub mod KeyTests
 pub mod MigrationLemmas
 pub mod WriteLemmas
+pub mod ReplaceLemmas
+pub mod RowKeys
 pub mod Casts
 pub mod BoundLemmas
 pub mod TableLemmas
@@ -22,6 +24,7 @@ pub mod Listed
 pub mod SortedLists
 pub mod Picked
 pub mod QueriesListed
+pub mod Another
 pub mod Over
 pub mod Rerouted
 pub mod Formers

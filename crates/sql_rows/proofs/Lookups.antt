@@ -150,6 +150,13 @@ module _ {K V : Type 0} (R : K → K → Ordering) (o : IsTotalOrder R) (read : 
     same_second k v w h = let pairs : ◌≡◌ {A = K × V} (k, v) (k, w) = cc in
         ap (λ (p : K × V). p.1) pairs
 
+    -- Each key that a row has is a key of the map.
+    pub some_of : (rows : List Row) (r : Row) (k : K) (v : V) → Has rows r → entry r ≡ Some (k, v)
+        → (w : V) × (get (content_of R entry rows) k ≡ Some w)
+    some_of rows r k v at is =
+        let some = find_some k rows r (k, v) at is ((eq_by_cmp_equiv o).refl k) in
+        (some.0, get-from_entries o (filter_map entry rows) k ∙ some.1)
+
     -- If rows with the same key are the same row, each row that reads is an entry.
     pub entry_of : (rows : List Row) → ((r s : Row) (k : K) (a b : V) → Has rows r → Has rows s
         → entry r ≡ Some (k, a) → entry s ≡ Some (k, b) → s ≡ r)

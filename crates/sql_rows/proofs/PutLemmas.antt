@@ -52,8 +52,8 @@ module _ (old new : Database) (shaped : AreShaped old.trees) where
       (λ mid. next_in mid 0 ∷ carrier_params s.number) tt (λ mid. refl)
       (λ mid. carrier_back (next_in mid 0) s) old new (λ mid. carrier_cast mid s.number) shaped r in
       record {
-        schema = (r.added (next_in r.mid.trees 0 ∷ carrier_params s.number)
-            (carrier_cast r.mid.trees s.number)).schema;
+        schema = (r.added.adds (next_in r.added.base 0 ∷ carrier_params s.number)
+            (carrier_cast r.added.base s.number)).schema;
         shaped = l.shaped;
         is = content_framed Carrier old.trees new.trees l.frame
             ∙ ap (λ m. record (content_in old.trees) { carriers = m }) l.map;
@@ -67,7 +67,7 @@ module _ (old new : Database) (shaped : AreShaped old.trees) where
       (lrn_tests n) (owner_params n v) (λ mid. stored (owner_params n v)) v (λ mid. refl)
       (λ mid. back) old new (λ mid. lrn_cast mid n v) shaped r in
       record {
-        schema = (r.added (stored (owner_params n v)) (lrn_cast r.mid.trees n v)).schema;
+        schema = (r.added.adds (stored (owner_params n v)) (lrn_cast r.added.base n v)).schema;
         shaped = l.shaped;
         is = content_framed Lrn old.trees new.trees l.frame
             ∙ ap (λ m. record (content_in old.trees) { lrns = m }) l.map;
@@ -84,7 +84,7 @@ module _ (old new : Database) (shaped : AreShaped old.trees) where
       (code_tests n) (owner_params n v) (λ mid. stored (owner_params n v)) v (λ mid. refl)
       (λ mid. back) old new (λ mid. code_cast mid n v) shaped r in
       record {
-        schema = (r.added (stored (owner_params n v)) (code_cast r.mid.trees n v)).schema;
+        schema = (r.added.adds (stored (owner_params n v)) (code_cast r.added.base n v)).schema;
         shaped = l.shaped;
         is = content_framed Code old.trees new.trees l.frame
             ∙ ap (λ m. record (content_in old.trees) { codes = m }) l.map;
@@ -100,7 +100,7 @@ module _ (old new : Database) (shaped : AreShaped old.trees) where
       (Int (pos n) ∷ []) (block_tests n) (block_params n v) (λ mid. stored (block_params n v)) v
       (λ mid. refl) (λ mid. back) old new (λ mid. block_cast mid n v) shaped r in
       record {
-        schema = (r.added (stored (block_params n v)) (block_cast r.mid.trees n v)).schema;
+        schema = (r.added.adds (stored (block_params n v)) (block_cast r.added.base n v)).schema;
         shaped = l.shaped;
         is = content_framed Block old.trees new.trees l.frame
             ∙ ap (λ m. record (content_in old.trees) { blocks = m }) l.map;
@@ -117,7 +117,7 @@ module _ (old new : Database) (shaped : AreShaped old.trees) where
       (Int (pos n) ∷ []) (set_tests n) (set_params n w) (λ mid. stored (set_params n w)) w
       (λ mid. refl) (λ mid. back) old new (λ mid. set_cast mid n w) shaped r in
       record {
-        schema = (r.added (stored (set_params n w)) (set_cast r.mid.trees n w)).schema;
+        schema = (r.added.adds (stored (set_params n w)) (set_cast r.added.base n w)).schema;
         shaped = l.shaped;
         is = content_framed WindowSet old.trees new.trees l.frame
             ∙ ap (λ m. record (content_in old.trees) {
@@ -136,7 +136,7 @@ module _ (old new : Database) (shaped : AreShaped old.trees) where
       (Int (pos 0) ∷ []) (clock_tests 0) (clock_params 0 c) (λ mid. stored (clock_params 0 c)) c
       (λ mid. refl) (λ mid. back) old new (λ mid. clock_cast mid 0 c) shaped r in
       record {
-        schema = (r.added (stored (clock_params 0 c)) (clock_cast r.mid.trees 0 c)).schema;
+        schema = (r.added.adds (stored (clock_params 0 c)) (clock_cast r.added.base 0 c)).schema;
         shaped = l.shaped;
         is = content_framed Clock old.trees new.trees l.frame
             ∙ ap (λ o. record (content_in old.trees) {
@@ -156,8 +156,8 @@ module _ (old new : Database) (shaped : AreShaped old.trees) where
       (λ mid. next_in mid 8 ∷ broadcast_params k v) v (λ mid. refl) (λ mid. back (next_in mid 8))
       old new (λ mid. broadcast_cast mid k v) shaped r in
       record {
-        schema = (r.added (next_in r.mid.trees 8 ∷ broadcast_params k v)
-            (broadcast_cast r.mid.trees k v)).schema;
+        schema = (r.added.adds (next_in r.added.base 8 ∷ broadcast_params k v)
+            (broadcast_cast r.added.base k v)).schema;
         shaped = l.shaped;
         is = content_framed Broadcast old.trees new.trees l.frame
             ∙ ap (λ m. record (content_in old.trees) { broadcasts = m }) l.map;
@@ -177,8 +177,8 @@ module _ (old new : Database) (shaped : AreShaped old.trees) where
       (λ mid. refl) (λ mid. back (next_in mid 10)) old new (λ mid. wait_cast mid (wait_key_of c) v)
       shaped r in
       record {
-        schema = (r.added (next_in r.mid.trees 10 ∷ wait_params (wait_key_of c) v)
-            (wait_cast r.mid.trees (wait_key_of c) v)).schema;
+        schema = (r.added.adds (next_in r.added.base 10 ∷ wait_params (wait_key_of c) v)
+            (wait_cast r.added.base (wait_key_of c) v)).schema;
         shaped = l.shaped;
         is = content_framed Wait old.trees new.trees l.frame
             ∙ ap (λ m. record (content_in old.trees) { waits = m }) l.map;
@@ -246,14 +246,14 @@ pub set_framed : (old new : Database) (n : ℕ) (w : Windows)
     → IsFrame WindowSet old.trees new.trees
 set_framed old new n w r =
     framed_twice WindowSet old.trees r.mid.trees new.trees r.removed.frame
-    (r.added (stored (set_params n w)) (set_cast r.mid.trees n w)).frame
+    (r.added.adds (stored (set_params n w)) (set_cast r.added.base n w)).frame
 
 pub clock_framed : (old new : Database) (c : StoredClock)
     → Replaced Clock (Int (pos 0) ∷ []) (clock_params 0 c) old new
     → IsFrame Clock old.trees new.trees
 clock_framed old new c r =
     framed_twice Clock old.trees r.mid.trees new.trees r.removed.frame
-    (r.added (stored (clock_params 0 c)) (clock_cast r.mid.trees 0 c)).frame
+    (r.added.adds (stored (clock_params 0 c)) (clock_cast r.added.base 0 c)).frame
 
 module _ (old mid new : Database) (shaped : AreShaped old.trees) (n : ℕ) where
   -- Holds if the map of versions, and no other table, was changed so.
@@ -275,7 +275,7 @@ module _ (old mid new : Database) (shaped : AreShaped old.trees) (n : ℕ) where
       → Replaced Version (Int (pos n) ∷ []) (version_params n v) old mid → (mid.schema ≡ the_schema)
       × AreShaped mid.trees
   version_between v back r = (
-    (r.added (version_row n v) (version_cast r.mid.trees n v)).schema,
+    (r.added.adds (version_row n v) (version_cast r.added.base n v)).schema,
     (version_put v (bare v) back r).shaped,
   )
 
@@ -331,7 +331,8 @@ module _ (old mid new : Database) (shaped : AreShaped old.trees) (n : ℕ) where
       let b = next_put r a.shaped next_back second in
       let more = nexts_in (old.trees 16) in
       record {
-        schema = (second.added (stored (next_params n r)) (next_cast second.mid.trees n r)).schema;
+        schema = (second.added.adds (stored (next_params n r))
+            (next_cast second.added.base n r)).schema;
         shaped = b.shaped;
         is = together (λ m. insert m n (bare v)) (λ m. insert m n r) a b
             ∙ ap (λ m. record (content_in old.trees) { versions = m })
@@ -369,26 +370,24 @@ module _ (old mid new : Database) (shaped : AreShaped old.trees) (n : ℕ) where
       taken_at more = get-remove nat_cmp_total more n n ∙ ap (λ b. cond b None (get more n))
           ((eq_by_cmp_equiv nat_cmp_total).refl n)
 
-  -- Deleting a version and the routing that it sends removes the version.
-  pub take_version : Removed Version (Int (pos n) ∷ []) old mid
-      → Removed NextRouting (Int (pos n) ∷ []) mid new → Became new (record (content_in old.trees) {
-        versions = remove (content_in old.trees).versions n;
-      })
-  take_version first second =
-      let a : VersionLeft (λ m. remove m n) =
-      taken Version nat_cmp nat_cmp_total nat_cmp-IsAntisymmetric version_entry n (Int (pos n) ∷ [])
-      (version_tests n) old mid shaped first in
-      let b = next_taken a.shaped second in
-      let more = nexts_in (old.trees 16) in
-      record {
-        schema = second.schema;
-        shaped = b.shaped;
-        is = together (λ m. remove m n) (λ m. remove m n) a b
-            ∙ ap (λ m. record (content_in old.trees) { versions = m })
-            (over-remove rerouted (versions_in (old.trees 18)) more (remove more n) n
-            (λ j apart. get-remove nat_cmp_total more n j ∙ ap (λ b. cond b None (get more j))
-            apart));
-      }
+-- Deleting a version's row removes the version, whether or not a routing is stored for it.
+pub take_version : (old new : Database) → AreShaped old.trees → (n : ℕ)
+    → Removed Version (Int (pos n) ∷ []) old new
+    → Became new (record (content_in old.trees) {
+      versions = remove (content_in old.trees).versions n;
+    })
+take_version old new shaped n r =
+    let l = taken Version nat_cmp nat_cmp_total nat_cmp-IsAntisymmetric version_entry n
+    (Int (pos n) ∷ []) (version_tests n) old new shaped r in
+    let more = nexts_in (old.trees 16) in
+    record {
+      schema = r.schema;
+      shaped = l.shaped;
+      is = content_framed Version old.trees new.trees l.frame
+          ∙ ap (λ m. record (content_in old.trees) { versions = over rerouted m more }) l.map
+          ∙ ap (λ m. record (content_in old.trees) { versions = m })
+          (over-remove rerouted (versions_in (old.trees 18)) more more n (λ j apart. refl));
+    }
 
 -- The clock's row has the windows of its set.
 pub clock_joins : (db : Trees) (r : ClockRow) → (content_in db).clock ≡ Some r
@@ -406,7 +405,7 @@ pub version_left : (old new : Database) (n : ℕ) (v : VersionRow)
     → Leaves Version nat_cmp version_entry (λ m. insert m n (bare v)) old.trees new.trees)
     × IsFrame Version old.trees new.trees
 version_left old new n v back r =
-    let added = r.added (version_row n v) (version_cast r.mid.trees n v) in (
+    let added = r.added.adds (version_row n v) (version_cast r.added.base n v) in (
       added.schema,
       λ shaped. put Version nat_cmp nat_cmp_total nat_cmp-IsAntisymmetric version_entry n
           (Int (pos n) ∷ []) (version_tests n) (version_params n v) (λ db. version_row n v) (bare v)

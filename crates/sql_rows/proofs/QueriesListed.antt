@@ -58,7 +58,7 @@ version_seen v = (v.id, v.row)
 
 -- ---- tests
 
-same_told : (m n : ℕ) → m ≡ n → is_eq (nat_cmp m n) ≡ true
+pub same_told : (m n : ℕ) → m ≡ n → is_eq (nat_cmp m n) ≡ true
 same_told m n e = ap (λ k. is_eq (nat_cmp m k)) (sym e) ∙ ap is_eq (tied_itself nat_cmp_total m)
 
 number_says : (b : Bool) (m n : ℕ) → b ≡ is_eq (nat_cmp m n) → (b ≡ true → m ≡ n)

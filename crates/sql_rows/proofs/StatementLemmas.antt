@@ -1,7 +1,7 @@
 -- The meaning of the texts. Each is compiled once here, to its command if it has no RETURNING and
 -- does not read the time; all other facts about it follow from that one computation.
 use Rattle.std.proofs.Common.{◌≡◌, ◌∙◌, ℕ, false, if◌then◌else◌, List, [], ◌∷◌, Option, None, Some, Result, Ok, Err, refl, ap, sym, subst}
-use Rattle.std.specs.Prelude.{⊤}
+use Rattle.std.specs.Prelude.{⊤, IfSome}
 use Rattle.std.proofs.lemmas.Option.{none-some, same_Some}
 use Rattle.sqlite_ast.specs.declared.Statement.{Statement}
 use Rattle.sqlite_ast.specs.declared.Statement.TheVariants as written
@@ -15,11 +15,11 @@ use Rattle.sqlite.specs.Listing.{understood, reads_listing, misses_table, if_sel
 use Rattle.sqlite.proofs.Callers.{IsPlain, command_of}
 use Rattle.sqlite_tied.specs.Compute.{everything}
 use Rattle.sql_rows.specs.Tables.{the_schema}
-use Rattle.sql_rows.specs.Statements.{query_text, query_command, delete_text, delete_command, insert_text, insert_command}
+use Rattle.sql_rows.specs.Statements.{query_text, query_command, delete_text, delete_command, insert_text, insert_command, replace_text, replace_command}
 use Rattle.sql_rows.specs.declared.statement.Table.{Table}
 use Rattle.sql_rows.specs.declared.statement.Table.TheVariants.{Carrier, Lrn, Code, Block, OldVersion, Broadcast, Wait, OldClock, NextRouting, WindowSet, Version, Clock}
 use Rattle.sql_rows.specs.declared.statement.Query.{Query}
-use Rattle.sql_rows.specs.declared.statement.Query.TheVariants.{CarrierNamed, LrnNumbered, CodeNumbered, BlockNumbered, ClockNumbered, WindowSetNumbered, NextRoutingNumbered, VersionNumbered, OldVersionNumbered, VersionInForce, VersionOpen, VersionDue, BroadcastKeyed, All, BroadcastsByOpen, WaitsAbout, WaitsFor, WaitsFirst, WaitsOf, InForceAmong, OpenAmong}
+use Rattle.sql_rows.specs.declared.statement.Query.TheVariants.{CarrierNamed, LrnNumbered, CodeNumbered, BlockNumbered, ClockNumbered, WindowSetNumbered, NextRoutingNumbered, VersionNumbered, OldVersionNumbered, VersionInForce, VersionOpen, VersionDue, BroadcastKeyed, All, BroadcastsByOpen, WaitsAbout, WaitsFor, WaitsFirst, WaitsOf, WaitOfAnother, InForceAmong, OpenAmong}
 
 -- The command, if it has no RETURNING and does not read the time.
 abbrev bare : {R F : Type 0} → Option R → List F → Command → Option Command
@@ -101,6 +101,7 @@ query_compiles WaitsAbout = refl
 query_compiles WaitsFor = refl
 query_compiles WaitsFirst = refl
 query_compiles WaitsOf = refl
+query_compiles WaitOfAnother = refl
 query_compiles InForceAmong = refl
 query_compiles OpenAmong = refl
 
@@ -155,6 +156,7 @@ query_selects WaitsAbout = tt
 query_selects WaitsFor = tt
 query_selects WaitsFirst = tt
 query_selects WaitsOf = tt
+query_selects WaitOfAnother = tt
 query_selects InForceAmong = tt
 query_selects OpenAmong = tt
 
@@ -203,3 +205,31 @@ insert_is t = means (insert_text t) (insert_command t) (insert_compiles t)
 
 pub insert_plain : (t : Table) → IsPlain (understood the_schema (insert_text t))
 insert_plain t = plain (insert_text t) (insert_command t) (insert_compiles t)
+
+replace_compiles : (t : Table) → IfSome (replace_text t)
+    (λ text. plain_command (compiled the_schema text) ≡ Some (replace_command t))
+unfolding compiled everything
+replace_compiles Carrier = refl
+replace_compiles Lrn = refl
+replace_compiles Code = refl
+replace_compiles Block = refl
+replace_compiles OldVersion = tt
+replace_compiles Broadcast = refl
+replace_compiles Wait = refl
+replace_compiles OldClock = tt
+replace_compiles NextRouting = refl
+replace_compiles WindowSet = refl
+replace_compiles Version = tt
+replace_compiles Clock = refl
+
+module _ (t : Table) (text : List ℕ) (is : replace_text t ≡ Some text) where
+  replaces_by : plain_command (compiled the_schema text) ≡ Some (replace_command t)
+  replaces_by = subst
+      (λ o. IfSome o (λ text. plain_command (compiled the_schema text) ≡ Some (replace_command t)))
+      is (replace_compiles t)
+
+  pub replace_is : command_of (understood the_schema text) ≡ replace_command t
+  replace_is = means text (replace_command t) replaces_by
+
+  pub replace_plain : IsPlain (understood the_schema text)
+  replace_plain = plain text (replace_command t) replaces_by

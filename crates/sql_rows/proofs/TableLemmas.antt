@@ -75,8 +75,8 @@ module _ (t : Table) {K V : Type 0} (R : K → K → Ordering) (o : IsTotalOrder
       → Replaced t key params old new → Leaves t R entry (λ m. insert m k v) old.trees new.trees
   put params row v int reads old new news shaped r =
       let first = taken old r.mid shaped r.removed in
-      let it = row r.mid.trees in
-      let a = r.added it (news r.mid.trees) in
+      let it = row r.added.base in
+      let a = r.added.adds it (news r.added.base) in
       let free : get (content_of R entry (r.mid.trees (tree_of t))) k ≡ None =
       ap (λ (m : FinMap R V). get m k) first.map
       ∙ get-remove o (content_of R entry (old.trees (tree_of t))) k k
@@ -85,9 +85,9 @@ module _ (t : Table) {K V : Type 0} (R : K → K → Ordering) (o : IsTotalOrder
       record {
         shaped = shaped_framed t r.mid.trees new.trees a.frame
             (subst (IsShaped AsTable) (sym a.rows) (IsShaped-put_row it (r.mid.trees (tree_of t))
-            (int r.mid.trees) (first.shaped t))) first.shaped;
+            (int r.added.base) (first.shaped t))) first.shaped;
         map = ap (content_of R entry) a.rows ∙ content_added o exact entry it k v
-            (r.mid.trees (tree_of t)) _ (reads r.mid.trees) free
+            (r.mid.trees (tree_of t)) _ (reads r.added.base) free
             (put_adds it (r.mid.trees (tree_of t)) a.free)
             ∙ ap (λ (m : FinMap R V). insert m k v) first.map
             ∙ over (content_of R entry (old.trees (tree_of t))) v;

@@ -31,12 +31,12 @@ use Rattle.sql_rows.specs.Tables.{the_schema}
 use Rattle.sql_rows.specs.Statements.{plain_query, slot_of, table_of, tree_of, key_test, delete_text, insert_text, insert_terms, width_of, insert_command}
 use Rattle.sql_rows.specs.declared.statement.Table.{Table}
 use Rattle.sql_rows.specs.declared.statement.Table.TheVariants.{Carrier, Lrn, Code, Block, OldVersion, Broadcast, Wait, OldClock, NextRouting, WindowSet, Version, Clock}
-use Rattle.sql_rows.specs.Written.{IsFrame, Removed, Added, cast_rows}
+use Rattle.sql_rows.specs.Written.{IsFrame, Removed, Added, AddedBy, cast_rows}
 use Rattle.sql_rows.proofs.StatementLemmas.{delete_is, delete_plain, insert_is, insert_plain}
 use Rattle.sql_rows.proofs.QueryLemmas.{passes, plain_answer}
 use Rattle.sql_rows.proofs.DeleteLemmas.{deleted}
 
-slot_is : (t : Table) → slice_get the_schema.tables (slot_of t) ≡ Some (table_of t)
+pub slot_is : (t : Table) → slice_get the_schema.tables (slot_of t) ≡ Some (table_of t)
 slot_is Carrier = refl
 slot_is Lrn = refl
 slot_is Code = refl
@@ -64,7 +64,7 @@ overlay_is WindowSet db = refl
 overlay_is Version db = refl
 overlay_is Clock db = refl
 
-uncounted : (t : Table) → (table_of t).is_counted ≡ false
+pub uncounted : (t : Table) → (table_of t).is_counted ≡ false
 uncounted Carrier = refl
 uncounted Lrn = refl
 uncounted Code = refl
@@ -87,6 +87,14 @@ record Unnumbered (task : Task) (from : Source) (db : Trees) (w : Written) : Typ
   edited : Edited task.schema task.keys db (edit_of db task.table [] Chosen 0 rows) (Ok next)
   trees : w.trees ≡ next
 
+-- The tables stay, if the table counts no rowids.
+pub counts_nothing : (b : Bool) → b ≡ false → (c : Bool) (P : Type 0) (mid next : Trees)
+    (E : Type 0)
+    → MatchBool (if b then c else false) P (◌≡◌ {A = Result Trees E} (Ok next) (Ok mid))
+    → mid ≡ next
+counts_nothing false e c P mid next E h = sym (same_value h)
+counts_nothing true e c P mid next E h = absurd (true≢false e)
+
 unnumbered : (task : Task) → task.table.is_counted ≡ false
     → (from : Source) (db : Trees) (w : Written) → Inserts task from db (Ok w)
     → Unnumbered task from db w
@@ -96,7 +104,8 @@ unnumbered task none from db w h =
     let written = went counter.2 in
     let counted = went written.2 in
     let numbers = λ (b : Bool). if b then Above (count_of counter.0) else Chosen in
-    let uncounted : written.0 ≡ counted.0 = plain task.table.is_counted none _ _ _ _ _ counted.1 in
+    let uncounted : written.0 ≡ counted.0 = counts_nothing task.table.is_counted none _ _ _ _ _
+    counted.1 in
     record {
       rows = given.0;
       source = given.1;
@@ -105,18 +114,12 @@ unnumbered task none from db w h =
           given.0) (Ok written.0)) none written.1;
       trees = ap (λ (it : Written). it.trees) (same_value counted.2) ∙ sym uncounted;
     }
-  where
-    plain : (b : Bool) → b ≡ false → (c : Bool) (P : Type 0) (mid next : Trees) (E : Type 0)
-        → MatchBool (if b then c else false) P (◌≡◌ {A = Result Trees E} (Ok next) (Ok mid))
-        → mid ≡ next
-    plain false e c P mid next E h = sym (same_value h)
-    plain true e c P mid next E h = absurd (true≢false e)
 
-fresh_first : (taken rest : Bool) → (not taken && rest) ≡ true → taken ≡ false
+pub fresh_first : (taken rest : Bool) → (not taken && rest) ≡ true → taken ≡ false
 fresh_first true rest h = absurd cc
 fresh_first false rest h = refl
 
-framed : (t : Table) (db next : Trees) → AllByRecursion (λ (s : SqlTable). s.tree ≢ tree_of t
+pub framed : (t : Table) (db next : Trees) → AllByRecursion (λ (s : SqlTable). s.tree ≢ tree_of t
     → next s.tree ≡ db s.tree) the_schema.tables → IsFrame t db next
 framed t db next h Carrier = h.0
 framed t db next h Lrn = h.1.0
@@ -180,7 +183,7 @@ module _ (t : Table) (params : Row) (old new : State) (has : old.now.schema ≡ 
   removes shaped h = let it = removes_by (delete_text t) (key_test t) (delete_is t) (delete_plain t)
       shaped h in record { schema = it.0; rows = it.1; frame = it.2 }
 
-  pub adds : (row : Row) → cast_rows t params old.now.trees ≡ row ∷ []
+  adds : (row : Row) → cast_rows t params old.now.trees ≡ row ∷ []
       → Executes (insert_text t) params old new (Ok count) → Added t row old.now new.now
   adds row news h =
       let db = old.now.trees in
@@ -213,6 +216,10 @@ module _ (t : Table) (params : Row) (old new : State) (has : old.now.schema ≡ 
         rows = ap (λ n. n (tree_of t)) is ∙ applies.rows ∙ ap (put_all (db (tree_of t))) is_news;
         frame = subst (IsFrame t db) (sym is) (framed t db next applies.tables);
       }
+
+  pub inserts : Executes (insert_text t) params old new (Ok count)
+      → AddedBy t params old.now new.now
+  inserts h = record { base = old.now.trees; adds = λ row news. adds row news h }
 
 none_left : (rows : List Row) → filter (λ r. false) rows ≡ []
 none_left [] = refl

@@ -1,21 +1,22 @@
 -- The texts of the statements, and their meaning under the schema.
-use Rattle.std.specs.Prelude.{ℕ, pos, negsuc, List, [], ◌∷◌, codes, None, false}
+use Rattle.std.specs.Prelude.{ℕ, pos, negsuc, List, [], ◌∷◌, codes, Option, Some, None, false}
 use Rattle.sqlite.specs.declared.types.Value.TheVariants.{Null, Int}
 use Rattle.sqlite.specs.Term.{Term, lit, col, op2}
 use Rattle.sqlite.specs.Query.{Query as Asked, inner, end}
 use Rattle.sqlite_sql.specs.declared.ops.BinaryOp.TheVariants.{Compare}
-use Rattle.sqlite_sql.specs.declared.ops.CompareOp.TheVariants.{Eq, Le, Ge}
+use Rattle.sqlite_sql.specs.declared.ops.CompareOp.TheVariants.{Eq, Le, Ge, Ne}
 use Rattle.sqlite.specs.Collation.TheVariants.{Binary}
 use Rattle.sqlite_value.specs.Keys.{ascending}
 use Rattle.sqlite.specs.Source.TheVariants.{Values}
 use Rattle.sqlite.specs.Command.{Command}
-use Rattle.sqlite.specs.Command.TheVariants.{Insert, Select, Delete}
+use Rattle.sqlite.specs.Command.TheVariants.{Insert, InsertOr, Select, Delete}
+use Rattle.sqlite_schema.specs.declared.command.Conflict.TheVariants.{Replace}
 use Rattle.sqlite.specs.Table.{Table as SqlTable}
 use Rattle.sql_rows.specs.Tables.{carrier_table, lrn_table, code_table, block_table, old_version_table, broadcast_table, wait_table, old_clock_table, next_routing_table, window_set_table, version_table, clock_table}
 use Rattle.sql_rows.specs.declared.statement.Table.{Table}
 use Rattle.sql_rows.specs.declared.statement.Table.TheVariants.{Carrier, Lrn, Code, Block, OldVersion, Broadcast, Wait, OldClock, NextRouting, WindowSet, Version, Clock}
 use Rattle.sql_rows.specs.declared.statement.Query.{Query}
-use Rattle.sql_rows.specs.declared.statement.Query.TheVariants.{CarrierNamed, LrnNumbered, CodeNumbered, BlockNumbered, ClockNumbered, WindowSetNumbered, NextRoutingNumbered, VersionNumbered, OldVersionNumbered, VersionInForce, VersionOpen, VersionDue, BroadcastKeyed, All, BroadcastsByOpen, WaitsAbout, WaitsFor, WaitsFirst, WaitsOf, InForceAmong, OpenAmong}
+use Rattle.sql_rows.specs.declared.statement.Query.TheVariants.{CarrierNamed, LrnNumbered, CodeNumbered, BlockNumbered, ClockNumbered, WindowSetNumbered, NextRoutingNumbered, VersionNumbered, OldVersionNumbered, VersionInForce, VersionOpen, VersionDue, BroadcastKeyed, All, BroadcastsByOpen, WaitsAbout, WaitsFor, WaitsFirst, WaitsOf, WaitOfAnother, InForceAmong, OpenAmong}
 
 -- ---- the tables
 
@@ -70,6 +71,21 @@ key_test NextRouting = column_is 0 0 ∷ []
 key_test WindowSet = column_is 0 0 ∷ []
 key_test Version = column_is 0 0 ∷ []
 key_test Clock = column_is 0 0 ∷ []
+
+-- The places of the columns of the key.
+abbrev pub key_places : Table → List ℕ
+key_places Carrier = 1 ∷ []
+key_places Lrn = 0 ∷ []
+key_places Code = 0 ∷ []
+key_places Block = 0 ∷ []
+key_places OldVersion = 0 ∷ []
+key_places Broadcast = 1 ∷ 2 ∷ []
+key_places Wait = 1 ∷ 2 ∷ 3 ∷ 4 ∷ []
+key_places OldClock = 0 ∷ []
+key_places NextRouting = 0 ∷ []
+key_places WindowSet = 0 ∷ []
+key_places Version = 0 ∷ []
+key_places Clock = 0 ∷ []
 
 -- The columns of a row, in the order of the texts.
 abbrev pub shown_by : Table → List Term
@@ -217,6 +233,31 @@ width_of Clock = 5
 abbrev pub insert_command : Table → Command
 insert_command t = Insert (slot_of t) (Values (insert_terms t) (width_of t))
 
+-- The text that inserts a row in place of the one with its key, if the table has no other unique
+-- columns and is not of an earlier schema.
+abbrev pub replace_text : Table → Option (List ℕ)
+replace_text Carrier = Some (codes "INSERT OR REPLACE INTO carrier (spid) VALUES (?1)")
+replace_text Lrn = Some (codes "INSERT OR REPLACE INTO lrn (lrn, spid) VALUES (?1, ?2)")
+replace_text Code = Some (codes "INSERT OR REPLACE INTO code (code, spid) VALUES (?1, ?2)")
+replace_text Block =
+    Some (codes "INSERT OR REPLACE INTO block (block, donor, last) VALUES (?1, ?2, ?3)")
+replace_text OldVersion = None
+replace_text Broadcast =
+    Some (codes "INSERT OR REPLACE INTO broadcast (id, attempt, minute, subject, action, lrn, cic, open, any) VALUES (?1, ?2, ?3, ?4, ?5, ?6, ?7, ?8, ?9)")
+replace_text Wait =
+    Some (codes "INSERT OR REPLACE INTO wait (spid, minute, id, attempt, subject) VALUES (?1, ?2, ?3, ?4, ?5)")
+replace_text OldClock = None
+replace_text NextRouting =
+    Some (codes "INSERT OR REPLACE INTO next_routing (id, lrn, cic) VALUES (?1, ?2, ?3)")
+replace_text WindowSet =
+    Some (codes "INSERT OR REPLACE INTO window_set (number, initial_concurrence, final_concurrence, conflict_restriction, conflict_resolution, conflict_expiration, cancellation_initial, cancellation_final, pending_retention, broadcast) VALUES (?1, ?2, ?3, ?4, ?5, ?6, ?7, ?8, ?9, ?10)")
+replace_text Version = None
+replace_text Clock =
+    Some (codes "INSERT OR REPLACE INTO clock2 (one, now, next_id, present) VALUES (?1, ?2, ?3, ?4)")
+
+abbrev pub replace_command : Table → Command
+replace_command t = InsertOr (slot_of t) Replace (Values (insert_terms t) (width_of t)) []
+
 -- ---- queries
 
 -- The text that selects all rows of a table.
@@ -270,6 +311,8 @@ query_text WaitsFirst =
     codes "SELECT spid, minute, id, attempt, subject FROM wait WHERE spid = ?1 ORDER BY minute, id, attempt LIMIT ?2"
 query_text WaitsOf =
     codes "SELECT spid, minute, id, attempt, subject FROM wait WHERE id = ?1 AND attempt = ?2"
+query_text WaitOfAnother =
+    codes "SELECT spid, minute, id, attempt, subject FROM wait WHERE id = ?3 AND attempt = ?4 AND minute = ?2 AND spid <> ?1 LIMIT 1"
 query_text InForceAmong =
     codes "SELECT id, subject, old, new, due, lrn, cic, old_at, new_at, status, sends, since, attempt, release, spent, protective, cancelled_by, deadline, holds, opens, held FROM version2 WHERE holds >= ?1 AND holds <= ?2"
 query_text OpenAmong =
@@ -295,6 +338,7 @@ asked_of WaitsAbout = Wait
 asked_of WaitsFor = Wait
 asked_of WaitsFirst = Wait
 asked_of WaitsOf = Wait
+asked_of WaitOfAnother = Wait
 asked_of InForceAmong = Version
 asked_of OpenAmong = Version
 
@@ -320,12 +364,14 @@ query_test WaitsAbout = column_is 5 0 ∷ column_is 1 1 ∷ []
 query_test WaitsFor = column_is 1 0 ∷ []
 query_test WaitsFirst = column_is 1 0 ∷ []
 query_test WaitsOf = column_is 3 0 ∷ column_is 4 1 ∷ []
+query_test WaitOfAnother = column_is 3 2 ∷ column_is 4 3 ∷ column_is 2 1
+    ∷ op2 (Compare Ne Binary) (col 1 1) (col 0 0) ∷ []
 query_test InForceAmong = op2 (Compare Ge Binary) (col 1 19) (col 0 0) ∷ op2 (Compare Le Binary)
     (col 1 19) (col 0 1) ∷ []
 query_test OpenAmong = op2 (Compare Ge Binary) (col 1 20) (col 0 0) ∷ op2 (Compare Le Binary)
     (col 1 20) (col 0 1) ∷ []
 
--- The meaning of each query without an order.
+-- The meaning of each query without an order and a limit.
 abbrev pub plainly : Query → Asked
 plainly q = plain_query (tree_of (asked_of q)) (query_test q) (shown_by (asked_of q))
 
@@ -339,6 +385,7 @@ query_of WaitsFirst = record (plainly WaitsFirst) {
       ∷ [];
   limit = col 0 1;
 }
+query_of WaitOfAnother = record (plainly WaitOfAnother) { limit = lit (Int (pos 1)) }
 query_of q = plainly q
 
 abbrev pub query_command : Query → Command

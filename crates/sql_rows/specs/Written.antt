@@ -1,6 +1,6 @@
 -- The effects of writing statements on the tables.
-use Rattle.std.specs.Prelude.{◌≡◌, ◌≢◌, ◌/◌, length, List, [], ◌∷◌, not, filter, false, Bool}
-use Rattle.sqlite.specs.Order.{Row}
+use Rattle.std.specs.Prelude.{◌≡◌, ◌≢◌, ◌/◌, length, List, [], ◌∷◌, not, filter, map, false, Bool}
+use Rattle.sqlite.specs.Order.{Row, column}
 use Rattle.sqlite.specs.Tree.{Trees, put_row}
 use Rattle.sqlite.specs.Edit.{edit_of, is_taken}
 use Rattle.sqlite.specs.Rowids.TheVariants.{Chosen}
@@ -9,7 +9,7 @@ use Rattle.sqlite.specs.Effect.{Database, value_rows}
 use Rattle.sqlite.specs.Term.{Term, holds}
 use Rattle.std.specs.List.{list_all}
 use Rattle.sql_rows.specs.Tables.{the_schema}
-use Rattle.sql_rows.specs.Statements.{table_of, tree_of, key_test, insert_terms, width_of}
+use Rattle.sql_rows.specs.Statements.{table_of, tree_of, key_places, key_test, insert_terms, width_of}
 use Rattle.sql_rows.specs.declared.statement.Table.{Table}
 
 -- Whether the row passes WHERE.
@@ -41,9 +41,19 @@ cast_rows t params db =
     (length (insert_terms t) / width_of t) (insert_terms t))).news
 
 -- Holds if the row in the parameters was inserted.
-abbrev pub AddedBy : Table → Row → Database → Database → Type 0
-AddedBy t params old new = (row : Row) → cast_rows t params old.trees ≡ row ∷ []
-    → Added t row old new
+-- The key of a row.
+abbrev pub key_of : Table → Row → Row
+key_of t row = map (column row) (key_places t)
+
+-- Holds if this is the key of the row that the statement inserts.
+abbrev pub IsKeyOf : Table → (key params : Row) → Type 0
+IsKeyOf t key params = (db : Trees) (row : Row) → cast_rows t params db ≡ row ∷ []
+    → key_of t row ≡ key
+
+-- Holds if a row was inserted. Its rowid may have been chosen before other rows were deleted.
+pub record AddedBy (t : Table) (params : Row) (old new : Database) : Type 0 where
+  pub base : Trees
+  pub adds : (row : Row) → cast_rows t params base ≡ row ∷ [] → Added t row old new
 
 -- Holds if the rows with a key were deleted, and then a row was inserted.
 pub record Replaced (t : Table) (key params : Row) (old new : Database) : Type 0 where

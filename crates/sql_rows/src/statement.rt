@@ -1,6 +1,7 @@
 //! The texts of all statements. A connection caches the last 64 of them after parsing.
 ghost use Rattle.std.specs.Prelude.{◌≡◌};
-ghost use Rattle.sql_rows.specs.Statements.{all_text, delete_text, insert_text, query_text};
+ghost use Rattle.std.specs.Prelude.{option_map};
+ghost use Rattle.sql_rows.specs.Statements.{all_text, delete_text, insert_text, query_text, replace_text};
 
 /// The tables of a register's file.
 #[derive(Clone, Copy, Debug, PartialEq, Eq)]
@@ -133,6 +134,48 @@ impl Table {
             }
         }
     }
+
+    /// Returns the text that inserts a row in place of the one with its key. The parameters are
+    /// its columns.
+    ///
+    /// Returns `None` for a table with further unique columns, where the statement could delete
+    /// other rows too, and for the tables of an earlier schema.
+    pub fn replace_text(self) -> Option<&'static str>
+        ensures { option_map (λ s. s.now) result ≡ replace_text self }
+    {
+        let text = match self {
+            Table::Carrier => "INSERT OR REPLACE INTO carrier (spid) VALUES (?1)",
+            Table::Lrn => "INSERT OR REPLACE INTO lrn (lrn, spid) VALUES (?1, ?2)",
+            Table::NextRouting => {
+                "INSERT OR REPLACE INTO next_routing (id, lrn, cic) VALUES (?1, ?2, ?3)"
+            }
+            Table::Code => "INSERT OR REPLACE INTO code (code, spid) VALUES (?1, ?2)",
+            Table::Block => {
+                "INSERT OR REPLACE INTO block (block, donor, last) VALUES (?1, ?2, ?3)"
+            }
+            Table::Broadcast => {
+                "INSERT OR REPLACE INTO broadcast (id, attempt, minute, subject, action, lrn, \
+                 cic, open, any) VALUES (?1, ?2, ?3, ?4, ?5, ?6, ?7, ?8, ?9)"
+            }
+            Table::Wait => {
+                "INSERT OR REPLACE INTO wait (spid, minute, id, attempt, subject) VALUES (?1, \
+                 ?2, ?3, ?4, ?5)"
+            }
+            Table::WindowSet => {
+                "INSERT OR REPLACE INTO window_set (number, initial_concurrence, \
+                 final_concurrence, conflict_restriction, conflict_resolution, \
+                 conflict_expiration, cancellation_initial, cancellation_final, \
+                 pending_retention, broadcast) VALUES (?1, ?2, ?3, ?4, ?5, ?6, ?7, ?8, ?9, \
+                 ?10)"
+            }
+            Table::Clock => {
+                "INSERT OR REPLACE INTO clock2 (one, now, next_id, present) VALUES (?1, ?2, \
+                 ?3, ?4)"
+            }
+            Table::OldVersion | Table::OldClock | Table::Version => return None,
+        };
+        Some(text)
+    }
 }
 
 /// A query of a file.
@@ -176,6 +219,8 @@ pub enum Query {
     WaitsFirst,
     /// All pending downloads of a broadcast.
     WaitsOf,
+    /// The broadcast's download that is pending for another carrier than this one, if there is one.
+    WaitOfAnother,
     /// The versions in force of the numbers from one to another.
     InForceAmong,
     /// The open versions of the numbers from one to another.
@@ -251,6 +296,10 @@ impl Query {
             Query::WaitsOf => {
                 "SELECT spid, minute, id, attempt, subject FROM wait WHERE id = ?1 AND \
                  attempt = ?2"
+            }
+            Query::WaitOfAnother => {
+                "SELECT spid, minute, id, attempt, subject FROM wait WHERE id = ?3 AND \
+                 attempt = ?4 AND minute = ?2 AND spid <> ?1 LIMIT 1"
             }
             Query::InForceAmong => {
                 "SELECT id, subject, old, new, due, lrn, cic, old_at, new_at, status, sends, \
