@@ -1,6 +1,6 @@
 -- What calls leave of the connection, whatever their results.
 use Rattle.std.proofs.Common.{◌≡◌, ◌⊎◌, inl, inr, ℕ, List, [], Bool, true, false, Option, Some, None, refl, sym, ap, subst, ◌∙◌, IsTrue, true≢false, Result, Ok, Err, arith}
-use Rattle.std.specs.Prelude.{IfOk, IfErr, OnErr, OnOk, is_ok}
+use Rattle.std.specs.Prelude.{IfOk, IfErr, OnErr, OnOk, is_ok, not}
 pub use Rattle.sql_store.specs.Store.{clean_if_open}
 use Rattle.model.specs.Content.{Content}
 use Rattle.sqlite.specs.Effect.{Database}
@@ -31,7 +31,7 @@ use Rattle.sql_rows.proofs.StatementLemmas.{Selects, query_is, query_plain, quer
 use Rattle.sql_store.proofs.Showing.{ShowsNone, never_shows, understood_none}
 use Rattle.sql_store.proofs.TransactionLemmas.{undone_of}
 use Rattle.sql_store.specs.Transactions.{HasEnded, IsUndone}
-use Rattle.sql_store.specs.Store.{CommitLeaves, settled, content_at, HasStoreTables, IsSame, HasQueried, HasCommitted, IsInTransaction, Stepped, HasCommittedNothing, AppliesInTransaction, IsTransactionProgress, WritesInTransaction}
+use Rattle.sql_store.specs.Store.{CommitLeaves, settled, content_at, HasStoreTables, IsIdle, IsSame, IsSameOrUndone, HasEndedGroup, HasQueried, HasCommitted, HasWritten, HasWrittenOver, IsInTransaction, HasCommittedNothing, AppliesInTransaction, IsTransactionProgress, WritesInTransaction}
 
 module _ (sql : List ℕ) (params : Row) (old new : State) where
   pub shown_open : (rows : List Row) → Shown sql params old new rows → IsTrue old.is_open
@@ -95,31 +95,39 @@ module _ (sql : List ℕ) (params : Row) (old new : State) where
       inl (subst (FailsToShow old new sql h.0 (timed params h.0.formats h.1.now) e)
       (subst IsPlain h.1.is plain).0 h.2).3
 
-  same_of : IsTrue new.is_open → HasStoreTables old → IsUnchanged old new ⊎ IsRolledBack old new
-      → IsSame old new
-  same_of is_open ours (inl it) = record {
+  pub same_of : IsUnchanged old new → IsSame old new
+  same_of it = record {
     was_open = it.0.was_open;
     now = it.0.now_is;
     committed = it.0.committed_is;
   }
-  same_of is_open ours (inr it) = record {
-    was_open = it.was_open is_open;
-    now = (it.undone is_open).0 ∙ sym (settled old ours);
-    committed = (it.undone is_open).1;
+
+  pub still_or_undone : IsTrue new.is_open → IsUnchanged old new ⊎ IsRolledBack old new
+      → IsSameOrUndone old new
+  still_or_undone up (inl it) = record {
+    was_open = it.0.was_open;
+    now = inl it.0.now_is;
+    committed = it.0.committed_is;
+  }
+  still_or_undone up (inr it) = record {
+    was_open = it.was_open up;
+    now = inr (it.undone up).0;
+    committed = (it.undone up).1;
   }
 
-  module _ (ours : IsTrue old.is_open → HasStoreTables old) (plain : IsTrue old.is_open
-      → IsPlain (understood old.now.schema sql)) where
-    -- A query leaves the store unchanged, if the store is open afterwards.
-    pub query_leaves : (rows : List Row) → IsTrue new.is_open → Shown sql params old new rows
-        → IsSame old new
-    query_leaves rows is_open h = let was = shown_open rows h in
-        same_of is_open (ours was) (inl (shown_same rows (plain was) h))
+  pub begins_none : IsUnchanged old new ⊎ IsRolledBack old new → old.in_transaction ≡ false
+      → new.in_transaction ≡ false
+  begins_none (inl it) idle = it.0.mode ∙ idle
+  begins_none (inr it) idle = it.autocommit
+
+  module _ (plain : IsTrue old.is_open → IsPlain (understood old.now.schema sql)) where
+    -- A query that answers leaves the store unchanged.
+    pub query_leaves : (rows : List Row) → Shown sql params old new rows → IsUnchanged old new
+    query_leaves rows h = shown_same rows (plain (shown_open rows h)) h
 
     pub query_err_leaves : (e : Error) → IsTrue new.is_open → FailsToQuery sql params old new e
-        → IsSame old new
-    query_err_leaves e is_open h = let was = fails_open e is_open h in
-        same_of is_open (ours was) (fails_same e (plain was) h)
+        → IsUnchanged old new ⊎ IsRolledBack old new
+    query_err_leaves e is_open h = fails_same e (plain (fails_open e is_open h)) h
 
   pub query_commits_nothing : Selects (first sql) → Survives old new (CommitsShowing sql params old)
       → Survives old new (λ _. ⊥)
@@ -138,27 +146,35 @@ module _ (query : Query) (params : Row) (old new : State) (ours : IsTrue old.is_
       → (HasCleanDisk new → Shown (query_text query) params old new rows)
       → Survives old new (CommitsShowing (query_text query) params old) → HasQueried old new true
   looked_ok rows clean shown survives = record {
-    same = λ up. query_leaves (query_text query) params old new ours plain rows up
-        (shown (clean up));
-    stays = λ ok done.
-        let was = shown_open (query_text query) params old new rows (shown done) in
-        (shown_same (query_text query) params old new rows (plain was) (shown done)).0.is_open;
+    same = λ ok up. same_of (query_text query) params old new (unchanged (clean up));
+    undone = λ up.
+        still_or_undone (query_text query) params old new up (inl (unchanged (clean up)));
+    mode = λ up.
+        begins_none (query_text query) params old new (inl (unchanged (clean up)));
+    stays = λ ok done. (unchanged done).0.is_open;
     honest = λ done. omega (arith, survives.clean, done);
     survives = query_commits_nothing (query_text query) params old new (query_selects query)
         survives;
   }
+    where
+      unchanged : HasCleanDisk new → IsUnchanged old new
+      unchanged done = query_leaves (query_text query) params old new plain rows (shown done)
 
   pub looked_err : (e : Error) → (IsTrue new.is_open → HasCleanDisk new)
       → (HasCleanDisk new → FailsToQuery (query_text query) params old new e)
       → Survives old new (CommitsShowing (query_text query) params old) → HasQueried old new false
   looked_err e clean fails survives = record {
-    same = λ up. query_err_leaves (query_text query) params old new ours plain e up
-        (fails (clean up));
+    same = λ no. absurd (true≢false (sym no));
+    undone = λ up. still_or_undone (query_text query) params old new up (left up);
+    mode = λ up. begins_none (query_text query) params old new (left up);
     stays = λ no done. absurd (true≢false (sym no));
     honest = λ done. omega (arith, survives.clean, done);
     survives = query_commits_nothing (query_text query) params old new (query_selects query)
         survives;
   }
+    where
+      left : IsTrue new.is_open → IsUnchanged old new ⊎ IsRolledBack old new
+      left up = query_err_leaves (query_text query) params old new plain e up (fails (clean up))
 
   pub answers : (rows : List Row) → IsTrue old.is_open
       → Shown (query_text query) params old new rows
@@ -167,19 +183,60 @@ module _ (query : Query) (params : Row) (old new : State) (ours : IsTrue old.is_
       (reads_as (query_text query) params old new the_schema (ours was).schema _ (query_is query)
       (query_plain query) (query_unlisted query) rows shown).answer Null
 
--- After a read, the tables are still the store's.
+-- If the tables are as they were or as at the last commit, they are still the store's.
+pub still_ours : (old new : State) → IsSameOrUndone old new → HasStoreTables old
+    → HasStoreTables new
+still_ours old new kept our = record {
+  schema = schema kept.now;
+  shaped = shaped kept.now;
+  last_schema = ap (λ (d : Database). d.schema) kept.committed ∙ our.last_schema;
+  last_shaped = subst (λ (d : Database). AreShaped d.trees) (sym kept.committed) our.last_shaped;
+}
+  where
+    schema : (new.now ≡ old.now) ⊎ (new.now ≡ old.committed) → new.now.schema ≡ the_schema
+    schema (inl same) = ap (λ (d : Database). d.schema) same ∙ our.schema
+    schema (inr back) = ap (λ (d : Database). d.schema) back ∙ our.last_schema
+
+    shaped : (new.now ≡ old.now) ⊎ (new.now ≡ old.committed) → AreShaped new.now.trees
+    shaped (inl same) = subst (λ (d : Database). AreShaped d.trees) (sym same) our.shaped
+    shaped (inr back) = subst (λ (d : Database). AreShaped d.trees) (sym back) our.last_shaped
+
 pub looked_ours : (old new : State) (answered : Bool) → (IsTrue old.is_open → HasStoreTables old)
     → HasQueried old new answered → IsTrue new.is_open → HasStoreTables new
 looked_ours old new answered ours looked up =
-    let same = looked.same up in
-    let our = ours same.was_open in
+    let kept = looked.undone up in still_ours old new kept (ours kept.was_open)
+
+-- Where nothing is uncommitted, the tables stay as they were.
+pub kept_settled : (old new : State) → old.now ≡ old.committed → IsSameOrUndone old new
+    → IsSame old new
+kept_settled old new same kept = record {
+  was_open = kept.was_open;
+  now = now kept.now;
+  committed = kept.committed;
+}
+  where
+    now : (new.now ≡ old.now) ⊎ (new.now ≡ old.committed) → new.now ≡ old.now
+    now (inl it) = it
+    now (inr it) = it ∙ sym same
+
+pub still_idle : (old new : State) → IsIdle old → IsSameOrUndone old new
+    → new.in_transaction ≡ false → IsIdle new
+still_idle old new idle kept mode =
+    let same = kept_settled old new (settled old idle) kept in
+    let now = same.now ∙ settled old idle ∙ sym same.committed in
     record {
-      schema = ap (λ (d : Database). d.schema) same.now ∙ our.schema;
-      shaped = subst (λ (d : Database). AreShaped d.trees) (sym same.now) our.shaped;
-      same_schema =
-          ap (λ (d : Database). d.schema) (same.now ∙ settled old our ∙ sym same.committed);
-      same_trees = ap (λ (d : Database). d.trees) (same.now ∙ settled old our ∙ sym same.committed);
+      mode = mode;
+      same_schema = ap (λ (d : Database). d.schema) now;
+      same_trees = ap (λ (d : Database). d.trees) now;
     }
+
+-- A read between transactions leaves no transaction.
+pub looked_idle : (old new : State) (answered : Bool) → (IsTrue old.is_open → IsIdle old)
+    → HasQueried old new answered → IsTrue new.is_open → IsIdle new
+looked_idle old new answered idle looked up =
+    let kept = looked.undone up in
+    let was = idle kept.was_open in
+    still_idle old new was kept (looked.mode up was.mode)
 
 -- Whether a query answers or fails, it only reads.
 pub looked : {A : Type 0} (query : Query) (params : Row) (old new : State)
@@ -195,18 +252,33 @@ looked query params old new ours (Ok a) rows clean shown fails survives =
 looked query params old new ours (Err e) rows clean shown fails survives =
     looked_err query params old new ours e clean fails survives
 
+-- After a call that changed nothing, what was undone is what was uncommitted before it.
+pub same_then : (a b d : State) → IsSame a b → IsSameOrUndone b d → IsSameOrUndone a d
+same_then a b d one two = record {
+  was_open = one.was_open;
+  now = now two.now;
+  committed = two.committed ∙ one.committed;
+}
+  where
+    now : (d.now ≡ b.now) ⊎ (d.now ≡ b.committed) → (d.now ≡ a.now) ⊎ (d.now ≡ a.committed)
+    now (inl same) = inl (same ∙ one.now)
+    now (inr back) = inr (back ∙ one.committed)
+
 -- Two reads in order are a read.
 pub looked_then : (a b d : State) (answered : Bool) → HasQueried a b true → HasQueried b d answered
     → HasQueried a d answered
 looked_then a b d answered one two = record {
-  same = λ up.
-      let later = two.same up in
-      let sooner = one.same later.was_open in
+  same = λ ok up.
+      let later = two.same ok up in
+      let sooner = one.same refl later.was_open in
       record {
         was_open = sooner.was_open;
         now = later.now ∙ sooner.now;
         committed = later.committed ∙ sooner.committed;
       };
+  undone = λ up.
+      let later = two.undone up in same_then a b d (one.same refl later.was_open) later;
+  mode = λ up idle. two.mode up (one.mode (two.undone up).was_open idle);
   honest = λ done. one.honest (two.honest done);
   stays = two.stays;
   survives = survives_then a b d _ _ _ (λ _ db none. none) (λ _ db none. none) one.survives
@@ -523,226 +595,392 @@ module _ (a b : State) where
     survives = it.survives;
   }
 
--- ---- a transaction, from beginning to end
+-- ---- writing in a transaction, and committing
 
--- What a transaction has changed since it began.
-pub record Begun (old new : State) (done : Bool) (change : Content → Content) : Type 0 where
-  pub made : IsTrue done → HasCleanDisk new → IsTrue old.is_open
-      → Stepped old new (change (content_at old))
-  pub kept : IsTrue new.is_open → HasCommittedNothing old new
-  pub survives : Survives old new (λ _. ⊥)
+pub inside_if_not : (inside : Bool) → not inside ≡ false → IsTrue inside
+inside_if_not true is = refl
+inside_if_not false is = absurd (true≢false is)
 
--- The transaction has begun, and then the rows are written.
-pub begun : (old mid new : State) (done : Bool) (change : Content → Content)
-    → (HasCleanDisk mid → Shows old mid old.now old.committed true)
-    → (IsTrue mid.is_open → HasCleanDisk mid) → Survives old mid (λ _. ⊥)
-    → AppliesInTransaction mid new done change → (IsTrue old.is_open → HasStoreTables old)
-    → Begun old new done change
-begun old mid new done change shows clean_of survives m ours = record {
-  made = λ ok clean was.
-      let s = shows (earlier old mid new m.survives clean) in
-      let our = ours was in
-      let step = m.made ok clean (record {
-        is_open = s.is_open;
-        inside = s.mode;
-        schema = ap (λ (d : Database). d.schema) s.now_is ∙ our.schema;
-        shaped = subst (λ (d : Database). AreShaped d.trees) (sym s.now_is) our.shaped;
-      }) in
-      record {
-        inside = step.inside;
-        committed = step.committed ∙ s.committed_is;
-        is = step.is ∙ ap (λ (d : Database). change (content_in d.trees)) s.now_is;
-      };
-  kept = λ up.
-      let k = m.kept up in
-      let s = shows (clean_of k.was_open) in
-      record { was_open = s.was_open; committed = k.committed ∙ s.committed_is };
-  survives = both_survive old mid new survives m.survives;
-}
-
-module _ (old mid new : State) (change : Content → Content) (Becomes : Content → Content
-    → Type 0) (ours : IsTrue old.is_open → HasStoreTables old) (clean_of : IsTrue new.is_open
-    → HasCleanDisk new) where
-  undone : (done : Bool) → Begun old mid done change → IsUndone mid new → IsTrue new.is_open
-      → IsSame old new
-  undone done b r up =
-      let k = b.kept (r.was_open up) in
-      record {
-        was_open = k.was_open;
-        now = r.now up ∙ k.committed ∙ sym (settled old (ours k.was_open));
-        committed = r.committed up ∙ k.committed;
-      }
-
-  ours_again : IsSame old new → HasStoreTables new
-  ours_again same =
-      let our = ours same.was_open in
-      record {
-        schema = ap (λ (d : Database). d.schema) same.now ∙ our.schema;
-        shaped = subst (λ (d : Database). AreShaped d.trees) (sym same.now) our.shaped;
-        same_schema =
-            ap (λ (d : Database). d.schema) (same.now ∙ settled old our ∙ sym same.committed);
-        same_trees =
-            ap (λ (d : Database). d.trees) (same.now ∙ settled old our ∙ sym same.committed);
-      }
-
-  unturned : (done : Bool) (P : Trees → Type 0) → done ≡ false
-      → (IsTrue new.is_open → IsSame old new) → Survives old new P
-      → (HasCleanDisk new → (db : Trees) → P db → IsTrue old.is_open
-      → Becomes (content_at old) (content_in db)) → HasCommitted old new done Becomes
-  unturned done P fails same survives after = record {
-    becomes = λ ok. absurd (true≢false (sym ok ∙ fails));
-    same = λ _. same;
-    was_open = λ up. (same up).was_open;
-    honest = λ done. omega (arith, done, survives.clean);
-    stays = λ ok. absurd (true≢false (sym ok ∙ fails));
-    ours = λ up. ours_again (same up);
-    crash = survives_weaker old new P _ after survives;
-  }
-
+module _ (a b : State) (change : Content → Content) where
   -- The transaction did not begin.
-  pub not_begun : (HasCleanDisk new → IsUnchanged old new ⊎ IsRolledBack old new)
-      → Survives old new (λ _. ⊥) → HasCommitted old new false Becomes
-  not_begun fails survives =
-      unturned false (λ _. ⊥) refl (λ up. by_cases up (fails (clean_of up))) survives
-      (λ clean db none. absurd none)
+  pub not_begun : a.in_transaction ≡ false → (IsTrue a.is_open → a.now ≡ a.committed)
+      → (IsTrue b.is_open → HasCleanDisk b)
+      → (HasCleanDisk b → IsUnchanged a b ⊎ IsRolledBack a b)
+      → Survives a b (λ _. ⊥) → HasWrittenOver a b false change
+  not_begun idle same clean_of fails survives = record {
+    made = λ no. absurd (true≢false (sym no));
+    undone = λ _ clean. by_cases (fails clean);
+    kept = λ up. keeps up (fails (clean_of up));
+    survives = survives;
+  }
     where
-      by_cases : IsTrue new.is_open → IsUnchanged old new ⊎ IsRolledBack old new → IsSame old new
-      by_cases up (inl it) = record {
-        was_open = it.0.was_open;
-        now = it.0.now_is;
-        committed = it.0.committed_is;
+      by_cases : IsUnchanged a b ⊎ IsRolledBack a b → IsUndone a b
+      by_cases (inl it) = record {
+        was_open = λ up. it.0.was_open;
+        now = λ up. it.0.now_is ∙ same it.0.was_open;
+        committed = λ up. it.0.committed_is;
+        autocommit = it.0.mode ∙ idle;
       }
-      by_cases up (inr it) = record {
+      by_cases (inr it) = undone_of a b it
+
+      keeps : IsTrue b.is_open → IsUnchanged a b ⊎ IsRolledBack a b → HasCommittedNothing a b
+      keeps up (inl it) = record { was_open = it.0.was_open; committed = it.0.committed_is }
+      keeps up (inr it) = record {
         was_open = it.was_open up;
-        now = (it.undone up).0 ∙ sym (settled old (ours (it.was_open up)));
         committed = (it.undone up).1;
       }
 
-  -- The transaction was rolled back.
-  pub rolled_back : Begun old mid false change → (HasCleanDisk new → IsUndone mid new)
-      → Survives mid new (λ _. ⊥) → HasCommitted old new false Becomes
-  rolled_back b r survives =
-      unturned false (λ _. ⊥) refl (λ up. undone false b (r (clean_of up)) up)
-      (survives_then old mid new _ _ _ (λ clean db bad. bad) (λ clean db bad. bad) b.survives
-      survives) (λ clean db none. absurd none)
+  -- The rows were written in the transaction that had begun.
+  pub written_inside : IsTrue a.in_transaction → (IsTrue a.is_open → HasStoreTables a)
+      → AppliesInTransaction a b true change → HasWrittenOver a b true change
+  written_inside inside ours m = record {
+    made = λ ok clean was. m.made ok clean (record {
+      is_open = was;
+      inside = inside;
+      schema = (ours was).schema;
+      shaped = (ours was).shaped;
+    });
+    undone = λ no. absurd (true≢false (sym no));
+    kept = m.kept;
+    survives = m.survives;
+  }
 
-  module _ (means : IsTrue old.is_open → Becomes (content_at old) (change (content_at old)))
-      (b : Begun old mid true change) (survives : Survives mid new (λ db. db ≡ mid.now.trees)) where
-    early : HasCleanDisk new → HasCleanDisk mid
-    early clean = omega (arith, clean, survives.clean)
+module _ (a b d : State) (change : Content → Content) where
+  -- The transaction has begun, and then the rows were written.
+  pub begun_written : (HasCleanDisk b → Shows a b a.now a.committed true)
+      → (IsTrue b.is_open → HasCleanDisk b) → Survives a b (λ _. ⊥)
+      → AppliesInTransaction b d true change → (IsTrue a.is_open → HasStoreTables a)
+      → HasWrittenOver a d true change
+  begun_written shows clean_of survives m ours = record {
+    made = λ ok clean was.
+        let s = shows (earlier a b d m.survives clean) in
+        let our = ours was in
+        let step = m.made ok clean (record {
+          is_open = s.is_open;
+          inside = s.mode;
+          schema = ap (λ (d : Database). d.schema) s.now_is ∙ our.schema;
+          shaped = subst (λ (d : Database). AreShaped d.trees) (sym s.now_is) our.shaped;
+        }) in
+        record {
+          inside = step.inside;
+          committed = step.committed ∙ s.committed_is;
+          is = step.is ∙ ap (λ (d : Database). change (content_in d.trees)) s.now_is;
+        };
+    undone = λ no. absurd (true≢false (sym no));
+    kept = λ up.
+        let k = m.kept up in
+        let s = shows (clean_of k.was_open) in
+        record { was_open = s.was_open; committed = k.committed ∙ s.committed_is };
+    survives = both_survive a b d survives m.survives;
+  }
 
-    after : HasCleanDisk new → (db : Trees) → db ≡ mid.now.trees → IsTrue old.is_open
-        → Becomes (content_at old) (content_in db)
-    after clean db is was =
-        subst (Becomes (content_at old))
-        (sym (ap content_in is ∙ (b.made refl (early clean) was).is)) (means was)
+  -- A write failed, and the transaction was rolled back.
+  pub rolled_back : (IsTrue b.is_open → HasCommittedNothing a b) → Survives a b (λ _. ⊥)
+      → (IsTrue d.is_open → HasCleanDisk d) → (HasCleanDisk d → IsUndone b d)
+      → Survives b d (λ _. ⊥) → HasWrittenOver a d false change
+  rolled_back keeps one clean_of undone two = record {
+    made = λ no. absurd (true≢false (sym no));
+    undone = λ _ clean. let it = undone clean in record {
+      was_open = λ up. (keeps (it.was_open up)).was_open;
+      now = λ up. it.now up ∙ (keeps (it.was_open up)).committed;
+      committed = λ up. it.committed up ∙ (keeps (it.was_open up)).committed;
+      autocommit = it.autocommit;
+    };
+    kept = λ up.
+        let it = undone (clean_of up) in
+        let k = keeps (it.was_open up) in
+        record { was_open = k.was_open; committed = it.committed up ∙ k.committed };
+    survives = both_survive a b d one two;
+  }
 
-    all_survives : Survives old new (λ db. IsTrue old.is_open
-        → Becomes (content_at old) (content_in db))
-    all_survives = survives_then old mid new _ _ _ (λ clean db none. absurd none) after b.survives
-        survives
+-- What was begun is kept while the rows are written.
+pub begun_keeps : (a b d : State) (done : Bool) (change : Content → Content)
+    → (HasCleanDisk b → Shows a b a.now a.committed true) → (IsTrue b.is_open → HasCleanDisk b)
+    → AppliesInTransaction b d done change → IsTrue d.is_open → HasCommittedNothing a d
+begun_keeps a b d done change shows clean_of m up =
+    let k = m.kept up in
+    let s = shows (clean_of k.was_open) in
+    record { was_open = s.was_open; committed = k.committed ∙ s.committed_is }
 
-    -- The commit failed.
-    pub uncommitted : (HasCleanDisk new → HasEnded mid new) → HasCommitted old new false Becomes
-    uncommitted fails =
-        unturned false _ refl (λ up. by_cases up (fails (clean_of up))) all_survives
-        (λ clean db h. h)
-      where
-        by_cases : IsTrue new.is_open → HasEnded mid new → IsSame old new
-        by_cases up (inr it) = undone true b (undone_of mid new it) up
-        by_cases up (inl it) =
-            let k = b.kept it.1.0.was_open in
-            absurd (true≢false (let inside : mid.in_transaction ≡ true =
-            (b.made refl (early (clean_of up)) k.was_open).inside.inside in sym inside ∙ it.0))
+undone_kept : (a d : State) → IsUndone a d → IsTrue d.is_open → IsSameOrUndone a d
+undone_kept a d it up = record {
+  was_open = it.was_open up;
+  now = inr (it.now up);
+  committed = it.committed up;
+}
 
-    -- The commit succeeded.
-    pub committed : (HasCleanDisk new → Shows mid new mid.now mid.now false)
-        → HasCommitted old new true Becomes
+-- After a write, the tables are still the store's.
+pub written_ours : (a d : State) (done : Bool) (change : Content → Content)
+    → (IsTrue a.is_open → HasStoreTables a) → (IsTrue d.is_open → HasCleanDisk d)
+    → HasWrittenOver a d done change → IsTrue d.is_open → HasStoreTables d
+written_ours a d true change ours clean_of it up =
+    let k = it.kept up in
+    let our = ours k.was_open in
+    let made = it.made refl (clean_of up) k.was_open in
+    record {
+      schema = made.inside.schema;
+      shaped = made.inside.shaped;
+      last_schema = ap (λ (d : Database). d.schema) k.committed ∙ our.last_schema;
+      last_shaped = subst (λ (d : Database). AreShaped d.trees) (sym k.committed) our.last_shaped;
+    }
+written_ours a d false change ours clean_of it up =
+    still_ours a d (undone_kept a d (it.undone refl (clean_of up)) up) (ours (it.kept up).was_open)
+
+-- ---- a read, and then a write
+
+module _ (a b d : State) (change : Content → Content) (Becomes : Content → Content → Type 0)
+    (one : HasQueried a b true) (means : IsTrue b.is_open
+    → Becomes (content_at b) (change (content_at b))) (clean_of : IsTrue d.is_open
+    → HasCleanDisk d) where
+  pub looked_written : (done : Bool) → HasWrittenOver b d done change → HasWritten a d done Becomes
+  looked_written done two = record {
+    becomes = λ ok up.
+        let was = (two.kept up).was_open in
+        subst (λ (db : Database). Becomes (content_in db.trees) (content_at d))
+        (one.same refl was).now (subst (Becomes (content_at b))
+        (sym (two.made ok (clean_of up) was).is) (means was));
+    inside = λ ok up. (two.made ok (clean_of up) (two.kept up).was_open).inside.inside;
+    undone = λ no up.
+        let it = two.undone no (clean_of up) in
+        same_then a b d (one.same refl (it.was_open up)) (undone_kept b d it up);
+    mode = λ no up idle. (two.undone no (clean_of up)).autocommit;
+    kept = λ up.
+        let k = two.kept up in
+        let same = one.same refl k.was_open in
+        record { was_open = same.was_open; committed = k.committed ∙ same.committed };
+    honest = λ clean. one.honest (earlier a b d two.survives clean);
+    stays = λ ok clean.
+        (two.made ok clean (one.stays refl (earlier a b d two.survives clean))).inside.is_open;
+    survives = both_survive a b d one.survives two.survives;
+  }
+
+-- After a failed read, nothing is written.
+pub unread_written : (a b : State) (Becomes : Content → Content → Type 0) → HasQueried a b false
+    → HasWritten a b false Becomes
+unread_written a b Becomes one = record {
+  becomes = λ no. absurd (true≢false (sym no));
+  inside = λ no. absurd (true≢false (sym no));
+  undone = λ _. one.undone;
+  mode = λ _. one.mode;
+  kept = λ up. let k = one.undone up in record { was_open = k.was_open; committed = k.committed };
+  honest = one.honest;
+  stays = λ no. absurd (true≢false (sym no));
+  survives = one.survives;
+}
+
+-- ---- a write, and then a commit
+
+module _ (a b : State) (Becomes : Content → Content → Type 0) where
+  -- After a failed write, nothing is committed.
+  pub unwritten_committed : (IsTrue a.is_open → IsIdle a) → HasWritten a b false Becomes
+      → HasCommitted a b false Becomes
+  unwritten_committed idle one = record {
+    becomes = λ no. absurd (true≢false (sym no));
+    same = λ _ up.
+        let kept = one.undone refl up in
+        kept_settled a b (settled a (idle kept.was_open)) kept;
+    was_open = λ up. (one.undone refl up).was_open;
+    idle = λ up.
+        let kept = one.undone refl up in
+        let was = idle kept.was_open in
+        still_idle a b was kept (one.mode refl up was.mode);
+    honest = one.honest;
+    stays = λ no. absurd (true≢false (sym no));
+    crash = survives_weaker a b _ _ (λ clean db none. absurd none) one.survives;
+  }
+
+  -- After a failed write, a crash leaves no more than before.
+  pub unwritten_leaves : Survives a b (λ _. ⊥) → CommitLeaves a b Becomes
+  unwritten_leaves survives clean db may =
+      elim (survives.crash clean db may) [ inl was ↦ inl was | inr none ↦ absurd none ]
+
+-- Between transactions, nothing is uncommitted.
+pub shown_idle : (b d : State) → Shows b d b.now b.now false → IsIdle d
+shown_idle b d s = record {
+  mode = s.mode;
+  same_schema = ap (λ (d : Database). d.schema) (s.now_is ∙ sym s.committed_is);
+  same_trees = ap (λ (d : Database). d.trees) (s.now_is ∙ sym s.committed_is);
+}
+
+pub undone_idle : (b d : State) → IsTrue d.is_open → IsUndone b d → IsIdle d
+undone_idle b d up it = record {
+  mode = it.autocommit;
+  same_schema = ap (λ (d : Database). d.schema) (it.now up ∙ sym (it.committed up));
+  same_trees = ap (λ (d : Database). d.trees) (it.now up ∙ sym (it.committed up));
+}
+
+-- A commit fails in a transaction only by rolling back.
+ended_inside : (b d : State) → IsTrue b.in_transaction → HasEnded b d → IsUndone b d
+ended_inside b d inside (inl it) = absurd (true≢false (sym inside ∙ it.0))
+ended_inside b d inside (inr it) = undone_of b d it
+
+module _ (a b d : State) (Becomes : Content → Content → Type 0) (one : HasWritten a b true Becomes)
+    (clean_of : IsTrue d.is_open → HasCleanDisk d)
+    (survives : Survives b d (λ db. db ≡ b.now.trees)) where
+  before : HasCleanDisk d → HasCleanDisk b
+  before clean = omega (arith, clean, survives.clean)
+
+  -- The write succeeded, so the connection was open.
+  made : HasCleanDisk d → (db : Trees) → db ≡ b.now.trees → Becomes (content_at a) (content_in db)
+  made clean db is = subst (Becomes (content_at a)) (sym (ap content_in is))
+      (one.becomes refl (one.stays refl (before clean)))
+
+  all_survives : Survives a d (λ db. IsTrue a.is_open → Becomes (content_at a) (content_in db))
+  all_survives = survives_then a b d _ _ _ (λ clean db none. absurd none)
+      (λ clean db is was. made clean db is) one.survives survives
+
+  pub written_leaves : CommitLeaves a d Becomes
+  written_leaves clean db may = elim (survives.crash clean db may) [
+    | inr is ↦ inr (made clean db is)
+    | inl was ↦ elim (one.survives.crash (before clean) db was) [
+      | inl sooner ↦ inl sooner
+      | inr none ↦ absurd none
+    ]
+  ]
+
+  module _ (idle : IsTrue a.is_open → IsIdle a) where
+    committed : (HasCleanDisk d → Shows b d b.now b.now false) → HasCommitted a d true Becomes
     committed ok = record {
       becomes = λ _ up. let s = ok (clean_of up) in
-          after (clean_of up) new.now.trees (ap (λ (d : Database). d.trees) s.now_is)
-          (b.kept s.was_open).was_open;
+          made (clean_of up) d.now.trees (ap (λ (d : Database). d.trees) s.now_is);
       same = λ no. absurd (true≢false (sym no));
-      was_open = λ up. (b.kept (ok (clean_of up)).was_open).was_open;
-      honest = λ done. omega (arith, done, all_survives.clean);
-      stays = λ _ was clean. (ok clean).is_open;
-      ours = λ up.
-          let s = ok (clean_of up) in
-          let i = (b.made refl (early (clean_of up)) (b.kept s.was_open).was_open).inside in
-          record {
-            schema = ap (λ (d : Database). d.schema) s.now_is ∙ i.schema;
-            shaped = subst (λ (d : Database). AreShaped d.trees) (sym s.now_is) i.shaped;
-            same_schema = ap (λ (d : Database). d.schema) (s.now_is ∙ sym s.committed_is);
-            same_trees = ap (λ (d : Database). d.trees) (s.now_is ∙ sym s.committed_is);
-          };
+      was_open = λ up. (one.kept (ok (clean_of up)).was_open).was_open;
+      idle = λ up. shown_idle b d (ok (clean_of up));
+      honest = λ clean. one.honest (before clean);
+      stays = λ _ clean. (ok clean).is_open;
       crash = all_survives;
     }
 
+    uncommitted : (HasCleanDisk d → HasEnded b d) → HasCommitted a d false Becomes
+    uncommitted fails = record {
+      becomes = λ no. absurd (true≢false (sym no));
+      same = λ _ up.
+          let it = undone up in
+          let k = one.kept (it.was_open up) in
+          record {
+            was_open = k.was_open;
+            now = it.now up ∙ k.committed ∙ sym (settled a (idle k.was_open));
+            committed = it.committed up ∙ k.committed;
+          };
+      was_open = λ up. (one.kept ((undone up).was_open up)).was_open;
+      idle = λ up. undone_idle b d up (undone up);
+      honest = λ clean. one.honest (before clean);
+      stays = λ no. absurd (true≢false (sym no));
+      crash = all_survives;
+    }
+      where
+        undone : IsTrue d.is_open → IsUndone b d
+        undone up = ended_inside b d (one.inside refl (one.stays refl (before (clean_of up))))
+            (fails (clean_of up))
+
     -- The commit succeeded or failed.
     pub concluded : {E : Type 0} (r : Result (Unit {0}) E)
-        → (HasCleanDisk new → OnOk r (Shows mid new mid.now mid.now false))
-        → (HasCleanDisk new → OnErr r (HasEnded mid new)) → HasCommitted old new (is_ok r) Becomes
+        → (HasCleanDisk d → OnOk r (Shows b d b.now b.now false))
+        → (HasCleanDisk d → OnErr r (HasEnded b d)) → HasCommitted a d (is_ok r) Becomes
     concluded (Ok u) ok err = committed ok
     concluded (Err e) ok err = uncommitted err
 
--- ---- a read, and then a commit
+-- ---- the end of a group
 
-module _ (a b d : State) (Turns Becomes : Content → Content → Type 0) (one : HasQueried a b true)
-    (means : IsTrue b.is_open → (after : Content) → Turns (content_at b) after
-    → Becomes (content_at b) after) where
-  from_first : IsTrue b.is_open → (after : Content) → Turns (content_at b) after
-      → Becomes (content_at a) after
-  from_first was after h =
-      subst (λ (db : Database). Becomes (content_in db.trees) after) (one.same was).now
-      (means was after h)
-
-  pub looked_turned : (done : Bool) → HasCommitted b d done Turns → HasCommitted a d done Becomes
-  looked_turned done two = record {
-    becomes = λ ok up. from_first (two.was_open up) (content_at d) (two.becomes ok up);
-    same = λ no up.
-        let later = two.same no up in
-        let sooner = one.same later.was_open in
-        record {
-          was_open = sooner.was_open;
-          now = later.now ∙ sooner.now;
-          committed = later.committed ∙ sooner.committed;
-        };
-    was_open = λ up. (one.same (two.was_open up)).was_open;
-    honest = λ done. one.honest (two.honest done);
-    stays = λ ok was clean. two.stays ok (one.stays refl (two.honest clean)) clean;
-    ours = two.ours;
-    crash = survives_then a b d _ _ _ (λ clean db none. absurd none) (λ clean db h was. let up =
-        one.stays refl (two.honest clean) in from_first up (content_in db) (h up)) one.survives
-        two.crash;
-  }
-
-  -- The read succeeded, so the connection was open.
-  pub read_leaves : (done : Bool) → HasCommitted b d done Turns → CommitLeaves a d Becomes
-  read_leaves done two clean db may =
-      let up = one.stays refl (two.honest clean) in
-      elim (two.crash.crash clean db may) [
-        | inr made ↦ inr (from_first up (content_in db) (made up))
-        | inl was ↦ elim (one.survives.crash (two.honest clean) db was) [
-          | inl sooner ↦ inl sooner
-          | inr none ↦ absurd none
-        ]
-      ]
-
--- After a failed read, nothing is committed.
-pub looked_unturned : (a b : State) (Becomes : Content → Content → Type 0)
-    → (IsTrue a.is_open → HasStoreTables a) → HasQueried a b false → HasCommitted a b false Becomes
-looked_unturned a b Becomes ours one = record {
-  becomes = λ no. absurd (true≢false (sym no));
-  same = λ _. one.same;
-  was_open = λ up. (one.same up).was_open;
+-- Nothing was written.
+pub ended_unwritten : (a b : State) → HasQueried a b true → b.in_transaction ≡ false
+    → (IsTrue b.is_open → b.now ≡ b.committed) → HasEndedGroup a b true
+ended_unwritten a b one mode same = record {
+  same = λ _ up. (one.same refl up).now;
+  undone = λ no. absurd (true≢false (sym no));
+  was_open = λ up. (one.undone up).was_open;
+  idle = λ up. record {
+    mode = mode;
+    same_schema = ap (λ (d : Database). d.schema) (same up);
+    same_trees = ap (λ (d : Database). d.trees) (same up);
+  };
   honest = one.honest;
-  stays = λ no. absurd (true≢false (sym no));
-  ours = looked_ours a b false ours one;
+  stays = one.stays;
   crash = survives_weaker a b _ _ (λ clean db none. absurd none) one.survives;
 }
 
--- After a failed read, a crash leaves no more than before.
-pub unread_leaves : (a b : State) (Becomes : Content → Content → Type 0) → HasQueried a b false
-    → CommitLeaves a b Becomes
-unread_leaves a b Becomes one clean db may =
-    elim (one.survives.crash clean db may) [ inl was ↦ inl was | inr none ↦ absurd none ]
+module _ (a b d : State) (clean_of : IsTrue d.is_open → HasCleanDisk d) where
+  -- The clock's row was not read, and all was undone.
+  pub ended_unread : HasQueried a b false → (HasCleanDisk d → IsUndone b d)
+      → Survives b d (λ _. ⊥) → HasEndedGroup a d false
+  ended_unread one undone survives = record {
+    same = λ no. absurd (true≢false (sym no));
+    undone = λ _ up. let it = undone (clean_of up) in
+        it.now up ∙ (one.undone (it.was_open up)).committed;
+    was_open = λ up. (one.undone ((undone (clean_of up)).was_open up)).was_open;
+    idle = λ up. undone_idle b d up (undone (clean_of up));
+    honest = λ clean. one.honest (earlier a b d survives clean);
+    stays = λ no. absurd (true≢false (sym no));
+    crash = survives_weaker a d _ _ (λ clean db none. absurd none)
+        (both_survive a b d one.survives survives);
+  }
+
+  module _ (one : HasQueried a b true) (inside : IsTrue b.in_transaction)
+      (survives : Survives b d (λ db. db ≡ b.now.trees)) where
+    sooner : HasCleanDisk d → HasCleanDisk b
+    sooner clean = omega (arith, clean, survives.clean)
+
+    all_left : Survives a d (λ db. IsTrue a.is_open × (db ≡ a.now.trees))
+    all_left = survives_then a b d _ _ _ (λ clean db none. absurd none) (λ clean db is.
+        let same = one.same refl (one.stays refl (sooner clean)) in
+        (same.was_open, is ∙ ap (λ (d : Database). d.trees) same.now)) one.survives survives
+
+    -- The commit succeeded or failed.
+    pub ended_written : {E : Type 0} (r : Result (Unit {0}) E)
+        → (HasCleanDisk d → OnOk r (Shows b d b.now b.now false))
+        → (HasCleanDisk d → OnErr r (HasEnded b d)) → HasEndedGroup a d (is_ok r)
+    ended_written (Ok u) ok err = record {
+      same = λ _ up. let s = ok (clean_of up) in s.now_is ∙ (one.same refl s.was_open).now;
+      undone = λ no. absurd (true≢false (sym no));
+      was_open = λ up. (one.same refl (ok (clean_of up)).was_open).was_open;
+      idle = λ up. shown_idle b d (ok (clean_of up));
+      honest = λ clean. one.honest (sooner clean);
+      stays = λ _ clean. (ok clean).is_open;
+      crash = all_left;
+    }
+    ended_written (Err e) ok err = record {
+      same = λ no. absurd (true≢false (sym no));
+      undone = λ _ up. let it = undone up in
+          it.now up ∙ (one.same refl (it.was_open up)).committed;
+      was_open = λ up. (one.same refl ((undone up).was_open up)).was_open;
+      idle = λ up. undone_idle b d up (undone up);
+      honest = λ clean. one.honest (sooner clean);
+      stays = λ no. absurd (true≢false (sym no));
+      crash = all_left;
+    }
+      where
+        undone : IsTrue d.is_open → IsUndone b d
+        undone up = ended_inside b d inside (err (clean_of up))
+
+-- The tables after the end of a transaction are still the store's.
+pub ended_ours : (b d : State) → (IsTrue b.is_open → HasStoreTables b)
+    → (IsTrue d.is_open → HasCleanDisk d) → {E : Type 0} (r : Result (Unit {0}) E)
+    → (HasCleanDisk d → OnOk r (Shows b d b.now b.now false))
+    → (HasCleanDisk d → OnErr r (HasEnded b d)) → IsTrue d.is_open → HasStoreTables d
+ended_ours b d ours clean_of (Ok u) ok err up =
+    let s = ok (clean_of up) in
+    let our = ours s.was_open in
+    record {
+      schema = ap (λ (d : Database). d.schema) s.now_is ∙ our.schema;
+      shaped = subst (λ (d : Database). AreShaped d.trees) (sym s.now_is) our.shaped;
+      last_schema = ap (λ (d : Database). d.schema) s.committed_is ∙ our.schema;
+      last_shaped = subst (λ (d : Database). AreShaped d.trees) (sym s.committed_is) our.shaped;
+    }
+ended_ours b d ours clean_of (Err e) ok err up = by_cases (err (clean_of up))
+  where
+    by_cases : HasEnded b d → HasStoreTables d
+    by_cases (inl it) = still_ours b d (record {
+      was_open = it.1.0.was_open;
+      now = inl it.1.0.now_is;
+      committed = it.1.0.committed_is;
+    }) (ours it.1.0.was_open)
+    by_cases (inr it) = still_ours b d (undone_kept b d (undone_of b d it) up)
+        (ours (it.was_open up))
+
+-- After an undoing, the tables are those of the last commit.
+pub undone_ours : (b d : State) → (IsTrue b.is_open → HasStoreTables b)
+    → (IsTrue d.is_open → HasCleanDisk d) → (HasCleanDisk d → IsUndone b d) → IsTrue d.is_open
+    → HasStoreTables d
+undone_ours b d ours clean_of undone up =
+    let it = undone (clean_of up) in
+    still_ours b d (undone_kept b d it up) (ours (it.was_open up))

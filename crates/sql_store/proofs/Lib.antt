@@ -18,3 +18,4 @@ pub mod WholeLemmas
 pub mod MigrationLemmas
 pub mod ThroughLemmas
 pub mod FrontLemmas
+pub mod GroupLemmas

@@ -9,7 +9,7 @@ use Rattle.sqlite.specs.Effect.{Database}
 use Rattle.sqlite.specs.State.{State}
 use Rattle.model.specs.Content.{Content}
 use Rattle.sql_rows.specs.Shaped.{AreShaped}
-use Rattle.sql_rows.specs.Written.{Removed, Replaced}
+use Rattle.sql_rows.specs.Written.{IsKeyOf, Removed, Replaced}
 use Rattle.sql_rows.specs.declared.statement.Table.{Table}
 use Rattle.sql_rows.proofs.PutLemmas.{Became}
 use Rattle.sql_store.specs.Store.{content_at, AppliesInTransaction, WritesInTransaction}
@@ -20,6 +20,12 @@ pub two_bound : (r s : ValueRef) (v w : Value) → bound_value v ≡ v → bound
 two_bound r s v w plain also one two = ap (λ x. bound_value x ∷ bound_value (owned s) ∷ []) one
     ∙ ap (λ x. bound_value v ∷ bound_value x ∷ []) two ∙ ap (λ x. x ∷ bound_value w ∷ []) plain
     ∙ ap (λ x. v ∷ x ∷ []) also
+
+-- The key and the row, as they are bound.
+pub keyed_as : (t : Table) (key given_key row given : Row) → given_key ≡ key → given ≡ row
+    → IsKeyOf t key row → IsKeyOf t given_key given
+keyed_as t key given_key row given is also keyed =
+    subst₂ (IsKeyOf t) (sym is) (sym also) keyed
 
 module _ (a b : State) where
   pub failed : (Did : Database → Database → Type 0) (change : Content → Content)

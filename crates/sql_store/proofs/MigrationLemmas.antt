@@ -59,7 +59,7 @@ use Rattle.sql_store.specs.Whole.{EachReads, HasPresentSet}
 use Rattle.sql_store.proofs.WholeLemmas.{moved_read, reads_replaced}
 use Rattle.sql_store.proofs.TransactionLemmas.{undone_of}
 use Rattle.sql_store.specs.Transactions.{HasEnded, IsUndone}
-use Rattle.sql_store.proofs.CallLemmas.{both_survive, call_keeps, earlier, fails_as, fails_open, fails_same, kept_then, looked_then, query_commits_nothing, shown_open, shown_same, shown_unchanged, survives_still}
+use Rattle.sql_store.proofs.CallLemmas.{begins_none, both_survive, call_keeps, earlier, fails_as, kept_settled, kept_then, looked_then, query_commits_nothing, query_err_leaves, query_leaves, same_of, shown_idle, shown_unchanged, still_or_undone, survives_still}
 
 -- ---- calls in order
 
@@ -829,6 +829,7 @@ module _ (f : SchemaVersion) (ids : List ℕ) (clock : Option ClockImpl) (old mi
   unmoved P same survives after = record {
     becomes = λ no. absurd (true≢false (sym no));
     ours = λ no. absurd (true≢false (sym no));
+    idle = λ no. absurd (true≢false (sym no));
     same = λ _. same;
     was_open = λ up. (same up).was_open;
     honest = λ done. omega (arith, done, survives.clean);
@@ -910,9 +911,11 @@ module _ (f : SchemaVersion) (ids : List ℕ) (clock : Option ClockImpl) (old mi
           record {
             schema = ap (λ (d : Database). d.schema) s.now_is ∙ did.schema;
             shaped = subst (λ (d : Database). AreShaped d.trees) (sym s.now_is) did.shaped;
-            same_schema = ap (λ (d : Database). d.schema) (s.now_is ∙ sym s.committed_is);
-            same_trees = ap (λ (d : Database). d.trees) (s.now_is ∙ sym s.committed_is);
+            last_schema = ap (λ (d : Database). d.schema) s.committed_is ∙ did.schema;
+            last_shaped = subst (λ (d : Database). AreShaped d.trees) (sym s.committed_is)
+                did.shaped;
           };
+      idle = λ _ up. shown_idle mid new (ok (clean_of up));
       same = λ no. absurd (true≢false (sym no));
       was_open = λ up. (b.kept (ok (clean_of up)).was_open).was_open;
       honest = λ done. omega (arith, done, all_survives.clean);
@@ -940,42 +943,35 @@ module _ (f : SchemaVersion) (t : RowTable) (is : IsTableOf t f) (old new : Stat
   plain was =
       subst (λ k. IsPlain (understood k text)) (sym (ours was).schema) (old_query_plain f t is)
 
-  same_as : IsTrue new.is_open → HasSchemaVersion f old → IsUnchanged old new ⊎ IsRolledBack old new
-      → IsSame old new
-  same_as is_open ours (inl it) = record {
-    was_open = it.0.was_open;
-    now = it.0.now_is;
-    committed = it.0.committed_is;
-  }
-  same_as is_open ours (inr it) = record {
-    was_open = it.was_open is_open;
-    now = (it.undone is_open).0 ∙ sym (settled_as f old ours);
-    committed = (it.undone is_open).1;
-  }
-
   pub old_looked : (rows : List Row) → (IsTrue new.is_open → HasCleanDisk new)
       → (HasCleanDisk new → Shown text [] old new rows)
       → Survives old new (CommitsShowing text [] old) → HasQueried old new true
   old_looked rows clean shown survives = record {
-    same = λ up. let h = shown (clean up) in let was = shown_open text [] old new rows h in
-        same_as up (ours was) (inl (shown_same text [] old new rows (plain was) h));
-    stays = λ ok done.
-        let was = shown_open text [] old new rows (shown done) in
-        (shown_same text [] old new rows (plain was) (shown done)).0.is_open;
+    same = λ _ up. same_of text [] old new (unchanged (clean up));
+    undone = λ up. still_or_undone text [] old new up (inl (unchanged (clean up)));
+    mode = λ up. begins_none text [] old new (inl (unchanged (clean up)));
+    stays = λ ok done. (unchanged done).0.is_open;
     honest = λ done. omega (arith, survives.clean, done);
     survives = query_commits_nothing text [] old new (query_selects (All t)) survives;
   }
+    where
+      unchanged : HasCleanDisk new → IsUnchanged old new
+      unchanged done = query_leaves text [] old new plain rows (shown done)
 
   pub old_unlooked : (e : Error) → (IsTrue new.is_open → HasCleanDisk new)
       → (HasCleanDisk new → FailsToQuery text [] old new e)
       → Survives old new (CommitsShowing text [] old) → HasQueried old new false
   old_unlooked e clean fails survives = record {
-    same = λ up. let h = fails (clean up) in let was = fails_open text [] old new e up h in
-        same_as up (ours was) (fails_same text [] old new e (plain was) h);
+    same = λ no. absurd (true≢false (sym no));
+    undone = λ up. still_or_undone text [] old new up (left up);
+    mode = λ up. begins_none text [] old new (left up);
     stays = λ no done. absurd (true≢false (sym no));
     honest = λ done. omega (arith, survives.clean, done);
     survives = query_commits_nothing text [] old new (query_selects (All t)) survives;
   }
+    where
+      left : IsTrue new.is_open → IsUnchanged old new ⊎ IsRolledBack old new
+      left up = query_err_leaves text [] old new plain e up (fails (clean up))
 
   pub old_answers : (rows : List Row) → IsTrue old.is_open → Shown text [] old new rows
       → IsAnswer (query_of (All t)) (overlay old.now.trees []) [] rows
@@ -994,11 +990,19 @@ still_of f a b same our = record {
   same_trees = ap (λ (d : Database). d.trees) (same.now ∙ settled_as f a our ∙ sym same.committed);
 }
 
+-- Whether it answered or failed, a read changed nothing.
+pub old_same : (f : SchemaVersion) (a b : State) (answered : Bool)
+    → (IsTrue a.is_open → HasSchemaVersion f a)
+    → HasQueried a b answered → IsTrue b.is_open → IsSame a b
+old_same f a b answered ours looked up =
+    let kept = looked.undone up in
+    kept_settled a b (settled_as f a (ours kept.was_open)) kept
+
 pub old_still : (f : SchemaVersion) (a b : State) (answered : Bool)
     → (IsTrue a.is_open → HasSchemaVersion f a)
     → HasQueried a b answered → IsTrue b.is_open → HasSchemaVersion f b
-old_still f a b answered ours looked up = let same = looked.same up in
-    still_of f a b same (ours same.was_open)
+old_still f a b answered ours looked up =
+    let same = old_same f a b answered ours looked up in still_of f a b same (ours same.was_open)
 
 -- A read, and then the migration.
 module _ (a b d : State) (Turns Becomes : Trees → Trees → Type 0) (one : HasQueried a b true)
@@ -1006,22 +1010,23 @@ module _ (a b d : State) (Turns Becomes : Trees → Trees → Type 0) (one : Has
     → Becomes b.now.trees after) where
   from_first : IsTrue b.is_open → (after : Trees) → Turns b.now.trees after
       → Becomes a.now.trees after
-  from_first was after h = subst (λ (db : Database). Becomes db.trees after) (one.same was).now
+  from_first was after h = subst (λ (db : Database). Becomes db.trees after) (one.same refl was).now
       (means was after h)
 
   pub looked_moves : (done : Bool) → HasMigrated Turns b d done → HasMigrated Becomes a d done
   looked_moves done two = record {
     becomes = λ ok up. from_first (two.was_open up) d.now.trees (two.becomes ok up);
     ours = two.ours;
+    idle = two.idle;
     same = λ no up.
         let later = two.same no up in
-        let sooner = one.same later.was_open in
+        let sooner = one.same refl later.was_open in
         record {
           was_open = sooner.was_open;
           now = later.now ∙ sooner.now;
           committed = later.committed ∙ sooner.committed;
         };
-    was_open = λ up. (one.same (two.was_open up)).was_open;
+    was_open = λ up. (one.same refl (two.was_open up)).was_open;
     honest = λ done. one.honest (two.honest done);
     stays = λ ok was clean. two.stays ok (one.stays refl (two.honest clean)) clean;
     crash = survives_then a b d _ _ _ (λ clean db none. absurd none) (λ clean db h was. let up =
@@ -1223,8 +1228,8 @@ pub migrated : (f : SchemaVersion) (a b d e : State) (done : Bool) (ids : List �
 migrated f a b d e done ids clocks clock one two ours versions clocked is moves =
     looked_moves a d e (AreTreesMigrated f ids clock) (IsCarried f) (looked_then a b d true one two)
     (λ up after turns.
-    let second = two.same up in
-    let first = one.same second.was_open in
+    let second = two.same refl up in
+    let first = one.same refl second.was_open in
     let same = second.now ∙ first.now in
     let at_versions =
     subst (λ (db : Database). HasIds ids db.trees) (sym same) (versions second.was_open) in

@@ -1,5 +1,5 @@
 -- What opening a store says of its tables.
-use Rattle.std.proofs.Common.{◌≡◌, ◌≤◌, inl, inr, suc, Bool, List, [], ◌∷◌, arith, length, refl, sym, ap, subst}
+use Rattle.std.proofs.Common.{◌≡◌, ◌≤◌, inl, inr, suc, Bool, List, [], ◌∷◌, arith, length, refl, sym, ap, subst, ◌∙◌}
 use Rattle.std.specs.List.{AllByRecursion, AllZip}
 use Rattle.sqlite.specs.State.{IsLive}
 use Rattle.sqlite_trees.specs.Props.{AllByRecursion-prop, IsShaped-prop}
@@ -42,7 +42,7 @@ use Rattle.sql_rows.specs.Migration.{schema_of}
 use Rattle.sql_rows.specs.declared.migration.SchemaVersion.{SchemaVersion}
 use Rattle.sql_rows.specs.declared.migration.SchemaVersion.TheVariants.{First, Modify}
 use Rattle.sql_store.specs.Migration.{AreOldShaped, IsMovedFrom, HasSchemaVersion, of_earlier, of_none, of_ours}
-use Rattle.sql_store.specs.Store.{HasStoreTables}
+use Rattle.sql_store.specs.Store.{HasStoreTables, IsIdle}
 
 -- The laws of a store with a clean disk give the shape of each table.
 each_shaped : (v : View) → IsOrdered v.shape v.trees → (ts : List Table)
@@ -119,6 +119,14 @@ module _ (s : State) (was : WasOpened s) where
   opened_ours has = record {
     schema = has;
     shaped = was.shaped (sound_as the_schema has);
+    last_schema = ap (λ (d : Database). d.schema) (sym was.opens.clean) ∙ has;
+    last_shaped = subst (λ (d : Database). AreShaped d.trees) was.opens.clean
+        (was.shaped (sound_as the_schema has));
+  }
+
+  pub opened_idle : IsIdle s
+  opened_idle = record {
+    mode = was.opens.autocommit;
     same_schema = ap (λ (d : Database). d.schema) was.opens.clean;
     same_trees = ap (λ (d : Database). d.trees) was.opens.clean;
   }

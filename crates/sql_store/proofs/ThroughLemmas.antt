@@ -25,10 +25,10 @@ use Rattle.sql_rows.specs.Versions.{old_version_in}
 use Rattle.sql_rows.specs.declared.statement.Table.TheVariants.{OldVersion as OldTable}
 use Rattle.sql_rows.specs.declared.version_row.OldVersion.{OldVersion}
 use Rattle.sql_store.specs.Migration.{AreIdsOf, HasIds, HasSchemaVersion}
-use Rattle.sql_store.specs.Store.{HasStoreTables, IsSame, HasQueried}
+use Rattle.sql_store.specs.Store.{HasStoreTables, HasQueried}
 use Rattle.sql_store.specs.Whole.{IsRead}
 use Rattle.sql_store.proofs.MigrationLemmas.{old_answers}
-use Rattle.sql_store.proofs.CallLemmas.{answers, both_survive, earlier, shown_open, shown_same, survives_still}
+use Rattle.sql_store.proofs.CallLemmas.{answers, begins_none, both_survive, earlier, shown_open, shown_same, still_or_undone, survives_still}
 
 -- A query that began was asked of an open connection.
 begun_open : {S : Type 0} (g : Ghosts S) (sql : List ℕ) (params : Row) (old new : Held S)
@@ -239,30 +239,22 @@ module _ {S : Type 0} (g : Ghosts S) (sql : List ℕ) {text : List ℕ} (is : te
 
 -- ---- the rows of a table
 
-same_left : (old new : State) → (IsTrue old.is_open → old.now ≡ old.committed) → IsTrue new.is_open
-    → IsUnchanged old new ⊎ IsRolledBack old new → IsSame old new
-same_left old new settled up (inl it) = record {
-  was_open = it.0.was_open;
-  now = it.0.now_is;
-  committed = it.0.committed_is;
-}
-same_left old new settled up (inr it) = record {
-  was_open = it.was_open up;
-  now = (it.undone up).0 ∙ sym (settled (it.was_open up));
-  committed = (it.undone up).1;
-}
-
 -- A read of all rows changed nothing.
 pub table_looked : {X R : Type 0} (read : Row → Option X) (P : R → List X → Type 0) (sql : List ℕ)
     (old new : State) (r : Result R Fault)
     → (IsTrue old.is_open → IsPlain (understood old.now.schema sql))
-    → (IsTrue old.is_open → old.now ≡ old.committed)
     → (IsTrue new.is_open → HasCleanDisk new)
     → (HasCleanDisk new → IfOk r (λ a. HasReadAll read sql old new (P a)))
     → (HasCleanDisk new → OnErr r (IsUnchanged old new ⊎ IsRolledBack old new))
     → Survives old new (λ _. ⊥) → HasQueried old new (is_ok r)
-table_looked read P sql old new (Ok a) plain settled clean_of all err survives = record {
-  same = λ up. same_left old new settled up (inl (unchanged (clean_of up)));
+table_looked read P sql old new (Ok a) plain clean_of all err survives = record {
+  same = λ _ up. let it = unchanged (clean_of up) in record {
+    was_open = it.0.was_open;
+    now = it.0.now_is;
+    committed = it.0.committed_is;
+  };
+  undone = λ up. still_or_undone sql [] old new up (inl (unchanged (clean_of up)));
+  mode = λ up. begins_none sql [] old new (inl (unchanged (clean_of up)));
   stays = λ ok clean. (unchanged clean).0.is_open;
   honest = λ clean. omega (arith, survives.clean, clean);
   survives = survives;
@@ -271,8 +263,10 @@ table_looked read P sql old new (Ok a) plain settled clean_of all err survives =
     unchanged : HasCleanDisk new → IsUnchanged old new
     unchanged clean = let h = all clean in
         shown_same sql [] old new h.0 (plain (shown_open sql [] old new h.0 h.2)) h.2
-table_looked read P sql old new (Err e) plain settled clean_of all err survives = record {
-  same = λ up. same_left old new settled up (err (clean_of up));
+table_looked read P sql old new (Err e) plain clean_of all err survives = record {
+  same = λ no. absurd (true≢false (sym no));
+  undone = λ up. still_or_undone sql [] old new up (err (clean_of up));
+  mode = λ up. begins_none sql [] old new (err (clean_of up));
   stays = λ no. absurd (true≢false (sym no));
   honest = λ clean. omega (arith, survives.clean, clean);
   survives = survives;

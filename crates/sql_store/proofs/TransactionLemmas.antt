@@ -1,6 +1,6 @@
 -- The texts that begin and end transactions, and statements in a transaction.
-use Rattle.std.proofs.Common.{◌≡◌, ◌⊎◌, inl, inr, ◌∙◌, ℕ, length, List, [], Bool, true, false, IsTrue, Option, None, Result, Ok, Err, refl, sym, ap, subst, true≢false, arith}
-use Rattle.std.specs.Prelude.{if◌then◌else◌, codes, IfOk, MatchBool, OnErr, OnOk, not, ◌==◌, ◌&&◌, ◌+◌}
+use Rattle.std.proofs.Common.{◌≡◌, ◌⊎◌, inl, inr, ◌∙◌, ℕ, length, List, [], Bool, true, false, IsTrue, Option, None, Some, Result, Ok, Err, refl, sym, ap, subst, true≢false, arith}
+use Rattle.std.specs.Prelude.{if◌then◌else◌, codes, IfOk, IfSome, MatchBool, OnErr, OnOk, not, ◌==◌, ◌&&◌, ◌+◌}
 use Rattle.std.proofs.lemmas.Bool.{cases_Bool}
 use Rattle.sqlite_ast.specs.declared.Conflict.TheVariants as conflict
 use Rattle.sqlite_ast.specs.declared.Statement.{Statement}
@@ -47,7 +47,7 @@ use Rattle.sql_rows.specs.declared.migration.OldTable.TheVariants as former
 use Rattle.sql_rows.specs.declared.statement.Table.{Table}
 use Rattle.sql_rows.specs.declared.statement.Table.TheVariants.{Carrier, Lrn, Code, Block, OldVersion, Broadcast, Wait, OldClock, NextRouting, WindowSet, Version, Clock}
 use Rattle.sql_rows.specs.Migration.{clear_text, create_text, index_text}
-use Rattle.sql_rows.specs.Statements.{delete_text, insert_text}
+use Rattle.sql_rows.specs.Statements.{delete_text, insert_text, replace_text}
 use Rattle.sql_store.specs.Transactions.{HasEnded, IsUndone, Stays, StaysInside}
 
 -- ---- the texts that stay in a transaction
@@ -55,6 +55,7 @@ use Rattle.sql_store.specs.Transactions.{HasEnded, IsUndone, Stays, StaysInside}
 -- Holds if the statement writes rows, or creates a table or an index.
 abbrev Alters : Statement → Type 0
 Alters (written.Insert conflict.Abort name columns rows clauses shown) = Unit {0}
+Alters (written.Insert conflict.Replace name columns rows clauses shown) = Unit {0}
 Alters (written.Delete name test shown) = Unit {0}
 Alters (written.CreateTable def) = Unit {0}
 Alters (written.CreateIndex def) = Unit {0}
@@ -185,6 +186,8 @@ commanded : (schema : Schema) (formats : List (List ℕ)) (base : ℕ) (s : Stat
 unfolding command
 commanded schema formats base (written.Insert conflict.Abort name columns rows clauses shown) is =
     insert_or_abort_stays schema base name columns rows clauses
+commanded schema formats base (written.Insert conflict.Replace name columns rows clauses shown) is =
+    insert_or_stays schema base how.Replace name columns rows clauses
 commanded schema formats base (written.Delete name test shown) is =
     delete_stays_so schema name test
 commanded schema formats base (written.CreateTable def) is = create_table_stays schema formats def
@@ -267,6 +270,22 @@ insert_alters WindowSet = tt
 insert_alters Version = tt
 insert_alters Clock = tt
 
+replace_alters : (t : Table) → IfSome (replace_text t)
+    (λ text. IfOk (first text) (λ p. Alters p.statement))
+unfolding first everything
+replace_alters Carrier = tt
+replace_alters Lrn = tt
+replace_alters Code = tt
+replace_alters Block = tt
+replace_alters OldVersion = tt
+replace_alters Broadcast = tt
+replace_alters Wait = tt
+replace_alters OldClock = tt
+replace_alters NextRouting = tt
+replace_alters WindowSet = tt
+replace_alters Version = tt
+replace_alters Clock = tt
+
 create_alters : (t : NewTable) → IfOk (first (create_text t)) (λ p. Alters p.statement)
 unfolding first everything
 create_alters made.NextRouting = tt
@@ -288,6 +307,10 @@ delete_stays t = stays_inside (delete_text t) (delete_alters t)
 
 pub insert_stays : (t : Table) → StaysInside (insert_text t)
 insert_stays t = stays_inside (insert_text t) (insert_alters t)
+
+pub replace_stays : (t : Table) (text : List ℕ) → replace_text t ≡ Some text → StaysInside text
+replace_stays t text is = stays_inside text (subst
+    (λ o. IfSome o (λ text. IfOk (first text) (λ p. Alters p.statement))) is (replace_alters t))
 
 pub create_stays : (t : NewTable) → StaysInside (create_text t)
 create_stays t = stays_inside (create_text t) (create_alters t)

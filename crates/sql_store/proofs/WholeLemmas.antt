@@ -292,7 +292,7 @@ pub reads_replaced : {X : Type 0} (t : Table) (entry : Row → Option X) (key pa
     → ((mid : Trees) → cast_rows t params mid ≡ row ∷ []) → Replaced t key params old new
     → EachReads entry (old.trees (tree_of t)) → EachReads entry (new.trees (tree_of t))
 reads_replaced t entry key params row x reads old new news r each q at =
-    let a = r.added row (news r.mid.trees) in
+    let a = r.added.adds row (news r.added.base) in
     elim (put_has row (r.mid.trees (tree_of t)) q (subst (λ rows. Has rows q) a.rows at)) [
       | inl same ↦ (x, ap entry same ∙ reads)
       | inr was ↦ each q (has_filtered _ (old.trees (tree_of t)) q (subst (λ rows. Has rows q)

@@ -9,6 +9,8 @@ pub mod Routed
 pub mod Blocks
 pub mod Whole
 pub mod Found
+pub mod Fresh
+pub mod Groups
 pub mod Kept
 pub mod Opened
 pub mod Files

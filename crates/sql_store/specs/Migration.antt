@@ -29,7 +29,7 @@ use Rattle.sql_rows.specs.declared.migration.SchemaVersion.{SchemaVersion}
 use Rattle.sql_rows.specs.declared.migration.SchemaVersion.TheVariants.{Modify}
 use Rattle.sql_rows.specs.declared.statement.Table.TheVariants.{OldVersion as OldTable, Version}
 use Rattle.sql_rows.specs.declared.version_row.OldVersion.{OldVersion}
-use Rattle.sql_store.specs.Store.{HasStoreTables, IsSame, HasCommittedNothing, Wrote}
+use Rattle.sql_store.specs.Store.{HasCommittedNothing, HasStoreTables, IsIdle, IsSame, Wrote}
 use Rattle.sql_store.specs.Whole.{AreRegistryRead, EachReads, HasPresentSet, IsMoved}
 
 -- Holds if each table of the schema has ascending rowids.
@@ -118,6 +118,7 @@ pub record HasMigrated (Becomes : Trees → Trees → Type 0) (old new : State)
     (done : Bool) : Type 0 where
   pub becomes : IsTrue done → IsTrue new.is_open → Becomes old.now.trees new.now.trees
   pub ours : IsTrue done → IsTrue new.is_open → HasStoreTables new
+  pub idle : IsTrue done → IsTrue new.is_open → IsIdle new
   pub same : IsTrue (not done) → IsTrue new.is_open → IsSame old new
   pub was_open : IsTrue new.is_open → IsTrue old.is_open
   pub honest : HasCleanDisk new → HasCleanDisk old

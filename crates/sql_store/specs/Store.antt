@@ -23,21 +23,28 @@ use Rattle.sql_rows.specs.Written.{Removed, Replaced}
 use Rattle.sql_rows.specs.Statements.{tree_of}
 use Rattle.sql_rows.specs.declared.statement.Table.{Table}
 use Rattle.sql_rows.specs.declared.statement.Table.TheVariants.{Clock, NextRouting, WindowSet}
+use Rattle.sql_store.specs.Transactions.{IsUndone}
 use Rattle.sql_store.specs.Whole.{EachReads}
 use Rattle.numbers.specs.Routings.{Routing}
 use Rattle.sqlite.specs.declared.types.Value.TheVariants.{Int}
 
 -- ---- between calls
 
--- Holds if the tables are the store's, and nothing is uncommitted.
+-- Holds if the tables are the store's, and those of the last commit are too.
 pub record HasStoreTables (s : State) : Type 0 where
   pub schema : s.now.schema ≡ the_schema
   pub shaped : AreShaped s.now.trees
+  pub last_schema : s.committed.schema ≡ the_schema
+  pub last_shaped : AreShaped s.committed.trees
+
+-- Holds if no transaction has begun, and so nothing is uncommitted.
+pub record IsIdle (s : State) : Type 0 where
+  pub mode : s.in_transaction ≡ false
   pub same_schema : s.now.schema ≡ s.committed.schema
   pub same_trees : s.now.trees ≡ s.committed.trees
 
-pub settled : (s : State) → HasStoreTables s → s.now ≡ s.committed
-settled s ours i = record { schema = ours.same_schema i; trees = ours.same_trees i }
+pub settled : (s : State) → IsIdle s → s.now ≡ s.committed
+settled s idle i = record { schema = idle.same_schema i; trees = idle.same_trees i }
 
 Schema-set : IsSet Schema
 Schema-set = Coded-set the_row.coded
@@ -49,6 +56,13 @@ HasStoreTables-prop : (s : State) → IsProp (HasStoreTables s)
 HasStoreTables-prop s a b i = record {
   schema = Schema-set _ _ a.schema b.schema i;
   shaped = AreShaped-prop s.now.trees a.shaped b.shaped i;
+  last_schema = Schema-set _ _ a.last_schema b.last_schema i;
+  last_shaped = AreShaped-prop s.committed.trees a.last_shaped b.last_shaped i;
+}
+
+pub IsIdle-prop : (s : State) → IsProp (IsIdle s)
+IsIdle-prop s a b i = record {
+  mode = Bool-set _ _ a.mode b.mode i;
   same_schema = Schema-set _ _ a.same_schema b.same_schema i;
   same_trees = Trees-set _ _ a.same_trees b.same_trees i;
 }
@@ -56,9 +70,6 @@ HasStoreTables-prop s a b i = record {
 -- The type of a ghost field must be a proposition.
 pub ours_if_open : (s : State) → IsProp (IsTrue s.is_open → HasStoreTables s)
 ours_if_open s = Π_prop (λ _. HasStoreTables-prop s)
-
-pub idle_if_open : (s : State) → IsProp (IsTrue s.is_open → s.in_transaction ≡ false)
-idle_if_open s = Π_prop (λ _. Bool-set _ _)
 
 -- The content of the tables.
 abbrev pub content_at : State → Content
@@ -70,9 +81,23 @@ pub record IsSame (old new : State) : Type 0 where
   pub now : new.now ≡ old.now
   pub committed : new.committed ≡ old.committed
 
--- Holds if a call only read. A shut connection answers no such call.
+-- Holds if nothing was committed, whether or not the call failed.
+pub record HasCommittedNothing (old new : State) : Type 0 where
+  pub was_open : IsTrue old.is_open
+  pub committed : new.committed ≡ old.committed
+
+-- Holds if a call committed nothing, and the tables are as they were or as at the last commit.
+pub record IsSameOrUndone (old new : State) : Type 0 where
+  pub was_open : IsTrue old.is_open
+  pub now : (new.now ≡ old.now) ⊎ (new.now ≡ old.committed)
+  pub committed : new.committed ≡ old.committed
+
+-- Holds if a call only read. If it failed, it may have undone a transaction. A shut connection
+-- answers no such call.
 pub record HasQueried (old new : State) (answered : Bool) : Type 0 where
-  pub same : IsTrue new.is_open → IsSame old new
+  pub same : IsTrue answered → IsTrue new.is_open → IsSame old new
+  pub undone : IsTrue new.is_open → IsSameOrUndone old new
+  pub mode : IsTrue new.is_open → old.in_transaction ≡ false → new.in_transaction ≡ false
   pub honest : HasCleanDisk new → HasCleanDisk old
   pub stays : IsTrue answered → HasCleanDisk new → IsTrue new.is_open
   pub survives : Survives old new (λ _. ⊥)
@@ -83,10 +108,34 @@ pub record HasCommitted (old new : State) (done : Bool) (Becomes : Content → C
   pub becomes : IsTrue done → IsTrue new.is_open → Becomes (content_at old) (content_at new)
   pub same : IsTrue (not done) → IsTrue new.is_open → IsSame old new
   pub was_open : IsTrue new.is_open → IsTrue old.is_open
+  pub idle : IsTrue new.is_open → IsIdle new
   pub honest : HasCleanDisk new → HasCleanDisk old
-  pub stays : IsTrue done → IsTrue old.is_open → HasCleanDisk new → IsTrue new.is_open
-  pub ours : IsTrue new.is_open → HasStoreTables new
+  pub stays : IsTrue done → HasCleanDisk new → IsTrue new.is_open
   pub crash : Survives old new (λ db. IsTrue old.is_open → Becomes (content_at old) (content_in db))
+
+-- Holds if a call wrote this in a transaction, which is not committed, or undid the transaction. A
+-- shut connection answers no such call.
+pub record HasWritten (old new : State) (done : Bool) (Becomes : Content → Content
+    → Type 0) : Type 0 where
+  pub becomes : IsTrue done → IsTrue new.is_open → Becomes (content_at old) (content_at new)
+  pub inside : IsTrue done → IsTrue new.is_open → IsTrue new.in_transaction
+  pub undone : IsTrue (not done) → IsTrue new.is_open → IsSameOrUndone old new
+  pub mode : IsTrue (not done) → IsTrue new.is_open → old.in_transaction ≡ false
+      → new.in_transaction ≡ false
+  pub kept : IsTrue new.is_open → HasCommittedNothing old new
+  pub honest : HasCleanDisk new → HasCleanDisk old
+  pub stays : IsTrue done → HasCleanDisk new → IsTrue new.is_open
+  pub survives : Survives old new (λ _. ⊥)
+
+-- Holds if a call committed what a group wrote, or undid it.
+pub record HasEndedGroup (old new : State) (done : Bool) : Type 0 where
+  pub same : IsTrue done → IsTrue new.is_open → new.now ≡ old.now
+  pub undone : IsTrue (not done) → IsTrue new.is_open → new.now ≡ old.committed
+  pub was_open : IsTrue new.is_open → IsTrue old.is_open
+  pub idle : IsTrue new.is_open → IsIdle new
+  pub honest : HasCleanDisk new → HasCleanDisk old
+  pub stays : IsTrue done → HasCleanDisk new → IsTrue new.is_open
+  pub crash : Survives old new (λ db. IsTrue old.is_open × (db ≡ old.now.trees))
 
 -- Holds if a crash leaves what it could leave before, or what the call made. This covers a shut
 -- connection too.
@@ -108,11 +157,6 @@ pub record Stepped (old new : State) (content : Content) : Type 0 where
   pub inside : IsInTransaction new
   pub committed : new.committed ≡ old.committed
   pub is : content_at new ≡ content
-
--- Holds if nothing was committed, whether or not the call failed.
-pub record HasCommittedNothing (old new : State) : Type 0 where
-  pub was_open : IsTrue old.is_open
-  pub committed : new.committed ≡ old.committed
 
 -- Holds if a statement changed the tables so.
 pub record Wrote (old new : State) (Did : Database → Database → Type 0) : Type 0 where
@@ -150,6 +194,16 @@ pub record AppliesInTransaction (old new : State) (done : Bool) (change : Conten
   pub kept : IsTrue new.is_open → HasCommittedNothing old new
   pub survives : Survives old new (λ _. ⊥)
 
+-- Holds if a call made this change of the content in a transaction, which it began if there was
+-- none, or undid the transaction.
+pub record HasWrittenOver (old new : State) (done : Bool) (change : Content
+    → Content) : Type 0 where
+  pub made : IsTrue done → HasCleanDisk new → IsTrue old.is_open
+      → Stepped old new (change (content_at old))
+  pub undone : IsTrue (not done) → HasCleanDisk new → IsUndone old new
+  pub kept : IsTrue new.is_open → HasCommittedNothing old new
+  pub survives : Survives old new (λ _. ⊥)
+
 -- Holds if the calls so far, with the change `left` after them, make the change `whole`.
 pub record IsTransactionProgress (old new : State) (left whole : Content → Content) : Type 0 where
   pub inside : HasCleanDisk new → IsInTransaction old → IsInTransaction new
@@ -175,3 +229,8 @@ clean_if_open false is_open law h = absurd (let e = law refl in let f : is_open 
 pub left_one : (m : Content) (db committed now : Trees) → m ≡ content_in db → db ≡ committed
     → now ≡ committed → m ≡ content_in now
 left_one m db committed now is left same = is ∙ ap content_in (left ∙ sym same)
+
+-- Inside a group, a crash leaves the content of its beginning.
+pub left_start : (start m : Content) (db committed : Trees) → start ≡ content_in committed
+    → m ≡ content_in db → db ≡ committed → m ≡ start
+left_start start m db committed begun is left = is ∙ ap content_in left ∙ sym begun

@@ -2,7 +2,7 @@
 ghost use Rattle.std.specs.Prelude.{is_ok};
 ghost use Rattle.sqlite.specs.Held.{state};
 ghost use Rattle.sqlite.specs.Values.{bound};
-ghost use Rattle.sql_rows.specs.Written.{Removed, AddedBy, Replaced};
+ghost use Rattle.sql_rows.specs.Written.{IsKeyOf, Removed, AddedBy, Replaced};
 ghost use Rattle.sql_store.specs.Store.{WritesInTransaction};
 
 use crate::transaction::execute;
@@ -36,18 +36,27 @@ fn insert<S: Alter>(
     Ok(())
 }
 
-/// Writes a row, replacing the one with its key.
+/// Writes a row, replacing the one with its key: in one statement, if the table has no other unique
+/// columns.
 pub(crate) fn replace<S: Alter>(
     conn: &mut Connection<S>,
     table: Table,
     key: &[ValueRef<'_>],
     row: &[ValueRef<'_>],
 ) -> Result<(), Fault>
+    requires { IsKeyOf table (bound key.now) (bound row.now) }
     ensures { WritesInTransaction (state S.Store conn.old)
         (state S.Store conn.new)
         (is_ok result) (Replaced table (bound key.now) (bound row.now)) }
 {
-    take(conn, table, key)?;
-    insert(conn, table, row)?;
+    match table.replace_text() {
+        Some(text) => {
+            execute(conn, text, row)?;
+        }
+        None => {
+            take(conn, table, key)?;
+            insert(conn, table, row)?;
+        }
+    }
     Ok(())
 }

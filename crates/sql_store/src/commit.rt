@@ -1,12 +1,14 @@
-//! Commits a batch of changes in one transaction.
-ghost use Rattle.std.specs.Prelude.{◌≡◌, false, IsTrue, Option, Some, is_ok};
+//! Commits batches of changes: each in a transaction of its own, or several in one.
+ghost use Rattle.std.specs.Prelude.{◌≡◌, false, IsTrue, OnErr, OnOk, Option, Some, is_ok};
 ghost use Rattle.sqlite.specs.Held.{state};
+ghost use Rattle.sqlite.specs.State.{HasCleanDisk, Shows, Survives};
 ghost use Rattle.numbers.specs.Abstraction.{subject_of};
 ghost use Rattle.settle.specs.Abstraction.{spid_of, lrn_of, code_of, block_of, block_row_of, broadcast_row_of, broadcast_key_of, wait_key_of};
 ghost use Rattle.model.specs.Content.{ClockRow as Row};
 ghost use Rattle.settle.specs.Changes.{changes_of, clock_after, AppliesChanges};
-ghost use Rattle.sql_store.specs.Store.{CommitLeaves, HasStoreTables, AppliesInTransaction, HasCommitted};
-ghost use Rattle.sql_store.specs.Changes.{singles, lists, with_changes, all_made, if_some, with_carrier, with_lrn, with_code, with_block, clock_made, IsChangedOver, with_version, without_version, with_broadcast, without_broadcast, with_wait, without_wait};
+ghost use Rattle.sql_store.specs.Store.{CommitLeaves, HasStoreTables, AppliesInTransaction, HasCommitted, HasEndedGroup, HasWritten, HasWrittenOver, IsIdle};
+ghost use Rattle.sql_store.specs.Transactions.{HasEnded, IsUndone};
+ghost use Rattle.sql_store.specs.Changes.{singles, lists, with_changes, all_made, if_some, with_carrier, with_lrn, with_code, with_block, clock_made, with_version, without_version, with_broadcast, without_broadcast, with_wait, without_wait};
 
 use crate::database::Database;
 use crate::kept::clock;
@@ -222,7 +224,7 @@ fn write_lists<S: Alter>(conn: &mut Connection<S>, changes: &Changes) -> Result<
 }
 
 // Writes all rows of a batch.
-fn write<S: Alter>(
+fn write_rows<S: Alter>(
     conn: &mut Connection<S>,
     changes: &Changes,
     row: Option<ClockRow>,
@@ -235,28 +237,25 @@ fn write<S: Alter>(
     Ok(())
 }
 
-// Applies all changes in one transaction, or none. `row` is the clock's row, for changes that
-// depend on it.
-fn commit_over<S: Alter>(
+// Writes all rows of a batch in the transaction, which it begins if necessary. If a write fails, the
+// transaction is rolled back. `row` is the clock's row, for changes that depend on it.
+fn write_or_undo<S: Alter>(
     conn: &mut Connection<S>,
     changes: &Changes,
     row: Option<ClockRow>,
 ) -> Result<(), Fault>
-    requires ours { IsTrue (state S.Store conn.old).is_open
-        → HasStoreTables (state S.Store conn.old) }
-    requires idle { IsTrue (state S.Store conn.old).is_open
-        → (state S.Store conn.old).in_transaction ≡ false }
-    ensures committed { HasCommitted (state S.Store conn.old) (state S.Store conn.new)
-        (is_ok result) (IsChangedOver changes.now row) }
-    ensures idle { IsTrue (state S.Store conn.new).is_open
-        → (state S.Store conn.new).in_transaction ≡ false }
+    requires { IsTrue (state S.Store conn.old).is_open → HasStoreTables (state S.Store conn.old) }
+    ensures { HasWrittenOver (state S.Store conn.old) (state S.Store conn.new) (is_ok result)
+        (with_changes changes.now row) }
 {
-    transaction::begin(conn)?;
-    if let Err(fault) = write(conn, changes, row) {
+    if conn.is_autocommit() {
+        transaction::begin(conn)?;
+    }
+    if let Err(fault) = write_rows(conn, changes, row) {
         transaction::roll_back(conn);
         return Err(fault);
     }
-    transaction::commit(conn)
+    Ok(())
 }
 
 // Returns the clock's row, if the changes leave it.
@@ -271,19 +270,72 @@ fn unchanged(changes: &Changes, row: Option<ClockRow>) -> Option<ClockRow>
     }
 }
 
-/// Applies all changes in one transaction, or none. Reads the clock's row first: a shut connection
-/// fails there, and nothing is written to it.
+/// Writes all changes in the transaction, which it begins if necessary. If a write fails, the
+/// transaction is rolled back. Reads the clock's row first: a shut connection fails there, and
+/// nothing is written to it.
+pub(crate) fn write<S: Alter>(db: &mut Database<S>, changes: &Changes) -> Result<(), Fault>
+    ensures { HasWritten (state S.Store db.old.conn) (state S.Store db.new.conn) (is_ok result)
+        (AppliesChanges (changes_of changes.now)) }
+{
+    let row = clock(db)?;
+    db.clock = None;
+    let done = write_or_undo(&mut db.conn, changes, row);
+    if done.is_ok() {
+        db.clock = unchanged(changes, row);
+    }
+    done
+}
+
+// Commits the transaction, or rolls it back.
+fn commit_written<S: Alter>(db: &mut Database<S>) -> Result<(), Fault>
+    ensures committed { HasCleanDisk (state S.Store db.new.conn) → OnOk result
+        (Shows (state S.Store db.old.conn) (state S.Store db.new.conn) (state S.Store db.old.conn).now
+        (state S.Store db.old.conn).now false) }
+    ensures err { HasCleanDisk (state S.Store db.new.conn) → OnErr result
+        (HasEnded (state S.Store db.old.conn) (state S.Store db.new.conn)) }
+    ensures survives { Survives (state S.Store db.old.conn) (state S.Store db.new.conn)
+        (λ trees. trees ≡ (state S.Store db.old.conn).now.trees) }
+{
+    // A failure may roll back to another row, or shut the connection.
+    let clock = db.clock.take();
+    transaction::commit(&mut db.conn)?;
+    db.clock = clock;
+    Ok(())
+}
+
+/// Applies all changes in one transaction, or none.
 pub(crate) fn commit<S: Alter>(db: &mut Database<S>, changes: &Changes) -> Result<(), Fault>
+    requires { IsTrue (state S.Store db.old.conn).is_open → IsIdle (state S.Store db.old.conn) }
     ensures committed { HasCommitted (state S.Store db.old.conn) (state S.Store db.new.conn)
         (is_ok result) (AppliesChanges (changes_of changes.now)) }
     ensures left { CommitLeaves (state S.Store db.old.conn) (state S.Store db.new.conn)
         (AppliesChanges (changes_of changes.now)) }
 {
-    let row = clock(db)?;
+    write(db, changes)?;
+    commit_written(db)
+}
+
+/// Rolls back the transaction, if there is one.
+pub(crate) fn undo<S: Alter>(db: &mut Database<S>)
+    ensures undone { HasCleanDisk (state S.Store db.new.conn)
+        → IsUndone (state S.Store db.old.conn) (state S.Store db.new.conn) }
+    ensures survives { Survives (state S.Store db.old.conn) (state S.Store db.new.conn) (λ _. ⊥) }
+{
     db.clock = None;
-    let done = commit_over(&mut db.conn, changes, row);
-    if done.is_ok() {
-        db.clock = unchanged(changes, row);
+    transaction::roll_back(&mut db.conn);
+}
+
+/// Commits the transaction, if one has begun, or rolls it back. Reads the clock's row first: a shut
+/// connection fails there.
+pub(crate) fn end<S: Alter>(db: &mut Database<S>) -> Result<(), Fault>
+    ensures { HasEndedGroup (state S.Store db.old.conn) (state S.Store db.new.conn) (is_ok result) }
+{
+    if let Err(fault) = clock(db) {
+        undo(db);
+        return Err(fault);
     }
-    done
+    if db.conn.is_autocommit() {
+        return Ok(());
+    }
+    commit_written(db)
 }

@@ -8,6 +8,7 @@ ghost use Rattle.sqlite.specs.State.{HasCleanDisk};
 ghost use Rattle.sqlite.specs.Tree.{Trees};
 ghost use Rattle.sqlite.specs.WalFiles.{image_at};
 ghost use Rattle.sqlite.specs.WalReads.{AreClean};
+ghost use Rattle.sql_store.specs.Fresh.{IsFresh};
 ghost use Rattle.sql_store.specs.Files.{IsKeptAt, IsRefusedAt};
 ghost use Rattle.sql_store.specs.Opened.{HasSameRows, IsTakenAs};
 ghost use Rattle.sql_store.specs.Whole.{IsBegunOrEmpty};
@@ -71,7 +72,7 @@ impl<S: Start> SqlStore<FileStore<FileFrom<S>>> {
         ensures taken { IfOk result (λ s. HasCleanDisk (file_state s.db.conn) → (db : Trees)
             → HoldsDatabase (image_at S.Start) db
             → IsTakenAs (windows_of windows.now) db (file_state s.db.conn).now.trees) }
-        ensures none { IfOk result (λ s. s.failures ≡ 0) }
+        ensures none { IfOk result (λ s. IsFresh s) }
         // Nothing of the database is lost, and only a file with other windows is refused for them.
         ensures refused { IfErr result (λ e. (db : Trees) → HoldsDatabase (image_at S.Start) db
             → IsRefusedAt over_files (windows_of windows.now) db e.0 e.1) }
@@ -109,7 +110,7 @@ impl<S: Start> SqlStore<FileStore<FileFrom<S>>> {
             → HasSameRows db (file_state s.db.conn).now.trees) }
         ensures begun { IfOk result (λ s. HasCleanDisk (file_state s.db.conn)
             → IsBegunOrEmpty (file_state s.db.conn).now.trees) }
-        ensures none { IfOk result (λ s. s.failures ≡ 0) }
+        ensures none { IfOk result (λ s. IsFresh s) }
         ensures refused { IfErr result (λ e. (db : Trees) → HoldsDatabase (image_at S.Start) db
             → IsKeptAt over_files db e.1) }
         ensures fault { IfErr result (λ e. e.0 ≢ FileFault.WindowsDiffer) }

@@ -7,6 +7,7 @@ mod commit;
 mod database;
 mod file;
 mod file_fault;
+mod group;
 mod kept;
 mod lists;
 mod lookups;

@@ -12,12 +12,13 @@ ghost use Rattle.sql_store.specs.Lists.{download_of, is_waiting};
 ghost use Rattle.sql_store.specs.Store.{HasStoreTables, HasQueried, content_at};
 
 use crate::database::Database;
+use crate::lookups::carrier;
 use crate::order::put_in_order;
-use crate::select::find_all;
+use crate::select::{find, find_all};
 use delivery::{Broadcast, DownloadKey};
 use numbers::{Minute, Spid, Subject};
 use settle::{BroadcastKey, Few, WaitKey};
-use sql_rows::{Fault, Query, Table, broadcast_key, spid_bytes, subject, text, truth};
+use sql_rows::{Fault, Query, Table, broadcast_key, spid_bytes, subject, text, truth, wait_key};
 use sqlite::Alter;
 use std::alloc::Global;
 
@@ -148,9 +149,9 @@ fn are_all(carriers: &[Spid], carrier: Spid) -> bool
     carriers.iter().all(|other| *other == carrier)
 }
 
-/// Returns whether `wait` is the last pending download of its broadcast: no other registered
-/// carrier has one.
-pub(crate) fn is_last_wait<S: Alter>(db: &mut Database<S>, wait: WaitKey) -> Result<bool, Fault>
+// Returns whether `wait` is the last pending download of its broadcast, by the downloads of all
+// carriers.
+fn is_last_of_all<S: Alter>(db: &mut Database<S>, wait: WaitKey) -> Result<bool, Fault>
     ensures value { IsTrue (state S.Store db.new.conn).is_open
         → IfOk result (λ last. last ≡ is_last_wait (content_at (state S.Store db.old.conn))
         (wait_key_of wait)) }
@@ -162,6 +163,32 @@ pub(crate) fn is_last_wait<S: Alter>(db: &mut Database<S>, wait: WaitKey) -> Res
     };
     let waiters = waiters(db, wait.minute, key)?;
     Ok(are_all(waiters.as_slice(), wait.carrier))
+}
+
+/// Returns whether `wait` is the last pending download of its broadcast: no other registered
+/// carrier has one.
+///
+/// Reads one download of another carrier. Reads them all only if this carrier is not registered,
+/// which never holds in a register's file.
+pub(crate) fn is_last_wait<S: Alter>(db: &mut Database<S>, wait: WaitKey) -> Result<bool, Fault>
+    ensures value { IsTrue (state S.Store db.new.conn).is_open
+        → IfOk result (λ last. last ≡ is_last_wait (content_at (state S.Store db.old.conn))
+        (wait_key_of wait)) }
+    ensures queried { HasQueried (state S.Store db.old.conn) (state S.Store db.new.conn) (is_ok result) }
+{
+    if wait.id >= 9_223_372_036_854_775_808 || wait.attempt >= 9_223_372_036_854_775_808 {
+        return is_last_of_all(db, wait);
+    }
+    let bytes = spid_bytes(wait.carrier.number);
+    let params = wait_key(wait, &bytes);
+    let found: Option<(WaitKey, Subject)> = find(db, Query::WaitOfAnother, &params)?;
+    let Some((other, _)) = found else {
+        return Ok(true);
+    };
+    if carrier(db, other.carrier)? {
+        return Ok(false);
+    }
+    is_last_of_all(db, wait)
 }
 
 fn rise(broadcasts: &[(BroadcastKey, Broadcast)]) -> bool

@@ -11,6 +11,8 @@ ghost use Rattle.sql_rows.specs.Content.{content_in};
 ghost use Rattle.sql_rows.specs.Faults.{fault_of, store_fault_of};
 ghost use Rattle.sql_rows.specs.Tables.{no_schema, the_schema};
 ghost use Rattle.sql_rows.specs.Migration.{schema_of};
+ghost use Rattle.sql_store.specs.Fresh.{IsFresh};
+ghost use Rattle.sql_store.specs.Store.{IsIdle};
 ghost use Rattle.sql_store.specs.Migration.{IsMovedFrom, HasDifferentWindows};
 ghost use Rattle.sql_store.specs.Opened.{HadOtherWindows, HasSameRows, IsRefusedAs, IsTakenAs, IsCrashStateOfOpen, WasOpened};
 ghost use Rattle.sql_store.specs.Refusal.{IsLeftClean, IsLeftUsable, may_leave_of, trees_of};
@@ -20,6 +22,7 @@ ghost use Rattle.sql_store.specs.Whole.{IsBegunOrEmpty, IsWhole, ReadsAll};
 use crate::SqlStore;
 use crate::database::Database;
 use crate::file_fault::FileFault;
+use crate::group::Group;
 use crate::migration::migrate;
 use crate::refused::Refused;
 use crate::schema::{is_ours, schema_version_of};
@@ -123,10 +126,15 @@ impl<S: Alter + Drop> SqlStore<S> {
     }
 
     fn of(db: Database<S>) -> SqlStore<S>
+        requires { IsTrue (state S.Store db.conn).is_open → IsIdle (state S.Store db.conn) }
         ensures db { result.db ≡ db }
-        ensures none { result.failures ≡ 0 }
+        ensures none { IsFresh result }
     {
-        SqlStore { db, failures: 0 }
+        SqlStore {
+            db,
+            failures: 0,
+            group: Group::None,
+        }
     }
 
     // Takes a newly opened connection, if its tables are the schema's.
@@ -135,7 +143,7 @@ impl<S: Alter + Drop> SqlStore<S> {
         requires fresh { IsNew conn }
         ensures same { IfOk result (λ s. s.db.conn ≡ conn) }
         ensures ours { IfOk result (λ s. (state S.Store conn).now.schema ≡ the_schema) }
-        ensures none { IfOk result (λ s. s.failures ≡ 0) }
+        ensures none { IfOk result (λ s. IsFresh s) }
         ensures err { IfErr result (λ e. e ≡ conn) }
     {
         if is_ours(conn.schema()) {
@@ -155,13 +163,13 @@ impl<S: Alter + Drop> SqlStore<S> {
             e.0.db.conn).now.trees ≡ (state S.Store self.db.conn).now.trees) }
         ensures reads { IfOk result (λ e. IsTrue (state S.Store e.0.db.conn).is_open → ReadsAll (state
             S.Store e.0.db.conn).now.trees e.1) }
-        ensures none { IfOk result (λ e. e.0.failures ≡ self.failures) }
+        ensures none { IfOk result (λ e. (e.0.failures ≡ self.failures) × (e.0.group ≡ self.group)) }
         ensures clean { IfOk result (λ e. doubt (state S.Store self.db.conn).is_clean ≤ doubt (state
             S.Store e.0.db.conn).is_clean) }
         ensures err_clean { IfErr result (λ e. doubt (state S.Store self.db.conn).is_clean ≤ doubt
             (S.Store.view e.1).is_clean) }
         ensures err { IfErr result (λ e. IsClean (S.Store.view e.1) → IsTrue (S.Store.view
-            e.1).is_open → (S.Store.view e.1).trees ≡ (state S.Store self.db.conn).now.trees) }
+            e.1).is_open → (S.Store.view e.1).trees ≡ (state S.Store self.db.conn).committed.trees) }
         ensures crash { IfErr result (λ e. IsClean (S.Store.view e.1) → (db : Trees)
             → S.Store.recovers e.1 db → (state S.Store self.db.conn).may_leave db) }
     {
@@ -179,7 +187,7 @@ impl<S: Alter + Drop> SqlStore<S> {
             (state S.Store s.db.conn).now.trees ≡ empty_content) }
         ensures whole { IfOk result (λ s. HasCleanDisk (state S.Store s.db.conn)
             → IsWhole (state S.Store s.db.conn).now.trees) }
-        ensures none { IfOk result (λ s. s.failures ≡ 0) }
+        ensures none { IfOk result (λ s. IsFresh s) }
         ensures honest { IfOk result (λ s. HasCleanDisk (state S.Store s.db.conn)
             → HasCleanDisk (state S.Store conn)) }
         ensures err_honest { IfErr result (λ e. IsClean (S.Store.view e.1)
@@ -214,7 +222,7 @@ impl<S: Alter + Drop> SqlStore<S> {
         ensures moved { IfOk result (λ s. IsTrue (state S.Store s.db.conn).is_open
             → IsMovedFrom schema_version (windows_of windows.now) (state S.Store conn).now.trees
             (state S.Store s.db.conn).now.trees) }
-        ensures none { IfOk result (λ s. s.failures ≡ 0) }
+        ensures none { IfOk result (λ s. IsFresh s) }
         ensures honest { IfOk result (λ s. HasCleanDisk (state S.Store s.db.conn)
             → HasCleanDisk (state S.Store conn)) }
         ensures err_honest { IfErr result (λ e. IsClean (S.Store.view e.1)
@@ -250,7 +258,7 @@ impl<S: Alter + Drop> SqlStore<S> {
             → IsWhole (state S.Store s.db.conn).now.trees) }
         ensures begun { IfOk result (λ s. HasCleanDisk (state S.Store s.db.conn)
             → IsBegunOrEmpty (state S.Store s.db.conn).now.trees) }
-        ensures none { IfOk result (λ s. s.failures ≡ 0) }
+        ensures none { IfOk result (λ s. IsFresh s) }
         ensures honest { IfOk result (λ s. HasCleanDisk (state S.Store s.db.conn)
             → HasCleanDisk (state S.Store conn)) }
         ensures err_honest { IfErr result (λ e. IsLeftClean S.Store e.1
@@ -282,7 +290,7 @@ impl<S: Alter + Drop> SqlStore<S> {
         ensures taken { IfOk result (λ s. HasCleanDisk (state S.Store s.db.conn)
             → IsTakenAs (windows_of windows.now) (state S.Store conn).now.trees
             (state S.Store s.db.conn).now.trees) }
-        ensures none { IfOk result (λ s. s.failures ≡ 0) }
+        ensures none { IfOk result (λ s. IsFresh s) }
         ensures honest { IfOk result (λ s. HasCleanDisk (state S.Store s.db.conn)
             → HasCleanDisk (state S.Store conn)) }
         ensures err_honest { IfErr result (λ e. IsLeftClean S.Store e.1
@@ -334,7 +342,7 @@ impl<S: Alter + Drop> SqlStore<S> {
         ensures taken { IfOk result (λ s. HasCleanDisk (state S.Store s.db.conn)
             → IsTakenAs (windows_of windows.now) (state S.Store conn).committed.trees
             (state S.Store s.db.conn).now.trees) }
-        ensures none { IfOk result (λ s. s.failures ≡ 0) }
+        ensures none { IfOk result (λ s. IsFresh s) }
         ensures honest { IfOk result (λ s. HasCleanDisk (state S.Store s.db.conn)
             → HasCleanDisk (state S.Store conn)) }
         ensures err_honest { IfErr result (λ e. IsLeftClean S.Store e.1
@@ -369,6 +377,7 @@ impl<S: Alter + Drop> SqlStore<S> {
         let SqlStore {
             db: Database { conn, clock: _ },
             failures: _,
+            group: _,
         } = self;
         conn
     }
@@ -384,7 +393,7 @@ impl SqlStore<MemStore> {
         ensures open { IfOk result (λ s. IsTrue (state over_memory s.db.conn).is_open) }
         ensures content { IfOk result (λ s. content_in (state over_memory s.db.conn).now.trees
             ≡ empty_content) }
-        ensures none { IfOk result (λ s. s.failures ≡ 0) }
+        ensures none { IfOk result (λ s. IsFresh s) }
     {
         match Connection::open_in_memory(alloc) {
             Ok(conn) => match SqlStore::create(alloc, conn) {

@@ -185,7 +185,7 @@ pub(crate) fn put_version<S: Alter>(
     Ok(())
 }
 
-/// Deletes a version's row, and the routing that it sends.
+/// Deletes a version's row. A routing stored for it stays, and belongs to no version.
 pub(crate) fn delete_version<S: Alter>(conn: &mut Connection<S>, id: u64) -> Result<(), Fault>
     ensures { AppliesInTransaction (state S.Store conn.old)
         (state S.Store conn.new) (is_ok result) (without_version id) }
@@ -194,7 +194,6 @@ pub(crate) fn delete_version<S: Alter>(conn: &mut Connection<S>, id: u64) -> Res
         return Err(Fault::Device);
     }
     take(conn, Table::Version, &[number(id)])?;
-    delete_routing(conn, id)?;
     Ok(())
 }
 

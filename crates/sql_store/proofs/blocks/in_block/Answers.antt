@@ -1,4 +1,4 @@
-use Rattle.std.proofs.Common.{◌++◌, sym, ap, subst, ◌∙◌, map}
+use Rattle.std.proofs.Common.{◌++◌, sym, ap, subst, ◌∙◌, map, refl}
 use Rattle.sqlite.specs.Held.{state}
 use Rattle.sqlite.specs.Effect.{Database}
 use Rattle.sqlite_rules.specs.Lists.{Has}
@@ -16,8 +16,8 @@ returns-clause-value g c up =
     let block = c.args.block.number in
     let in_force = c.in_ok-in_force.in_force.items in
     let opened = c.in_ok-opened.opened.items in
-    let mid_up = (c.in_ok-opened.ensures.queried.same up).was_open in
-    let same = (c.in_ok-in_force.ensures.queried.same mid_up).now in
+    let mid_up = (c.in_ok-opened.ensures.queried.same refl up).was_open in
+    let same = (c.in_ok-in_force.ensures.queried.same refl mid_up).now in
     let two = subst (λ (d : Database). AreNumbers (content_in d.trees) Open block opened) same
     (c.in_ok-opened.ensures.value up) in
     let listed =

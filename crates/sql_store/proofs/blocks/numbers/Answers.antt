@@ -1,4 +1,4 @@
-use Rattle.std.proofs.Common.{◌≡◌, ◌∷◌, [], ◌+◌, ◌*◌, pos, arith, ap, subst, ◌∙◌, map}
+use Rattle.std.proofs.Common.{◌≡◌, ◌∷◌, [], ◌+◌, ◌*◌, pos, arith, ap, subst, ◌∙◌, map, refl}
 use Rattle.std.specs.List.{filter_map}
 use Rattle.settle.specs.declared.rows.NumberedRow.{NumberedRow}
 use Rattle.sqlite.specs.Held.{state}
@@ -18,7 +18,7 @@ returns-clause-value g c up =
     let old = state g.S.Store c.args.db.now.conn in
     let found = c.in_ok-found.found.items in
     let block = c.args.block.number in
-    let was = (c.in_ok-found.ensures.queried.same up).was_open in
+    let was = (c.in_ok-found.ensures.queried.same refl up).was_open in
     let same : c.from-first.result ≡ block = omega arith in
     let params = two_bound c.number.result c.number-2.result (block * 1000) (block * 1000 + 999)
     (c.number.ensures ∙ ap (λ k. Int (pos (k * 1000))) same) (c.number-2.ensures

@@ -3,7 +3,7 @@ use Rattle.sqlite.specs.Held.{state}
 use Rattle.sqlite.specs.State.{Executes}
 use Rattle.sqlite.specs.Values.{bound}
 use Rattle.sql_rows.specs.Written.{AddedBy}
-use Rattle.sql_rows.proofs.WriteLemmas.{adds}
+use Rattle.sql_rows.proofs.WriteLemmas.{inserts}
 use Rattle.sql_store.specs.Store.{WritesInTransaction}
 use Rattle.sql_store.proofs.CallLemmas.{clean_if_open, statement_writes}
 use Rattle.sql_store.specs.Transactions.{StaysInside}
@@ -21,7 +21,7 @@ returns-in_err-execute g c =
     c.insert_text.result.now params c.execute.result false (AddedBy c.args.table params)
     (clean_if_open new.is_clean new.is_open (g.met.S.Store.shut_if_dirty _)) c.execute.ensures.ended
     c.execute.ensures.runs c.execute.ensures.survives (λ bad. absurd (true≢false (sym bad)))
-    (λ count inside h row cast. adds c.args.table params old new inside.schema count row cast
+    (λ count inside h. inserts c.args.table params old new inside.schema count
     (subst (λ t. Executes t params old new (Ok count)) c.insert_text.ensures h)))
 
 pub returns : goal.returns
@@ -34,7 +34,7 @@ returns g c =
     (clean_if_open new.is_clean new.is_open (g.met.S.Store.shut_if_dirty _)) c.execute.ensures.ended
     c.execute.ensures.runs c.execute.ensures.survives
     (λ _. (c.in_ok-execute.field-0, c.in_ok-execute.was))
-    (λ count inside h row cast. adds c.args.table params old new inside.schema count row cast
+    (λ count inside h. inserts c.args.table params old new inside.schema count
     (subst (λ t. Executes t params old new (Ok count)) c.insert_text.ensures h))
 
 pub execute-requires : goal.execute-requires

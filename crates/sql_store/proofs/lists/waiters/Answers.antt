@@ -1,4 +1,4 @@
-use Rattle.std.proofs.Common.{◌≡◌, nat_lt, ◌&&◌, false, filter, map, sym, ap, subst, ◌∙◌, arith}
+use Rattle.std.proofs.Common.{◌≡◌, nat_lt, ◌&&◌, false, filter, map, sym, ap, subst, ◌∙◌, arith, refl}
 use Rattle.sqlite.specs.Held.{state}
 use Rattle.sqlite.specs.Effect.{Database}
 use Rattle.settle.specs.Reads.{AreCarriers, AreWaiters}
@@ -42,8 +42,8 @@ returns-clause-value g c up =
     let key = c.args.key in
     let waits = c.in_ok-waits.waits.items in
     let carriers = c.in_ok-carriers.carriers.items in
-    let open_mid = (c.in_ok-waits.ensures.queried.same up).was_open in
-    let same = (c.in_ok-carriers.ensures.queried.same open_mid).now in
+    let open_mid = (c.in_ok-waits.ensures.queried.same refl up).was_open in
+    let same = (c.in_ok-carriers.ensures.queried.same refl open_mid).now in
     let answer = subst (λ p. IsListAnswer WaitsOf wait_in mid.now.trees p (map wait_seen waits))
     (bound_broadcast_key _ (broadcast_key_of key) c.broadcast_key.ensures)
     (c.in_ok-waits.ensures.value up) in

@@ -1,4 +1,4 @@
-use Rattle.std.proofs.Common.{◌≡◌, subst}
+use Rattle.std.proofs.Common.{◌≡◌, subst, refl}
 use Rattle.std.specs.FinMap.{get}
 use Rattle.std.specs.Prelude.{option_map}
 use Rattle.sqlite.specs.Held.{state}
@@ -11,8 +11,8 @@ use Rattle.sql_store.proofs.lookups.clock.Goals as goal
 pub returns-in-Some-found-clause-value : goal.returns-in-Some-found-clause-value
 returns-in-Some-found-clause-value g c up =
     let old = (state g.S.Store c.args.db.now.conn).now in
-    let second = c.in_ok-found.ensures.queried.same up in
-    let first = c.in_ok-stored.ensures.queried.same second.was_open in
+    let second = c.in_ok-found.ensures.queried.same refl up in
+    let first = c.in_ok-stored.ensures.queried.same refl second.was_open in
     the_clock old.trees c.in_ok-stored.stored c.in-Some.row c.in_ok-found.found
     c.in-Some-found.windows c.in-Some.is (c.in_ok-stored.ensures.value second.was_open)
     c.in-Some-found.is
@@ -28,8 +28,8 @@ returns-in_default-clause-value g c up =
 pub returns-in-Some-found-clause-present : goal.returns-in-Some-found-clause-present
 returns-in-Some-found-clause-present g c up =
     let old = (state g.S.Store c.args.db.now.conn).now in
-    let second = c.in_ok-found.ensures.queried.same up in
-    let first = c.in_ok-stored.ensures.queried.same second.was_open in
+    let second = c.in_ok-found.ensures.queried.same refl up in
+    let first = c.in_ok-stored.ensures.queried.same refl second.was_open in
     set_there old.trees c.in_ok-stored.stored c.in-Some.row c.in_ok-found.found
     c.in-Some-found.windows c.in-Some.is (c.in_ok-stored.ensures.value second.was_open)
     c.in-Some-found.is

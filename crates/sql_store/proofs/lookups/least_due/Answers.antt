@@ -1,10 +1,11 @@
+use Rattle.std.proofs.Common.{refl}
 use Rattle.sqlite.specs.Held.{state}
 use Rattle.sql_store.proofs.LookupLemmas.{due_is}
 use Rattle.sql_store.proofs.lookups.least_due.Goals as goal
 
 pub returns-clause-value : goal.returns-clause-value
 returns-clause-value g c up =
-    let ours = c.args.db.now.ours (c.in_ok-found.ensures.queried.same up).was_open in
+    let ours = c.args.db.now.ours (c.in_ok-found.ensures.queried.same refl up).was_open in
     due_is (state g.S.Store c.args.db.now.conn).now.trees c.minute.result ours.shaped
     c.args.now.number
     c.minute.ensures c.in_ok-found.found (c.in_ok-found.ensures.value up)

@@ -10,7 +10,6 @@ use Rattle.sql_rows.specs.declared.fault.Fault.TheVariants.{Device}
 use Rattle.sql_store.specs.Migration.{AreIdsOf, HasIds}
 use Rattle.sql_store.specs.Store.{HasQueried, clean_if_open}
 use Rattle.sql_store.proofs.CallLemmas.{both_survive, fails_as, query_commits_nothing}
-use Rattle.sql_store.proofs.MigrationLemmas.{settled_as}
 use Rattle.sql_store.proofs.ThroughLemmas.{err_from, ids_read, old_plain, read_from, table_looked}
 use Rattle.sql_store.proofs.migration.ids_of.Goals as goal
 
@@ -29,7 +28,6 @@ returns-in_err-rows-clause-queried g c =
     let looked : HasQueried old new false =
     table_looked {R = Unit {0}} old_version_in (λ r seen. Unit {0}) text old new (Err Device)
     (old_plain old_version_in OldVersion old old c.args.schema_version tt c.requires.old)
-    (λ was. settled_as c.args.schema_version old (c.requires.old was))
     (clean_if_open new.is_clean new.is_open (g.met.S.Store.shut_if_dirty _)) (λ clean. tt)
     (λ clean. fails_as c.text.result.now [] old new c.in_err-rows.field-0.0
     (rw c.in_err-rows.was at (fails clean))) survives in
@@ -73,7 +71,6 @@ returns-clause-queried g c =
     c.in_ok-rows.ensures.survives) in
     let looked : HasQueried old new (is_ok c.ids_among.result) =
     table_looked old_version_in (λ ids. AreIdsOf ids.items) text old new c.ids_among.result plain
-    (λ was. settled_as c.args.schema_version old (c.requires.old was))
     (clean_if_open new.is_clean new.is_open (g.met.S.Store.shut_if_dirty _)) all err
     (both_survive old mid new asked c.ids_among.ensures.survives) in
     search rules

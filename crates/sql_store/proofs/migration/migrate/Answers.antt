@@ -1,4 +1,4 @@
-use Rattle.std.proofs.Common.{rules, IsTrue, true, subst, sym, ◌∙◌}
+use Rattle.std.proofs.Common.{rules, IsTrue, true, subst, sym, ◌∙◌, refl}
 use Rattle.sqlite.specs.Effect.{Database}
 use Rattle.sqlite.specs.Held.{state}
 use Rattle.version.specs.Abstraction.{windows_of}
@@ -19,8 +19,8 @@ returns-clause-moves g c =
     let own : IsTrue c.in_ok-has_windows.field-0 = search rules in
     looked_moves a d e (IsCarried c.args.schema_version) (IsMovedFrom c.args.schema_version w)
     (looked_then a b d true one two) (λ up after carried.
-    let second = two.same up in
-    let first = one.same second.was_open in
+    let second = two.same refl up in
+    let first = one.same refl second.was_open in
     record {
       staying = subst (λ (x : Database). AreStayingRead c.args.schema_version x.trees)
           (sym (second.now ∙ first.now)) (c.in_ok-see_staying.ensures.value second.was_open);

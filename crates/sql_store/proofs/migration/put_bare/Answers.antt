@@ -9,6 +9,8 @@ use Rattle.sql_store.specs.Migration.{IsBarePut}
 use Rattle.sql_store.specs.Store.{WritesInTransaction}
 use Rattle.sql_store.proofs.CallLemmas.{writes_as, writes_nothing}
 use Rattle.sql_store.proofs.LookupLemmas.{one_bound}
+use Rattle.sql_store.proofs.MadeLemmas.{keyed_as}
+use Rattle.sql_rows.proofs.RowKeys.{version_keyed}
 use Rattle.sql_store.proofs.migration.put_bare.Goals as goal
 
 pub returns-in_err-replace : goal.returns-in_err-replace
@@ -32,3 +34,11 @@ returns g c =
     (subst₂ (λ k r. WritesInTransaction old new true (Replaced Version k r))
     (one_bound c.number.result (Int (pos id)) refl c.number.ensures)
     (bound_version _ id row c.version_params-params.ensures) c.in_ok-replace.ensures)
+
+pub replace-requires : goal.replace-requires
+replace-requires g c =
+    let id = c.args.id in
+    let row = c.args.row.now in
+    keyed_as Version (Int (pos id) ∷ []) _ (version_params id row) _
+    (one_bound c.number.result (Int (pos id)) refl c.number.ensures)
+    (bound_version _ id row c.version_params-params.ensures) (version_keyed id row)

@@ -3,7 +3,6 @@ use Rattle.sqlite.specs.Held.{state}
 use Rattle.sqlite.specs.State.{HasCleanDisk}
 use Rattle.sql_rows.specs.Statements.{all_text}
 use Rattle.sql_store.specs.Store.{HasQueried, clean_if_open}
-use Rattle.sql_store.proofs.MigrationLemmas.{settled_as}
 use Rattle.sql_store.specs.Through.{BlankMeansNone}
 use Rattle.sql_store.proofs.ThroughLemmas.{old_plain, old_read, table_looked}
 use Rattle.sql_store.proofs.migration.see.Goals as goal
@@ -24,7 +23,6 @@ returns-in_err-read_table-clause-queried g c =
     c.read_table.result
     (old_plain g.T.FromRow.seen_in c.args.table old new c.args.schema_version c.requires.has
     c.requires.old)
-    (λ was. settled_as c.args.schema_version old (c.requires.old was))
     (clean_if_open new.is_clean new.is_open (g.met.S.Store.shut_if_dirty _))
     c.read_table.ensures.all c.read_table.ensures.err c.read_table.ensures.survives in
     subst (HasQueried old new) (sym fails) (rw c.in_err-read_table.was at looked)
@@ -49,7 +47,6 @@ returns-clause-queried g c =
     c.read_table.result
     (old_plain g.T.FromRow.seen_in c.args.table old new c.args.schema_version c.requires.has
     c.requires.old)
-    (λ was. settled_as c.args.schema_version old (c.requires.old was))
     (clean_if_open new.is_clean new.is_open (g.met.S.Store.shut_if_dirty _))
     c.read_table.ensures.all c.read_table.ensures.err c.read_table.ensures.survives in
     rw c.in_ok-read_table.was at looked

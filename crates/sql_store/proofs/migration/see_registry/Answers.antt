@@ -1,4 +1,4 @@
-use Rattle.std.proofs.Common.{false, subst, ◌∙◌}
+use Rattle.std.proofs.Common.{false, subst, ◌∙◌, refl}
 use Rattle.sqlite.specs.Held.{state}
 use Rattle.sqlite.specs.Effect.{Database}
 use Rattle.sql_rows.specs.Content.{block_row_in, code_row_in, lrn_row_in}
@@ -10,10 +10,10 @@ use Rattle.sql_store.proofs.migration.see_registry.Goals as goal
 pub returns-clause-value : goal.returns-clause-value
 returns-clause-value g c up =
     let db = (state g.S.Store c.args.conn.now).now.trees in
-    let fourth = c.in_ok-see-4.ensures.queried.same up in
-    let third = c.in_ok-see-3.ensures.queried.same fourth.was_open in
-    let second = c.in_ok-see-2.ensures.queried.same third.was_open in
-    let first = c.in_ok-see.ensures.queried.same second.was_open in
+    let fourth = c.in_ok-see-4.ensures.queried.same refl up in
+    let third = c.in_ok-see-3.ensures.queried.same refl fourth.was_open in
+    let second = c.in_ok-see-2.ensures.queried.same refl third.was_open in
+    let first = c.in_ok-see.ensures.queried.same refl second.was_open in
     let two = second.now ∙ first.now in
     let three = third.now ∙ two in
     registry_read db false false false false (c.in_ok-see.ensures.value second.was_open)

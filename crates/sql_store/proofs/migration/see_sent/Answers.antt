@@ -1,4 +1,4 @@
-use Rattle.std.proofs.Common.{◌≡◌, false, rules, subst, sym, ◌∙◌}
+use Rattle.std.proofs.Common.{◌≡◌, false, rules, subst, sym, ◌∙◌, refl}
 use Rattle.sqlite.specs.Held.{state}
 use Rattle.sqlite.specs.Effect.{Database}
 use Rattle.sql_rows.specs.Content.{next_row_in, wait_in}
@@ -12,9 +12,9 @@ use Rattle.sql_store.proofs.migration.see_sent.Goals as goal
 pub returns-clause-value : goal.returns-clause-value
 returns-clause-value g c up =
     let db = (state g.S.Store c.args.conn.now).now.trees in
-    let third = c.in_ok-see-3.ensures.queried.same up in
-    let second = c.in_ok-see-2.ensures.queried.same third.was_open in
-    let first = c.in_ok-see.ensures.queried.same second.was_open in
+    let third = c.in_ok-see-3.ensures.queried.same refl up in
+    let second = c.in_ok-see-2.ensures.queried.same refl third.was_open in
+    let first = c.in_ok-see.ensures.queried.same refl second.was_open in
     record {
       broadcasts = (broadcast_rows db false (c.in_ok-see.ensures.value second.was_open)).each;
       waits = (wait_rows db false (subst (λ (d : Database). IsRead Wait wait_in d.trees false)
@@ -27,8 +27,8 @@ returns-clause-value g c up =
 pub returns-in_default-clause-value : goal.returns-in_default-clause-value
 returns-in_default-clause-value g c up =
     let db = (state g.S.Store c.args.conn.now).now.trees in
-    let second = c.in_ok-see-2.ensures.queried.same up in
-    let first = c.in_ok-see.ensures.queried.same second.was_open in
+    let second = c.in_ok-see-2.ensures.queried.same refl up in
+    let first = c.in_ok-see.ensures.queried.same refl second.was_open in
     let is : c.args.schema_version ≡ First = search rules in
     record {
       broadcasts = (broadcast_rows db false (c.in_ok-see.ensures.value second.was_open)).each;

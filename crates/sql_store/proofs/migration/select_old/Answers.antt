@@ -1,4 +1,4 @@
-use Rattle.std.proofs.Common.{rules, ◌≡◌, [], false, is_ok, sym, subst}
+use Rattle.std.proofs.Common.{rules, ◌≡◌, [], false, is_ok, sym, subst, refl}
 use Rattle.sqlite.specs.Held.{state}
 use Rattle.sqlite.specs.State.{HasCleanDisk, Shown, FailsToQuery, Survives, CommitsShowing}
 use Rattle.sql_rows.specs.Statements.{all_text}
@@ -36,7 +36,7 @@ returns-clause-value g c up =
     (λ _. shown)
     (subst (λ t. Survives old new (CommitsShowing t [] old)) same c.query_all.ensures.survives) in
     old_answers c.args.schema_version c.args.table c.requires.has old new c.requires.old
-    c.in_ok-rows.rows.items (looked.same up).was_open shown
+    c.in_ok-rows.rows.items (looked.same refl up).was_open shown
 
 pub returns-clause-queried : goal.returns-clause-queried
 returns-clause-queried g c =

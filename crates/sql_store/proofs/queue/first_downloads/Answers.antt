@@ -1,4 +1,4 @@
-use Rattle.std.proofs.Common.{◌≡◌, ◌++◌, true, sym, subst, take, length, ◌+◌, ◌≤◌, arith}
+use Rattle.std.proofs.Common.{◌≡◌, ◌++◌, true, sym, subst, take, length, ◌+◌, ◌≤◌, arith, refl}
 use Rattle.std.specs.Prelude.{option_to_list}
 use Rattle.sqlite.specs.Held.{state}
 use Rattle.sqlite.specs.Effect.{Database}
@@ -21,8 +21,8 @@ loop-wait-preserved g c =
     record {
       looked = looked_then first before after true c.loop-wait.invariant.looked next.queried;
       told = λ up.
-          let was = (next.queried.same up).was_open in
-          let same = (c.loop-wait.invariant.looked.same was).now in
+          let was = (next.queried.same refl up).was_open in
+          let same = (c.loop-wait.invariant.looked.same refl was).now in
           let is = subst (λ (d : Database). IsNext (content_in d.trees) c.wait-item.result download)
           same (next.value up) in
           subst (HaveBroadcasts (content_at first) (take (c.loop-wait.wait-index + 1)

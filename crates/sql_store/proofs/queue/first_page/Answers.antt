@@ -1,4 +1,4 @@
-use Rattle.std.proofs.Common.{◌≡◌, ◌≤◌, false, length, subst, sym, ◌∙◌, true≢false, arith}
+use Rattle.std.proofs.Common.{◌≡◌, ◌≤◌, false, length, subst, sym, ◌∙◌, true≢false, arith, refl}
 use Rattle.sqlite.specs.Held.{state}
 use Rattle.sqlite.specs.Effect.{Database}
 use Rattle.sql_rows.specs.Content.{content_in}
@@ -13,8 +13,8 @@ returns-then-len-many-clause-value g c = λ up.
     let old = state g.S.Store c.args.db.now.conn in
     let waits = c.in_ok-waits.waits.items in
     let downloads = c.in_ok-downloads.downloads.items in
-    let mid_up = (c.in_ok-downloads.ensures.queried.same up).was_open in
-    let same = (c.in_ok-waits.ensures.queried.same mid_up).now in
+    let mid_up = (c.in_ok-downloads.ensures.queried.same refl up).was_open in
+    let same = (c.in_ok-waits.ensures.queried.same refl mid_up).now in
     let told = subst (λ w. AreFirstWithBroadcasts (content_at (state g.S.Store c.page.new.db.conn))
     c.args.many w
     downloads) c.as_slice.ensures.value (c.in_ok-downloads.ensures.value up) in

@@ -1,4 +1,4 @@
-use Rattle.std.proofs.Common.{rules, ap, subst, ◌∙◌, map}
+use Rattle.std.proofs.Common.{rules, ap, subst, ◌∙◌, map, refl}
 use Rattle.std.specs.Prelude.{IsTrue}
 use Rattle.std.specs.List.{filter_map}
 use Rattle.settle.specs.declared.rows.NumberedRow.{NumberedRow}
@@ -16,7 +16,7 @@ pub returns-clause-value : goal.returns-clause-value
 returns-clause-value g c up =
     let old = state g.S.Store c.args.db.now.conn in
     let found = c.in_ok-found.found.items in
-    let was = (c.in_ok-found.ensures.queried.same up).was_open in
+    let was = (c.in_ok-found.ensures.queried.same refl up).was_open in
     let params = two_bound c.number.result c.number-2.result 0 9223372036854775807 c.number.ensures
     c.number-2.ensures in
     let answer =

@@ -9,7 +9,8 @@ use Rattle.sql_rows.proofs.Backs.{block_back}
 use Rattle.sql_rows.proofs.BoundLemmas.{bound_block}
 use Rattle.settle.specs.Abstraction.{block_row_of}
 use Rattle.sql_store.proofs.LookupLemmas.{one_bound}
-use Rattle.sql_store.proofs.MadeLemmas.{put_made}
+use Rattle.sql_store.proofs.MadeLemmas.{keyed_as, put_made}
+use Rattle.sql_rows.proofs.RowKeys.{block_keyed}
 use Rattle.sql_store.proofs.rows.put_block.Goals as goal
 
 pub returns : goal.returns
@@ -27,3 +28,13 @@ returns g c =
     c.in_ok-replace.ensures
     (λ shaped did. put_block old.now new.now shaped n (block_row_of row)
     (block_back c.args.block row (c.fits_block.ensures fit)) did)
+
+pub replace-requires : goal.replace-requires
+replace-requires g c =
+    let n = c.args.block.number in
+    let row = block_row_of c.args.row.now in
+    keyed_as Block (Int (pos n) ∷ []) _ (block_params n row) _
+    (one_bound c.number.result (Int (pos n)) refl (c.number.ensures
+    ∙ ap (λ k. Int (pos k)) c.from-key.ensures))
+    (bound_block _ n row (c.block_params-params.ensures
+    ∙ ap (λ k. block_params k row) c.from-key.ensures)) (block_keyed n row)

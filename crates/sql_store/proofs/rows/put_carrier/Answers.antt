@@ -6,7 +6,8 @@ use Rattle.sql_rows.specs.Content.{carrier_params}
 use Rattle.sql_rows.proofs.PutLemmas.{put_carrier}
 use Rattle.sql_store.specs.Changes.{with_carrier}
 use Rattle.sql_store.proofs.LookupLemmas.{one_bound}
-use Rattle.sql_store.proofs.MadeLemmas.{put_made}
+use Rattle.sql_store.proofs.MadeLemmas.{keyed_as, put_made}
+use Rattle.sql_rows.proofs.RowKeys.{carrier_keyed}
 use Rattle.sql_store.proofs.rows.put_carrier.Goals as goal
 
 pub returns : goal.returns
@@ -19,3 +20,11 @@ returns g c =
     (one_bound c.text-2.result (Text _) refl (c.text-2.ensures
     ∙ ap Text c.spid_bytes-bytes.ensures)) c.in_ok-replace.ensures
     (λ shaped did. put_carrier old.now new.now shaped c.args.spid did)
+
+pub replace-requires : goal.replace-requires
+replace-requires g c =
+    let n = c.args.spid.number in
+    keyed_as Carrier (carrier_params n) _ (carrier_params n) _
+    (one_bound c.text.result (Text _) refl (c.text.ensures ∙ ap Text c.spid_bytes-bytes.ensures))
+    (one_bound c.text-2.result (Text _) refl (c.text-2.ensures
+    ∙ ap Text c.spid_bytes-bytes.ensures)) (carrier_keyed n)

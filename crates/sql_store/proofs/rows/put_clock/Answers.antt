@@ -9,7 +9,8 @@ use Rattle.sql_store.specs.Changes.{with_clock}
 use Rattle.sql_rows.proofs.Backs.{clock_back}
 use Rattle.sql_rows.proofs.BoundLemmas.{bound_clock}
 use Rattle.sql_store.proofs.LookupLemmas.{one_bound}
-use Rattle.sql_store.proofs.MadeLemmas.{put_made}
+use Rattle.sql_store.proofs.MadeLemmas.{keyed_as, put_made}
+use Rattle.sql_rows.proofs.RowKeys.{clock_keyed}
 use Rattle.sql_store.proofs.rows.put_clock.Goals as goal
 
 pub returns : goal.returns
@@ -25,3 +26,10 @@ returns g c =
     (bound_clock _ 0 (clock_of row) c.clock_params.ensures) c.in_ok-replace.ensures
     (λ shaped did. put_clock old.now new.now shaped (clock_of row) (clock_back row few least most)
     did)
+
+pub replace-requires : goal.replace-requires
+replace-requires g c =
+    let row = clock_of c.args.row.now in
+    keyed_as Clock (Int (pos 0) ∷ []) _ (clock_params 0 row) _
+    (one_bound c.number.result (Int (pos 0)) refl c.number.ensures)
+    (bound_clock _ 0 row c.clock_params.ensures) (clock_keyed 0 row)

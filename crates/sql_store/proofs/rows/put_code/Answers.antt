@@ -7,7 +7,8 @@ use Rattle.sql_rows.proofs.PutLemmas.{put_code}
 use Rattle.sql_store.specs.Changes.{with_code}
 use Rattle.sql_rows.proofs.Backs.{code_back}
 use Rattle.sql_store.proofs.LookupLemmas.{one_bound}
-use Rattle.sql_store.proofs.MadeLemmas.{put_made, two_bound}
+use Rattle.sql_store.proofs.MadeLemmas.{keyed_as, put_made, two_bound}
+use Rattle.sql_rows.proofs.RowKeys.{code_keyed}
 use Rattle.sql_store.proofs.rows.put_code.Goals as goal
 
 pub returns : goal.returns
@@ -23,3 +24,14 @@ returns g c =
     (c.number-key.ensures ∙ ap (λ k. Int (pos k)) c.from.ensures) (c.text.ensures
     ∙ ap Text c.spid_bytes-bytes.ensures)) c.in_ok-replace.ensures
     (λ shaped did. put_code old.now new.now shaped n m (code_back c.args.code c.args.owner) did)
+
+pub replace-requires : goal.replace-requires
+replace-requires g c =
+    let n = c.args.code.number in
+    let m = c.args.owner.number in
+    keyed_as Code (Int (pos n) ∷ []) _ (owner_params n m) _
+    (one_bound c.number-key.result (Int (pos n)) refl (c.number-key.ensures
+    ∙ ap (λ k. Int (pos k)) c.from.ensures))
+    (two_bound c.number-key.result c.text.result (Int (pos n)) (Text _) refl refl
+    (c.number-key.ensures ∙ ap (λ k. Int (pos k)) c.from.ensures) (c.text.ensures
+    ∙ ap Text c.spid_bytes-bytes.ensures)) (code_keyed n m)

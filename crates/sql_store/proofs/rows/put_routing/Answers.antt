@@ -10,6 +10,8 @@ use Rattle.sql_rows.proofs.BoundLemmas.{bound_next}
 use Rattle.sql_store.specs.Store.{IsNextPut, WritesInTransaction}
 use Rattle.sql_store.proofs.CallLemmas.{writes_as, writes_nothing}
 use Rattle.sql_store.proofs.LookupLemmas.{one_bound}
+use Rattle.sql_store.proofs.MadeLemmas.{keyed_as}
+use Rattle.sql_rows.proofs.RowKeys.{next_keyed}
 use Rattle.sql_store.proofs.rows.put_routing.Goals as goal
 
 pub returns-in_err-replace : goal.returns-in_err-replace
@@ -32,3 +34,11 @@ returns g c =
     (subst₂ (λ k r. WritesInTransaction old new true (Replaced NextRouting k r))
     (one_bound c.number.result (Int (pos id)) refl c.number.ensures)
     (bound_next _ id routing c.next_params-params.ensures) c.in_ok-replace.ensures)
+
+pub replace-requires : goal.replace-requires
+replace-requires g c =
+    let id = c.args.id in
+    let routing = routing_of c.args.routing in
+    keyed_as NextRouting (Int (pos id) ∷ []) _ (next_params id routing) _
+    (one_bound c.number.result (Int (pos id)) refl c.number.ensures)
+    (bound_next _ id routing c.next_params-params.ensures) (next_keyed id routing)

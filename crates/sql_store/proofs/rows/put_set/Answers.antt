@@ -22,6 +22,8 @@ use Rattle.sql_rows.proofs.Casts.{clock_cast, set_cast}
 use Rattle.sql_store.specs.Whole.{EachReads}
 use Rattle.sql_store.proofs.LookupLemmas.{one_bound}
 use Rattle.sql_store.proofs.WholeLemmas.{reads_replaced}
+use Rattle.sql_store.proofs.MadeLemmas.{keyed_as}
+use Rattle.sql_rows.proofs.RowKeys.{clock_keyed, set_keyed}
 use Rattle.sql_store.proofs.rows.put_set.Goals as goal
 
 pub returns-in_err-replace-2-clause-applies : goal.returns-in_err-replace-2-clause-applies
@@ -148,3 +150,19 @@ returns-clause-others g c =
     (one_bound c.number.result (Int (pos 0)) refl c.number.ensures) (bound_clock _ 0 (clock_of row)
     c.clock_params.ensures) c.in_ok-replace-2.ensures in
     others row c.args.windows.now few least most old mid new first second
+
+pub replace-requires : goal.replace-requires
+replace-requires g c =
+    let n = c.args.row.now.present in
+    let windows = windows_of c.args.windows.now in
+    keyed_as WindowSet (Int (pos n) ∷ []) _ (set_params n windows) _
+    (one_bound c.number-key.result (Int (pos n)) refl (c.number-key.ensures
+    ∙ ap (λ k. Int (pos k)) c.from.ensures)) (bound_set _ n windows c.set_params.ensures)
+    (set_keyed n windows)
+
+pub replace-requires-2 : goal.replace-requires-2
+replace-requires-2 g c =
+    let row = clock_of c.args.row.now in
+    keyed_as Clock (Int (pos 0) ∷ []) _ (clock_params 0 row) _
+    (one_bound c.number.result (Int (pos 0)) refl c.number.ensures)
+    (bound_clock _ 0 row c.clock_params.ensures) (clock_keyed 0 row)

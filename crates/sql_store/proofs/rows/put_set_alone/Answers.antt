@@ -11,7 +11,8 @@ use Rattle.sql_rows.proofs.BoundLemmas.{bound_set}
 use Rattle.sql_store.specs.Changes.{with_set_alone}
 use Rattle.sql_store.proofs.Changed.{set_alone}
 use Rattle.sql_store.proofs.LookupLemmas.{one_bound}
-use Rattle.sql_store.proofs.MadeLemmas.{put_made}
+use Rattle.sql_store.proofs.MadeLemmas.{keyed_as, put_made}
+use Rattle.sql_rows.proofs.RowKeys.{set_keyed}
 use Rattle.sql_store.proofs.rows.put_set_alone.Goals as goal
 
 pub returns : goal.returns
@@ -37,3 +38,12 @@ returns g c =
       }) (set_alone set.number windows (content_in old.now.trees).sets
           (get (clocks_in (old.now.trees 21)) 0));
     })
+
+pub replace-requires : goal.replace-requires
+replace-requires g c =
+    let n = c.args.set.number in
+    let windows = windows_of c.args.set.windows in
+    keyed_as WindowSet (Int (pos n) ∷ []) _ (set_params n windows) _
+    (one_bound c.number-key.result (Int (pos n)) refl (c.number-key.ensures
+    ∙ ap (λ k. Int (pos k)) c.from.ensures)) (bound_set _ n windows c.set_params.ensures)
+    (set_keyed n windows)

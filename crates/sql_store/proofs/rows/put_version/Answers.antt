@@ -15,6 +15,8 @@ use Rattle.sql_store.specs.Store.{IsNextPut, AppliesInTransaction, WritesInTrans
 use Rattle.sql_rows.proofs.BoundLemmas.{bound_version}
 use Rattle.sql_store.proofs.CallLemmas.{two_made, two_stop}
 use Rattle.sql_store.proofs.LookupLemmas.{one_bound}
+use Rattle.sql_store.proofs.MadeLemmas.{keyed_as}
+use Rattle.sql_rows.proofs.RowKeys.{version_keyed}
 use Rattle.sql_store.proofs.rows.put_version.Goals as goal
 
 -- The change of the content that both rows make.
@@ -58,3 +60,11 @@ returns g c =
     (λ shaped did. version_between old.now mid.now new.now shaped id row back did)
     (λ shaped did then. whole_put old.now mid.now new.now shaped id row (next_of row.status) refl
     back did then)
+
+pub replace-requires : goal.replace-requires
+replace-requires g c =
+    let id = c.args.id in
+    let row = c.args.row.now in
+    keyed_as Version (Int (pos id) ∷ []) _ (version_params id row) _
+    (one_bound c.number.result (Int (pos id)) refl c.number.ensures)
+    (bound_version _ id row c.version_params-params.ensures) (version_keyed id row)

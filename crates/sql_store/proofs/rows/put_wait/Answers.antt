@@ -8,7 +8,8 @@ use Rattle.sql_rows.proofs.Backs.{wait_back}
 use Rattle.sql_rows.proofs.BoundLemmas.{bound_wait, bound_wait_key}
 use Rattle.settle.specs.Abstraction.{wait_key_of}
 use Rattle.numbers.specs.Abstraction.{subject_of}
-use Rattle.sql_store.proofs.MadeLemmas.{put_made}
+use Rattle.sql_store.proofs.MadeLemmas.{keyed_as, put_made}
+use Rattle.sql_rows.proofs.RowKeys.{wait_keyed}
 use Rattle.sql_store.proofs.rows.put_wait.Goals as goal
 
 pub returns : goal.returns
@@ -25,3 +26,11 @@ returns g c =
     (bound_wait_key _ k c.wait_key-columns.ensures) (bound_wait _ k s c.wait_params-params.ensures)
     c.in_ok-replace.ensures (λ shaped did. put_wait old.now new.now shaped c.args.key s
     (λ rowid. wait_back rowid c.args.key c.args.of low few) did)
+
+pub replace-requires : goal.replace-requires
+replace-requires g c =
+    let k = wait_key_of c.args.key in
+    let s = subject_of c.args.of in
+    keyed_as Wait (wait_key_params k) _ (wait_params k s) _
+    (bound_wait_key _ k c.wait_key-columns.ensures) (bound_wait _ k s c.wait_params-params.ensures)
+    (wait_keyed k s)

@@ -1,4 +1,4 @@
-use Rattle.std.proofs.Common.{rules, ◌≡◌, true, false, is_ok, sym, subst}
+use Rattle.std.proofs.Common.{rules, ◌≡◌, true, false, is_ok, sym, subst, refl}
 use Rattle.std.specs.Prelude.{IfOk, IfErr}
 use Rattle.sqlite.specs.Held.{state}
 use Rattle.sqlite.specs.State.{HasCleanDisk, Shown, FailsToQuery, Survives, CommitsShowing}
@@ -36,7 +36,7 @@ returns-clause-value g c up =
     (subst (λ t. Survives old new (CommitsShowing t params old)) c.text.ensures
     c.query_all.ensures.survives) in
     answers c.args.query params old new c.args.db.now.ours c.in_ok-rows.rows.items
-    (looked.same up).was_open shown
+    (looked.same refl up).was_open shown
 
 pub returns-clause-queried : goal.returns-clause-queried
 returns-clause-queried g c =
@@ -64,7 +64,6 @@ invariant_of-db g c =
     c.text.ensures c.query_all.ensures.survives) in
     record {
       ours = looked_ours old new (is_ok c.query_all.result) c.args.db.now.ours looked;
-      idle = λ up. c.query_all.ensures.mode (c.args.db.now.idle (looked.same up).was_open);
       kept = nothing_kept new c.take-clock.new.self c.take-clock.ensures.after;
     }
 
@@ -80,7 +79,6 @@ invariant_of-db-2 g c =
     c.text.ensures c.query_all.ensures.survives) in
     record {
       ours = looked_ours old new true c.args.db.now.ours looked;
-      idle = λ up. c.query_all.ensures.mode (c.args.db.now.idle (looked.same up).was_open);
       kept = kept_by_query old new c.args.db.now.clock c.take-clock.result
           c.take-clock.ensures.value c.args.db.now.kept looked;
     }

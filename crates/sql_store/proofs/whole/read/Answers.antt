@@ -1,7 +1,7 @@
 use Rattle.sqlite.specs.Held.{state}
 use Rattle.sqlite.specs.State.{HasCleanDisk}
 use Rattle.sql_rows.specs.Statements.{all_text}
-use Rattle.sql_store.specs.Store.{clean_if_open, settled}
+use Rattle.sql_store.specs.Store.{clean_if_open}
 use Rattle.sql_store.specs.Through.{BlankMeansNone}
 use Rattle.sql_store.proofs.CallLemmas.{looked_ours}
 use Rattle.sql_store.proofs.ThroughLemmas.{ours_plain, ours_read, table_looked}
@@ -29,7 +29,6 @@ returns-clause-queried g c =
     table_looked g.T.FromRow.seen_in BlankMeansNone (all_text c.args.table) old new
     c.read_table.result
     (ours_plain g.T.FromRow.seen_in c.args.table old new c.args.db.now.ours)
-    (λ was. settled old (c.args.db.now.ours was))
     (clean_if_open new.is_clean new.is_open (g.met.S.Store.shut_if_dirty _))
     c.read_table.ensures.all c.read_table.ensures.err c.read_table.ensures.survives
 
@@ -40,18 +39,5 @@ invariant_of-db-clause-ours g c =
     looked_ours old new _ c.args.db.now.ours
     (table_looked g.T.FromRow.seen_in BlankMeansNone (all_text c.args.table) old new
     c.read_table.result (ours_plain g.T.FromRow.seen_in c.args.table old new c.args.db.now.ours)
-    (λ was. settled old (c.args.db.now.ours was))
     (clean_if_open new.is_clean new.is_open (g.met.S.Store.shut_if_dirty _))
     c.read_table.ensures.all c.read_table.ensures.err c.read_table.ensures.survives)
-
-pub invariant_of-db-clause-idle : goal.invariant_of-db-clause-idle
-invariant_of-db-clause-idle g c up =
-    let old = state g.S.Store c.args.db.now.conn in
-    let new = state g.S.Store c.read_table.new.conn in
-    c.read_table.ensures.mode (c.args.db.now.idle ((table_looked g.T.FromRow.seen_in BlankMeansNone
-    (all_text c.args.table) old new c.read_table.result
-    (ours_plain g.T.FromRow.seen_in c.args.table old new c.args.db.now.ours)
-    (λ was. settled old (c.args.db.now.ours was))
-    (clean_if_open new.is_clean new.is_open (g.met.S.Store.shut_if_dirty _))
-    c.read_table.ensures.all c.read_table.ensures.err c.read_table.ensures.survives).same
-    up).was_open)

@@ -1,4 +1,4 @@
-use Rattle.std.proofs.Common.{◌≡◌, true, rules, sym, subst, ◌∙◌}
+use Rattle.std.proofs.Common.{◌≡◌, true, rules, sym, subst, ◌∙◌, refl}
 use Rattle.sqlite.specs.Held.{state}
 use Rattle.sqlite.specs.Effect.{Database}
 use Rattle.sql_rows.specs.Content.{old_clock_in}
@@ -10,8 +10,8 @@ use Rattle.sql_store.proofs.whole.see_moved.Goals as goal
 pub returns-clause-value : goal.returns-clause-value
 returns-clause-value g c up =
     let db = (state g.S.Store c.args.db.now.conn).now.trees in
-    let second = c.in_ok-clock.ensures.queried.same up in
-    let first = c.in_ok-versions.ensures.queried.same second.was_open in
+    let second = c.in_ok-clock.ensures.queried.same refl up in
+    let first = c.in_ok-versions.ensures.queried.same refl second.was_open in
     let blank : c.are_blank.result ≡ true = search rules in
     moved_told db c.in_ok-versions.versions c.in_ok-clock.clock (c.in_ok-versions.ensures.value
     second.was_open)

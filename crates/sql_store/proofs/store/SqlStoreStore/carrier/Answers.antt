@@ -1,0 +1,7 @@
+use Rattle.sql_store.proofs.GroupLemmas.{looked_up}
+use Rattle.sql_store.proofs.store.SqlStoreStore.carrier.Goals as goal
+
+pub returns-clause-looks_up : goal.returns-clause-looks_up
+returns-clause-looks_up g c =
+    looked_up g.S.Store c.args.self.now _ c.carrier.result c.counted.result
+    c.carrier.ensures.queried c.counted.ensures

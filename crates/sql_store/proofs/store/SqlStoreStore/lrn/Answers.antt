@@ -1,0 +1,7 @@
+use Rattle.sql_store.proofs.GroupLemmas.{looked_up}
+use Rattle.sql_store.proofs.store.SqlStoreStore.lrn.Goals as goal
+
+pub returns-clause-looks_up : goal.returns-clause-looks_up
+returns-clause-looks_up g c =
+    looked_up g.S.Store c.args.self.now _ c.lrn.result c.counted.result c.lrn.ensures.queried
+    c.counted.ensures
