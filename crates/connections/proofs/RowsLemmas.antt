@@ -60,7 +60,7 @@ module _ {S : Type 0} (store : Ghosts S) (old begun ran ended : S)
     (begins : BeginsGroup store old begun (Ok true)) (runs : RowsFollow store begun ran)
     (begins_none : BeginsNoGroup store begun ran) (ends_none : EndsNoGroup store begun ran) where
   -- The content of a group that was undone is that of its beginning.
-  same_as_begun : IsUndone store ran ended → store.IsUsable ended
+  pub same_as_begun : IsUndone store ran ended → store.IsUsable ended
       → store.IsUsable old × (store.content ended ≡ store.content old)
   same_as_begun undone usable = by_cases (undone usable)
     where

@@ -303,7 +303,7 @@ open_with_work c e = is_open_then c.phase (first_of (is_open c.phase) _ (first_o
 
 module _ (offered : Bool) (most from to : ℕ) (st : State) (new : Content)
     (before after : Option (List (Option ℕ))) (c d : ConnectionModel) where
-  abbrev turn_trace : Result Executed LostResponse → IoTrace
+  abbrev pub turn_trace : Result Executed LostResponse → IoTrace
   turn_trace result = record {
     input = c.unread;
     unread = Some (drop (consumed_of result) c.unread);

@@ -14,13 +14,13 @@ use Rattle.connections.specs.declared.peer.Stage.TheVariants as stage
 abbrev pub HasSeconds : Duration → ℕ → Type 0
 HasSeconds duration seconds = as_nanos duration ≡ seconds * 1_000_000_000
 
--- Holds if these are the limits, in seconds.
-abbrev pub AreLimits : (at_once message idle idle_when_full sending discarding : ℕ) → Limits
+-- Holds if these are the limits: two numbers, then seconds.
+abbrev pub AreLimits : (at_once group message idle idle_when_full sending discarding : ℕ) → Limits
     → Type 0
-AreLimits at_once message idle idle_when_full sending discarding limits =
-    (limits.at_once ≡ at_once) × HasSeconds limits.message message × HasSeconds limits.idle idle
-    × HasSeconds limits.idle_when_full idle_when_full × HasSeconds limits.sending sending
-    × HasSeconds limits.discarding discarding
+AreLimits at_once group message idle idle_when_full sending discarding limits =
+    (limits.at_once ≡ at_once) × (limits.group ≡ group) × HasSeconds limits.message message
+    × HasSeconds limits.idle idle × HasSeconds limits.idle_when_full idle_when_full
+    × HasSeconds limits.sending sending × HasSeconds limits.discarding discarding
 
 abbrev pub limit_of : Limits → Wait → Duration
 limit_of limits Idle = limits.idle

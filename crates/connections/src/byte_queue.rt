@@ -1,5 +1,5 @@
 //! Bytes that are added at the end and taken from the start.
-ghost use Rattle.std.specs.Prelude.{◌≡◌, ◌≤◌, [], ◌++◌, drop, vec_len, OnOk, OnErr};
+ghost use Rattle.std.specs.Prelude.{◌≡◌, ◌≤◌, [], ◌++◌, drop, vec_len, IfOk, OnOk, OnErr};
 
 use std::alloc::{AllocError, Global};
 
@@ -25,6 +25,20 @@ impl ByteQueue {
             start: 0,
             alloc,
         }
+    }
+
+    /// Copies the queue.
+    ///
+    /// # Errors
+    ///
+    /// `AllocError` if an allocation fails.
+    pub fn copy(&self) -> Result<ByteQueue, AllocError>
+        ensures { IfOk result (λ copy. drop copy.start copy.bytes.items
+            ≡ drop self.now.start self.now.bytes.items) }
+    {
+        let mut copy = ByteQueue::new(self.alloc);
+        copy.add(self.as_slice())?;
+        Ok(copy)
     }
 
     /// Returns the bytes.

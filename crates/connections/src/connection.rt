@@ -76,6 +76,23 @@ impl Connection {
         }
     }
 
+    /// Copies the connection.
+    ///
+    /// # Errors
+    ///
+    /// `AllocError` if an allocation fails.
+    pub fn copy(&self) -> Result<Connection, AllocError>
+        ensures { IfOk result (λ copy. connection_of copy ≡ connection_of self.now) }
+    {
+        Ok(Connection {
+            phase: self.phase,
+            wanted: self.wanted,
+            has_ended: self.has_ended,
+            input: self.input.copy()?,
+            output: self.output.copy()?,
+        })
+    }
+
     /// Returns how far the connection is.
     pub fn phase(&self) -> Phase
         ensures { result ≡ (connection_of self.now).phase }
@@ -199,6 +216,8 @@ impl Connection {
             (connection_of self.old).unread (T.remaining ticks.old)
             (Some (connection_of self.old).unsent) (Some (connection_of self.new).unsent)) }
         ensures follows { RowsFollow S.StoreModel register.old.store register.new.store }
+        ensures begins { BeginsNoGroup S.StoreModel register.old.store register.new.store }
+        ensures ends { EndsNoGroup S.StoreModel register.old.store register.new.store }
     {
         self.output.move_to_start();
         let input = self.input.as_slice();

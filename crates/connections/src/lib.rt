@@ -5,6 +5,7 @@ mod acceptor;
 mod byte_queue;
 mod client;
 mod connection;
+mod feeding;
 mod limits;
 mod log;
 mod peer;
@@ -13,6 +14,7 @@ mod server;
 
 pub use client::Client;
 pub use connection::{Connection, Phase, UNSENT_LIMIT};
+pub use feeding::{FeedFault, feed};
 pub use limits::{Limits, Wait};
 pub use schedule::{Event, ScheduledEvent, play};
 pub use server::{ServerFault, Service, serve_many};

@@ -38,16 +38,15 @@ pub struct Limits {
 }
 
 impl Limits {
-    /// Returns limits for `at_once` connections, with seconds for a message, between messages, and
-    /// until further bytes are taken. Between messages it is 1 second while another connection
-    /// waits. Input is discarded for 2 seconds. At most 256 messages share a commit.
-    pub fn new(at_once: usize, message: u64, idle: u64, sending: u64) -> Limits
-        ensures limits { AreLimits at_once message idle 1 sending 2 result }
-        ensures group { result.group ≡ 256 }
+    /// Returns limits for `at_once` connections, of which at most `group` messages share a commit,
+    /// with seconds for a message, between messages, and until further bytes are taken. Between
+    /// messages it is 1 second while another connection waits. Input is discarded for 2 seconds.
+    pub fn new(at_once: usize, group: u64, message: u64, idle: u64, sending: u64) -> Limits
+        ensures { AreLimits at_once group message idle 1 sending 2 result }
     {
         Limits {
             at_once,
-            group: 256,
+            group,
             message: Duration::from_secs(message),
             idle: Duration::from_secs(idle),
             idle_when_full: Duration::from_secs(1),

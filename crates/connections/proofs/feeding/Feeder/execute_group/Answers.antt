@@ -1,0 +1,60 @@
+use Rattle.std.proofs.Common.{◌∙◌, Ok, ap, refl, subst}
+use Rattle.settle.specs.StoreContract.{BeginsGroup, EndsGroup}
+use Rattle.connections.specs.Connections.{ConnectionModel, connection_of}
+use Rattle.connections.specs.Feeding.{GoesOn}
+use Rattle.connections.proofs.Fed.{goes_grouped, goes_same, goes_undone}
+use Rattle.connections.proofs.RowsLemmas.{rows_grouped}
+use Rattle.connections.proofs.feeding.Feeder.execute_group.Goals as goal
+
+pub returns-in_default-begin_group-clause-goes_on : goal.returns-in_default-begin_group-clause-goes_on
+returns-in_default-begin_group-clause-goes_on g c =
+    goes_same g.S.StoreModel c.args.register.now.store c.begin_group.new.self.store _ _ refl
+    (λ usable. (c.begin_group.ensures.same usable).1)
+
+pub returns-in-Err-clause-goes_on : goal.returns-in-Err-clause-goes_on
+returns-in-Err-clause-goes_on g c =
+    let store = g.S.StoreModel in
+    goes_undone store c.args.register.now.store c.begin_group.new.self.store
+    c.execute_some.new.register.store c.end_group.new.self.store
+    (connection_of c.args.self.now.connection) (connection_of c.args.self.now.connection)
+    (subst (BeginsGroup store c.args.register.now.store c.begin_group.new.self.store)
+    (c.in-Ok-true.is ∙ ap Ok c.in-Ok-true.field-0-test) c.begin_group.ensures)
+    c.execute_some.ensures.follows _
+    (subst (EndsGroup store c.execute_some.new.register.store c.end_group.new.self.store)
+    c.in-Err.is c.end_group.ensures)
+    c.execute_some.ensures.begins c.execute_some.ensures.ends
+
+pub returns-in-Err-clause-follows : goal.returns-in-Err-clause-follows
+returns-in-Err-clause-follows g c =
+    let store = g.S.StoreModel in
+    rows_grouped store c.args.register.now.store c.begin_group.new.self.store
+    c.execute_some.new.register.store c.end_group.new.self.store
+    (subst (BeginsGroup store c.args.register.now.store c.begin_group.new.self.store)
+    (c.in-Ok-true.is ∙ ap Ok c.in-Ok-true.field-0-test) c.begin_group.ensures)
+    c.execute_some.ensures.follows c.execute_some.ensures.begins c.execute_some.ensures.ends
+    c.end_group.result c.end_group.ensures
+
+pub returns-in-Ok-end_group-clause-follows : goal.returns-in-Ok-end_group-clause-follows
+returns-in-Ok-end_group-clause-follows g c =
+    let store = g.S.StoreModel in
+    rows_grouped store c.args.register.now.store c.begin_group.new.self.store
+    c.execute_some.new.register.store c.end_group.new.self.store
+    (subst (BeginsGroup store c.args.register.now.store c.begin_group.new.self.store)
+    (c.in-Ok-true.is ∙ ap Ok c.in-Ok-true.field-0-test) c.begin_group.ensures)
+    c.execute_some.ensures.follows c.execute_some.ensures.begins c.execute_some.ensures.ends
+    c.end_group.result c.end_group.ensures
+
+pub returns-in-Ok-end_group-clause-goes_on : goal.returns-in-Ok-end_group-clause-goes_on
+returns-in-Ok-end_group-clause-goes_on g c =
+    let store = g.S.StoreModel in
+    goes_grouped store c.args.register.now.store c.begin_group.new.self.store
+    c.execute_some.new.register.store c.end_group.new.self.store
+    (connection_of c.args.self.now.connection) (connection_of c.execute_some.new.connection)
+    (subst (BeginsGroup store c.args.register.now.store c.begin_group.new.self.store)
+    (c.in-Ok-true.is ∙ ap Ok c.in-Ok-true.field-0-test) c.begin_group.ensures)
+    c.execute_some.ensures.follows _
+    (subst (EndsGroup store c.execute_some.new.register.store c.end_group.new.self.store)
+    c.in-Ok-end_group.is c.end_group.ensures)
+    (subst (λ (m : ConnectionModel). GoesOn store c.begin_group.new.self.store
+    c.execute_some.new.register.store m (connection_of c.execute_some.new.connection))
+    c.in-Ok.ensures c.execute_some.ensures.goes_on)
