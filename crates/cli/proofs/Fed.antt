@@ -15,7 +15,10 @@ use Rattle.api.specs.declared.serving.Fault.{Fault as ServingFault}
 use Rattle.api.specs.declared.serving.Fault.TheVariants as serving
 use Rattle.cli.specs.declared.fault.Fault.{Fault}
 use Rattle.cli.specs.declared.fault.Fault.TheVariants as fault
-use Rattle.cli.specs.Feeding.{Feeds, fault_of_end, io_of_feed, outcome_of}
+use Rattle.connections.specs.Feeding.{FeedsTo}
+use Rattle.connections.specs.declared.feeding.FeedFault.{FeedFault}
+use Rattle.connections.specs.declared.feeding.FeedFault.TheVariants as feeding
+use Rattle.cli.specs.Feeding.{Feeds, FeedsInGroups, fault_of_end, io_of_feed, outcome_of, outcome_of_groups}
 
 -- What serving wrote holds of a later content of the writer, if the writer has kept it.
 module _ (from to : ℕ) (st : State) (new : Content) (trace : IoTrace) (has : Option (List ℕ))
@@ -181,3 +184,28 @@ module _ (w : WindowsModel) (unread had mid has : Option (List ℕ)) (unwritten 
       → IfSome all (λ input. Feeds w (io_of_feed input unread had has) unwritten (Err fault.Write))
   not_flushed None r serves = tt
   not_flushed (Some input) r serves = (r, new, held_so input r serves)
+
+-- ---- in groups of commits
+
+module _ (w : WindowsModel) (trace : IoTrace) (new : Content) where
+  of_groups : (r : Result End FeedFault) → FeedsTo r 0 (first_state w) new trace
+      → FeedsInGroups w trace (outcome_of_groups r)
+  of_groups (Ok Input) feeds = inl (new, feeds)
+  of_groups (Ok Closed) feeds = inr (new, feeds)
+  of_groups (Ok (Refused fault)) feeds = (new, feeds)
+  of_groups (Err feeding.Read) feeds = (new, feeds)
+  of_groups (Err feeding.Write) feeds = (new, feeds)
+  of_groups (Err feeding.NoMemory) feeds = (new, feeds)
+
+-- The device has never failed.
+pub fed_at_zero : (w : WindowsModel) (unread had has all : Option (List ℕ))
+    (r : Result End FeedFault) (result : Result (Unit {0}) Fault) (new : Content) (from : ℕ)
+    → from ≡ 0 → result ≡ outcome_of_groups r
+    → IfSome all (λ input. FeedsTo r from (first_state w) new (io_of_feed input unread had has))
+    → IfSome all (λ input. FeedsInGroups w (io_of_feed input unread had has) result)
+fed_at_zero w unread had has None r result new from none is feeds = tt
+fed_at_zero w unread had has (Some input) r result new from none is feeds =
+    subst (FeedsInGroups w (io_of_feed input unread had has)) (sym is)
+    (of_groups w (io_of_feed input unread had has) new r
+    (subst (λ (n : ℕ). FeedsTo r n (first_state w) new (io_of_feed input unread had has)) none
+    feeds))

@@ -45,11 +45,12 @@ abbrev pub plain_app : (present : Bool) → Text → App
 plain_app present name = with_rule (with_rule (with_sources present (new_app name))
     (option_rule (codes "feed") false)) (option_rule (codes "db") present)
 
--- `a` with the options that limit connections.
+-- `a` with the options that limit connections, and how many messages share a commit.
 abbrev pub with_limits : App → App
 with_limits a =
-    with_rule (with_rule (with_rule (with_rule a
+    with_rule (with_rule (with_rule (with_rule (with_rule a
     (number_rule (codes "at-once") 1024 false))
+    (number_rule (codes "group") 256 false))
     (number_rule (codes "message-limit") 65535 false))
     (number_rule (codes "idle-limit") 65535 false))
     (number_rule (codes "sending-limit") 65535 false)
@@ -113,10 +114,12 @@ abbrev pub IsNumberOr : Text → (default : ℕ) → List Row → ℕ → Type 0
 IsNumberOr id default rows n =
     (given : Option ℕ) × IsNumberIfAny id rows given × (n ≡ unwrap_or given default)
 
--- Holds if these are the limits of connections: 128 at once, 10 seconds for a message, 30 between
--- messages, and 10 until further bytes are taken, where the options do not say it.
+-- Holds if these are the limits of connections: 128 at once, 256 messages in a commit, 10 seconds
+-- for a message, 30 between messages, and 10 until further bytes are taken, where the options do
+-- not say it.
 pub record AreLimits (rows : List Row) (limits : ServeLimits) : Type 0 where
   pub at_once : IsNumberOr (codes "at-once") 128 rows limits.at_once
+  pub group : IsNumberOr (codes "group") 256 rows limits.group
   pub message : IsNumberOr (codes "message-limit") 10 rows limits.message
   pub idle : IsNumberOr (codes "idle-limit") 30 rows limits.idle
   pub sending : IsNumberOr (codes "sending-limit") 10 rows limits.sending

@@ -13,6 +13,9 @@ use Rattle.api.specs.declared.serving.End.TheVariants.{Input, Closed, Refused}
 use Rattle.api.specs.declared.serving.Served.{Served}
 use Rattle.api.specs.declared.serving.Fault.{Fault as ServingFault}
 use Rattle.api.specs.declared.serving.Fault.TheVariants as serving
+use Rattle.connections.specs.Feeding.{FeedsTo}
+use Rattle.connections.specs.declared.feeding.FeedFault.{FeedFault}
+use Rattle.connections.specs.declared.feeding.FeedFault.TheVariants as feeding
 use Rattle.register.specs.declared.register.OpenFault.TheVariants as opening
 use Rattle.cli.specs.declared.fault.Fault.{Fault}
 use Rattle.cli.specs.declared.fault.Fault.TheVariants as fault
@@ -71,3 +74,32 @@ outcome_of (Ok served) = fault_of_end served.end
 outcome_of (Err (serving.Read k)) = Err fault.Read
 outcome_of (Err (serving.Write k)) = Err fault.Write
 outcome_of (Err (serving.Memory k)) = Err fault.NoMemory
+
+-- ---- in groups of commits
+
+-- Holds if feeding in groups of commits ended so, with some content.
+abbrev pub FedInGroups : Windows → IoTrace → Result End FeedFault → Type 0
+FedInGroups w trace ended = (new : Content) × FeedsTo ended 0 (first_state w) new trace
+
+-- Holds if the input was fed in groups of commits to a new register of these windows, with this
+-- result. If a write failed, what was written is a prefix of what answers the messages that had
+-- their steps. If there was no memory to open the register, nothing was answered.
+abbrev pub FeedsInGroups : Windows → IoTrace → Result (Unit {0}) Fault → Type 0
+FeedsInGroups w trace (Ok done) = FedInGroups w trace (Ok Input) ⊎ FedInGroups w trace (Ok Closed)
+FeedsInGroups w trace (Err (fault.Message refused)) = FedInGroups w trace (Ok (Refused refused))
+FeedsInGroups w trace (Err fault.Read) = FedInGroups w trace (Err feeding.Read)
+FeedsInGroups w trace (Err fault.Write) = FedInGroups w trace (Err feeding.Write)
+FeedsInGroups w trace (Err fault.NoMemory) = FedInGroups w trace (Err feeding.NoMemory)
+FeedsInGroups w trace (Err (fault.Open opening.NoMemory)) =
+    trace.written_after ≡ trace.written_before
+FeedsInGroups w trace (Err (fault.Open opening.Storage)) = ⊥
+FeedsInGroups w trace (Err (fault.Open opening.WindowsDiffer)) = ⊥
+FeedsInGroups w trace (Err (fault.Windows refused)) = ⊥
+FeedsInGroups w trace (Err (fault.File refused)) = ⊥
+FeedsInGroups w trace (Err fault.Listen) = ⊥
+
+abbrev pub outcome_of_groups : Result End FeedFault → Result (Unit {0}) Fault
+outcome_of_groups (Ok end) = fault_of_end end
+outcome_of_groups (Err feeding.Read) = Err fault.Read
+outcome_of_groups (Err feeding.Write) = Err fault.Write
+outcome_of_groups (Err feeding.NoMemory) = Err fault.NoMemory

@@ -153,7 +153,7 @@ fn with_number<'a>(
     command.arg(number_up_to(alloc, most, id, value, help, false))
 }
 
-// Adds the options that limit connections.
+// Adds the options that limit connections, and how many messages share a commit.
 fn with_limits<'a>(alloc: Global, command: Command<'a>) -> Result<Command<'a>, AllocError>
     requires { (out-Command command).has_globals ≡ false }
     ensures { IfOk result (λ c. (app_of c ≡ with_limits (app_of command.entry))
@@ -161,6 +161,8 @@ fn with_limits<'a>(alloc: Global, command: Command<'a>) -> Result<Command<'a>, A
 {
     let help = "Serve so many connections at once; 128 if not given";
     let command = with_number(alloc, command, 1024, "at-once", "M", help)?;
+    let help = "Execute up to so many messages in one commit; 256 if not given";
+    let command = with_number(alloc, command, 256, "group", "N", help)?;
     let help = "Close a connection whose message takes longer; 10 if not given";
     let command = with_number(alloc, command, 65_535, "message-limit", "SECONDS", help)?;
     let help = "Close a connection that is silent for longer between messages; 30 if not given";

@@ -167,11 +167,12 @@ impl From<ServeLimits> for Limits {
     ghost use Rattle.connections.specs.Waits.{AreLimits};
 
     ghost from_gives = { λ given limits.
-        AreLimits given.at_once given.message given.idle 1 given.sending 2 limits };
+        AreLimits given.at_once given.group given.message given.idle 1 given.sending 2 limits };
 
     fn from(limits: ServeLimits) -> Limits {
         Limits::new(
             usize::from(limits.at_once),
+            u64::from(limits.group),
             u64::from(limits.message),
             u64::from(limits.idle),
             u64::from(limits.sending),

@@ -11,6 +11,9 @@ use http_messages::read_number;
 // How many connections are served at once, unless the command line says it.
 const AT_ONCE: u16 = 128;
 
+// How many messages share a commit at most, unless the command line says it.
+const GROUP: u16 = 256;
+
 // How many seconds a message may take, unless the command line says it.
 const MESSAGE_SECONDS: u16 = 10;
 
@@ -77,6 +80,7 @@ fn limits_of(matches: &ArgMatches<'_>) -> Result<ServeLimits, NoLine>
 {
     Ok(ServeLimits {
         at_once: number_or(matches, "at-once", AT_ONCE)?,
+        group: number_or(matches, "group", GROUP)?,
         message: number_or(matches, "message-limit", MESSAGE_SECONDS)?,
         idle: number_or(matches, "idle-limit", IDLE_SECONDS)?,
         sending: number_or(matches, "sending-limit", SENDING_SECONDS)?,

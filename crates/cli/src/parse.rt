@@ -14,11 +14,13 @@ use clap::error::ErrorKind;
 use std::alloc::Global;
 use std::convert::AsStr;
 
-/// How many connections are served at once, and how many seconds each may wait: for the rest of a
-/// message, for the next message, and until the client takes further bytes.
+/// How many connections are served at once, how many messages share a commit, and how many seconds
+/// each connection may wait: for the rest of a message, for the next message, and until the client
+/// takes further bytes.
 #[derive(Clone, Copy, PartialEq, Eq, Debug)]
 pub struct ServeLimits {
     pub at_once: u16,
+    pub group: u16,
     pub message: u16,
     pub idle: u16,
     pub sending: u16,

@@ -11,7 +11,8 @@ ghost use Rattle.settle.specs.Reads.{HasDeviceFailed};
 ghost use Rattle.model.specs.Windows.{Windows as WindowsModel};
 ghost use Rattle.version.specs.Abstraction.{windows_of};
 ghost use Rattle.register.specs.Refinement.{Refines};
-ghost use Rattle.cli.specs.Feeding.{Feeds, io_of_feed, outcome_of};
+ghost use Rattle.sql_store.specs.Groups.{is_sound};
+ghost use Rattle.cli.specs.Feeding.{Feeds, FeedsInGroups, io_of_feed, outcome_of, outcome_of_groups};
 ghost use Rattle.cli.specs.Faults.{IsOfFeeding, IsOfNewFeeding, IsOfReading, IsOfServing, IsOfShowing, IsOfWindows, MayEnd, MayEndAs, MayEndListening, MayEndOverFile, fault_of_opening};
 ghost use Rattle.cli.specs.Reporting.{Ends};
 ghost use Rattle.cli.specs.declared.parse.CommandLine.{CommandLine as CommandLineImpl};
@@ -24,7 +25,7 @@ use crate::reporting::{report_outcome, report_usage};
 use crate::showing::{present_set, show_windows};
 use api::{End, NoTicks, Options, Served, serve};
 use bulk::{BulkFault, FaultKind, audit, export, run_file};
-use connections::Limits;
+use connections::{FeedFault, Limits, feed as feed_groups};
 use numbers::Spid;
 use register::{OpenFault, Register};
 use settle::Store;
@@ -180,8 +181,76 @@ pub fn feed<R: Read, W: Write + Drop>(
     outcome
 }
 
-/// Like `feed`, over the file at `path`, which `SqlStore::at` opens. Returns the store and how
-/// serving ended.
+// Returns how feeding in groups of commits ended. A refused message is the program's fault.
+fn feeding_outcome(fed: Result<End, FeedFault>) -> Result<(), Fault>
+    ensures outcome { result ≡ outcome_of_groups fed }
+    ensures fault { IfErr result IsOfServing }
+{
+    match fed {
+        Ok(End::Input | End::Closed) => Ok(()),
+        Ok(End::Refused(fault)) => Err(Fault::Message(fault)),
+        Err(FeedFault::Read) => Err(Fault::Read),
+        Err(FeedFault::Write) => Err(Fault::Write),
+        Err(FeedFault::NoMemory) => Err(Fault::NoMemory),
+    }
+}
+
+// Feeds `reader` to a register in groups of commits. If the content refines the first state for some
+// windows and the device never failed, the answers are the machine's from there on.
+fn feed_groups_to<S: Store, R: Read, W: Write>(
+    alloc: Global,
+    register: &mut Register<S>,
+    reader: &mut R,
+    writer: &mut W,
+) -> Result<(), Fault>
+    ensures usable { S.IsUsable register.new.store → S.IsUsable register.old.store }
+    ensures honest { S.HasHonestDevice register.new.store → S.HasHonestDevice register.old.store }
+    ensures rises { S.failed register.old.store ≤ S.failed register.new.store }
+    ensures feeds { S.IsUsable register.new.store → S.failed register.old.store ≡ 0
+        → S.failed register.new.store ≡ 0 → (w : WindowsModel)
+        → Refines (S.content register.old.store) (first_state w)
+        → IfSome (R.remaining reader.old)
+        (λ input. FeedsInGroups w (io_of_feed input (R.remaining reader.new)
+        (W.contents writer.old) (W.contents writer.new)) result) }
+    ensures fault { IfErr result IsOfServing }
+{
+    let fed = feed_groups(alloc, register, reader, writer);
+    feeding_outcome(fed)
+}
+
+// Feeds `reader` to a store in groups of commits, and returns the store. If the store was empty and
+// its device never failed, the answers are those of the machine from its first state on.
+fn feed_in_groups<S: Store, R: Read, W: Write>(
+    alloc: Global,
+    store: S,
+    windows: &Windows,
+    reader: &mut R,
+    writer: &mut W,
+) -> (S, Result<(), Fault>)
+    ensures usable { S.IsUsable result.0 → S.IsUsable store }
+    ensures honest { S.HasHonestDevice result.0 → S.HasHonestDevice store }
+    ensures feeds { S.IsUsable result.0 → S.failed result.0 ≡ 0
+        → S.content store ≡ empty_content → IfSome (R.remaining reader.old) (λ input.
+        FeedsInGroups (windows_of windows.now) (io_of_feed input (R.remaining reader.new)
+        (W.contents writer.old) (W.contents writer.new)) result.1) }
+    ensures fault { IfErr result.1 IsOfFeeding }
+{
+    match Register::open(alloc, store, windows) {
+        Ok(register) => {
+            let mut register = register;
+            let outcome = feed_groups_to(alloc, &mut register, reader, writer);
+            (register.close(), outcome)
+        }
+        Err((store, fault)) => (store, Err(Fault::Open(fault))),
+    }
+}
+
+/// Feeds the messages of `reader` to a register in the file at `path`, which `SqlStore::at` opens,
+/// in groups of commits, with `POST /clock`. Returns the store and how feeding ended.
+///
+/// Messages that arrive together share a commit, and their responses are written after it. After
+/// `Write`, what was written is a prefix of the responses. All messages that are answered there have
+/// been executed, and perhaps more of the same group.
 ///
 /// The answers are those of the machine from its first state on if:
 /// - the file was new, and its disk returned what was written;
@@ -190,24 +259,24 @@ pub fn feed<R: Read, W: Write + Drop>(
 /// # Errors
 ///
 /// Those of `SqlStore::at`.
-pub fn feed_at<S: Start, R: Read, W: Write + Drop>(
+pub fn feed_at<S: Start, R: Read, W: Write>(
     rt: &HostRuntime,
     path: &str,
     start: S,
     windows: &Windows,
     reader: &mut R,
-    writer: &mut BufWriter<W>,
+    writer: &mut W,
 ) -> Result<(StoreAt<S>, Result<(), Fault>), (FileFault, UnopenedAt<S>)>
     ensures feeds { IfOk result (λ r. HasCleanDisk (file_state r.0.db.conn)
-        → IsTrue (file_state r.0.db.conn).is_open → r.0.failures ≡ 0
+        → IsTrue (is_sound r.0.group) → IsTrue (file_state r.0.db.conn).is_open
+        → r.0.failures ≡ 0
         → (image_at S.Start).db ≡ [] → IfSome (R.remaining reader.old) (λ input.
-        Feeds (windows_of windows.now) (io_of_feed input (R.remaining reader.new)
-        (writer_contents W.contents writer.old) (W.contents (writer_inner writer.new)))
-        (writer_buffer writer.new) r.1)) }
+        FeedsInGroups (windows_of windows.now) (io_of_feed input (R.remaining reader.new)
+        (W.contents writer.old) (W.contents writer.new)) r.1)) }
     ensures fault { IfOk result (λ r. IfErr r.1 IsOfFeeding) }
 {
     let store = SqlStore::at(rt, path, start, windows)?;
-    Ok(feed_over(rt.alloc(), store, windows, reader, writer))
+    Ok(feed_in_groups(rt.alloc(), store, windows, reader, writer))
 }
 
 // Like `feed`, to a writer without a buffer. Discards what a failed write leaves in the buffer.
@@ -227,25 +296,8 @@ fn feed_buffered<R: Read, W: Write>(
     outcome
 }
 
-// Like `feed_buffered`, over a register.
-fn feed_buffered_to<S: Store, R: Read, W: Write>(
-    alloc: Global,
-    register: &mut Register<S>,
-    reader: &mut R,
-    writer: &mut W,
-) -> Result<(), Fault>
-    ensures { IfErr result IsOfServing }
-{
-    let Ok(mut buffered) = BufWriter::with_capacity(alloc, BUFFER_SIZE, writer) else {
-        return Err(Fault::NoMemory);
-    };
-    let outcome = feed_to(alloc, register, reader, &mut buffered);
-    let (_writer, _unwritten) = buffered.into_parts();
-    outcome
-}
-
-// Like `feed_buffered`, over the file at `path`.
-fn feed_buffered_at<R: Read, W: Write>(
+// Like `feed_at`, with the program's outcome if the file could not be opened.
+fn feed_open<R: Read, W: Write>(
     rt: &HostRuntime,
     path: &str,
     windows: &Windows,
@@ -255,12 +307,7 @@ fn feed_buffered_at<R: Read, W: Write>(
     ensures fed { IfOk result (λ r. IfErr r.1 IsOfFeeding) }
     ensures unopened { IfErr result IsOfFeeding }
 {
-    let Ok(mut buffered) = BufWriter::with_capacity(rt.alloc(), BUFFER_SIZE, writer) else {
-        return Err(Fault::NoMemory);
-    };
-    let fed = feed_at(rt, path, Unknown, windows, reader, &mut buffered);
-    let (_writer, _unwritten) = buffered.into_parts();
-    match fed {
+    match feed_at(rt, path, Unknown, windows, reader, writer) {
         Ok(fed) => Ok(fed),
         Err(refused) => Err(open_fault(refused)),
     }
@@ -278,16 +325,8 @@ fn feed_file<T: Files + AllocGlobal, S: Store>(
         Ok(file) => file,
         Err(error) => return Err(read_fault(error)),
     };
-    let file_options = Options { clock_route: true };
     let mut sink = io::sink();
-    serving_outcome(serve(
-        rt.alloc(),
-        register,
-        &mut NoTicks,
-        &file_options,
-        &mut file,
-        &mut sink,
-    ))
+    feed_groups_to(rt.alloc(), register, &mut file, &mut sink)
 }
 
 // Returns how the work on a file ended, as the program's outcome.
@@ -351,7 +390,7 @@ fn run_on<S: Store, R: Read, W: Write>(
         feed_file(rt, register, path)?;
     }
     match line.subcommand {
-        Subcommand::Feed => feed_buffered_to(alloc, register, reader, writer),
+        Subcommand::Feed => feed_groups_to(alloc, register, reader, writer),
         Subcommand::Serve {
             port,
             connections,
@@ -419,7 +458,7 @@ fn run_open<R: Read, W: Write>(
     ensures unopened { IfErr result (MayEndOverFile line.now) }
 {
     match (line.subcommand, line.feed) {
-        (Subcommand::Feed, None) => feed_buffered_at(rt, path, windows, reader, writer),
+        (Subcommand::Feed, None) => feed_open(rt, path, windows, reader, writer),
         _ => {
             let store = SqlStore::at(rt, path, Unknown, windows).map_err(open_fault)?;
             Ok(run_over(rt, store, windows, line, reader, writer))
