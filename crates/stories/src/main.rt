@@ -2,8 +2,8 @@
 //!
 //! Serves each file to a new register in memory, whole and byte by byte, and to one over a
 //! database, and prints failures of either store. Plays each message by message too, with messages
-//! that are cut and with stores that fail, unless it runs files of commands. Prints what is answered
-//! differently than it should be.
+//! that are cut, with stores that fail, and in groups of commits, unless it runs files of commands.
+//! Prints what is answered differently than it should be.
 //!
 //! With `--each` before the files, cuts each message and fails each call, and prints how many there
 //! are; without it skips some, for the time of the gate. A file has the bytes of one connection, or
@@ -13,12 +13,14 @@
 
 mod cuts;
 mod fault;
+mod groups;
 mod played_story;
 mod store_faults;
 mod story;
 
 use cuts::{count_cuts, first_wrong_cut, has_malformed_message};
 use fault::Fault;
+use groups::{first_wrong_failure, first_wrong_size};
 use played_story::PlayedStory;
 use std::io::Write;
 use std::rt::{Env, Files};
@@ -72,7 +74,18 @@ const FEW_BYTES: usize = 100_000;
 
 const MEMORY_STRIDE: u64 = 7;
 
+// Over a database in groups of commits, only each 127th call fails.
+const GROUP_STRIDE: u64 = 127;
+
 impl Thoroughness {
+    // Returns how many calls in groups of commits lie between one that fails and the next.
+    fn group_stride(self) -> u64 {
+        match self {
+            Thoroughness::Sampled => GROUP_STRIDE,
+            Thoroughness::Exhaustive => 1,
+        }
+    }
+
     // Returns how many calls lie between one that fails and the next.
     fn stride(self, kind: StoreKind, played: &PlayedStory) -> u64 {
         match kind {
@@ -146,6 +159,25 @@ fn print_cuts<T: AllocGlobal + Print>(
     Ok(())
 }
 
+// Prints what differs when the story is played in groups of commits.
+fn print_groups<T: AllocGlobal + Print>(
+    rt: &T,
+    windows: &Windows,
+    name: &str,
+    played: &PlayedStory,
+    thoroughness: Thoroughness,
+) -> Result<(), Fault> {
+    let mut out = io::writer(rt);
+    if let Some(size) = first_wrong_size(rt.alloc(), windows, played)? {
+        writeln!(out, "story {name}, in groups of {size}")?;
+    }
+    let stride = thoroughness.group_stride();
+    if let Some(before) = first_wrong_failure(rt.alloc(), windows, played, stride)? {
+        writeln!(out, "story {name}, a failure in a group after {before}")?;
+    }
+    Ok(())
+}
+
 // Prints what differs when the story is played message by message.
 fn print_messages<T: AllocGlobal + Print>(
     rt: &T,
@@ -158,6 +190,7 @@ fn print_messages<T: AllocGlobal + Print>(
         return Ok(());
     }
     print_cuts(rt, windows, name, played, thoroughness)?;
+    print_groups(rt, windows, name, played, thoroughness)?;
     let Some(calls) = find_store_calls(rt.alloc(), windows, played)? else {
         let mut out = io::writer(rt);
         writeln!(out, "story {name}, a store that fails always")?;

@@ -83,18 +83,16 @@ fn continue_over<S: Store>(
     }
 }
 
-// Plays the messages up to the one that is answered with `storage`, and returns its place. Returns
-// `None` if an earlier one is answered differently than in the story.
-fn play_until_failure<S: Store>(
+/// Plays messages up to one that is answered with `storage`. Returns its place, or that after the
+/// last. Returns `None` if an earlier one is answered differently than in the story.
+pub fn play_until_failure<S: Store>(
     alloc: Global,
     register: &mut Register<S>,
     played: &PlayedStory,
-    first: usize,
+    places: Range<usize>,
 ) -> Option<usize> {
-    if !played.has_same_responses(alloc, register, 0, first) {
-        return None;
-    }
-    for place in first..played.len() {
+    let end = places.end;
+    for place in places {
         let responses = played.serve_between(alloc, register, place, place.saturating_add(1));
         if responses.as_slice() == STORAGE {
             return Some(place);
@@ -103,7 +101,7 @@ fn play_until_failure<S: Store>(
             return None;
         }
     }
-    Some(played.len())
+    Some(end)
 }
 
 impl StoreCalls<'_> {
@@ -144,7 +142,14 @@ impl StoreCalls<'_> {
         register: &mut Register<S>,
         plan: FaultPlan,
     ) -> Option<usize> {
-        let failed_at = play_until_failure(alloc, register, self.played, plan.first)?;
+        if !self
+            .played
+            .has_same_responses(alloc, register, 0, plan.first)
+        {
+            return None;
+        }
+        let rest = plan.first..self.played.len();
+        let failed_at = play_until_failure(alloc, register, self.played, rest)?;
         let is_expected = match plan.failing {
             Failing::Once => {
                 self.played
