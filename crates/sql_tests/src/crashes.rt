@@ -146,8 +146,8 @@ fn reference_run(alloc: Global, scenario: &Scenario<'_>, options: Options) -> Op
     reference_of_request(alloc, file_bytes, scenario, options)
 }
 
-// Returns the state that has these rows.
-fn state_with_rows(states: &[Vec<u8>], rows: &[u8]) -> Option<usize> {
+/// Returns the state that has these rows.
+pub fn state_with_rows(states: &[Vec<u8>], rows: &[u8]) -> Option<usize> {
     for state in 0..states.len() {
         if states.get(state)?.as_slice() == rows {
             return Some(state);
@@ -325,11 +325,11 @@ fn is_continued(
     Some(next.response == *response && next.rows == *rows)
 }
 
-// Bytes that a stop has left, and their state.
+/// Bytes that a stop has left, and their state.
 #[derive(Drop)]
-struct JudgedFiles {
-    file_bytes: FileBytes,
-    state: usize,
+pub struct JudgedFiles {
+    pub file_bytes: FileBytes,
+    pub state: usize,
 }
 
 // Returns the state of these bytes, if the register continues from it.
@@ -348,7 +348,8 @@ fn find_state(
     }
 }
 
-fn known_state(judged: &[JudgedFiles], file_bytes: &FileBytes) -> Option<usize> {
+/// Returns the state of these bytes, if they have been judged.
+pub fn known_state(judged: &[JudgedFiles], file_bytes: &FileBytes) -> Option<usize> {
     for other in judged {
         if other.file_bytes.log == file_bytes.log && other.file_bytes.db == file_bytes.db {
             return Some(other.state);

@@ -13,9 +13,9 @@ use crate::worked_histories::{FAILED_NUMBER, History, PLANNED_RELEASE, PORT};
 use sqlite::Options;
 use std::alloc::Global;
 
-// Options that make each commit write the log first, and then copy it into the database file. The
-// cache holds every page, so that a request makes few other calls.
-const OPTIONS: Options = Options {
+/// Options that make each commit write the log first, and then copy it into the database file. The
+/// cache holds every page, so that a request makes few other calls.
+pub const LARGE_CACHE: Options = Options {
     cache_pages: 2000,
     spill_pages: 2000,
     checkpoint_frames: 1,
@@ -30,7 +30,7 @@ const NOT_OPENED: Request<'static> = ("", "the history before", "");
 // Executes an exchange without a stop. Returns the result, if the response is the row's.
 fn execute(alloc: Global, file_bytes: &FileBytes, exchange: &Exchange<'_>) -> Option<Outcome> {
     let (request, status, body) = exchange;
-    let (response, after) = run_in(alloc, file_bytes, OPTIONS, SingleRequest(request))?;
+    let (response, after) = run_in(alloc, file_bytes, LARGE_CACHE, SingleRequest(request))?;
     if response.as_slice() != encode_response(alloc, status, body).ok()?.as_bytes() {
         return None;
     }
@@ -63,8 +63,13 @@ fn reference_of(
     states: Vec<Vec<u8>>,
     scenario: &Scenario<'_>,
 ) -> Option<ReferenceRun> {
-    let calls_to_open = count_calls(alloc, before, OPTIONS, RequestBatches(&[]))?;
-    let calls_to_answer = count_calls(alloc, before, OPTIONS, SingleRequest(&scenario.request))?;
+    let calls_to_open = count_calls(alloc, before, LARGE_CACHE, RequestBatches(&[]))?;
+    let calls_to_answer = count_calls(
+        alloc,
+        before,
+        LARGE_CACHE,
+        SingleRequest(&scenario.request),
+    )?;
     let next = send_once(alloc, &outcome.file_bytes, &scenario.next_request)?;
     Some(ReferenceRun {
         file_bytes: copy_pair(alloc, &before.log, &before.db)?,
@@ -103,7 +108,7 @@ fn mismatch_during(
     let next_request = if is_changed { next_request } else { request };
     let scenario = scenario_of(request, next_request);
     match reference_of(alloc, before, outcome, states, &scenario) {
-        Some(reference) => mismatch_from(alloc, &reference, &scenario, OPTIONS),
+        Some(reference) => mismatch_from(alloc, &reference, &scenario, LARGE_CACHE),
         None => Some(Mismatch::Reference),
     }
 }
@@ -168,7 +173,7 @@ fn execute_part(
 
 // Executes parts without a stop on a new register. Returns the files after them.
 fn execute_parts(alloc: Global, parts: &[Exchanges<'static>]) -> Option<FileBytes> {
-    let mut files = files_after(alloc, &[], OPTIONS)?;
+    let mut files = files_after(alloc, &[], LARGE_CACHE)?;
     for part in parts {
         files = execute_part(alloc, files, *part)?;
     }

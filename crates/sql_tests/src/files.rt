@@ -53,19 +53,19 @@ pub fn bytes_of(alloc: Global, files: &Files<Fused>) -> Option<FileBytes> {
     })
 }
 
-// Creates a file with these bytes, which survive a crash.
-fn new_file(alloc: Global, bytes: &[u8], calls: u64) -> Option<Fused> {
+/// Creates a file with these bytes, which survive a crash.
+pub fn new_file(alloc: Global, bytes: &[u8]) -> Option<Memory> {
     let mut file = Memory::new(alloc);
     file.write_at(0, bytes).ok()?;
     file.sync().ok()?;
-    Some(Fuse::new(file, calls))
+    Some(file)
 }
 
 /// Creates files with these bytes that pass on this many calls.
 pub fn new_files(alloc: Global, file_bytes: &FileBytes, calls: Calls) -> Option<Files<Fused>> {
     Some(Files {
-        log: new_file(alloc, &file_bytes.log, calls.log)?,
-        db: new_file(alloc, &file_bytes.db, calls.db)?,
+        log: Fuse::new(new_file(alloc, &file_bytes.log)?, calls.log),
+        db: Fuse::new(new_file(alloc, &file_bytes.db)?, calls.db),
     })
 }
 

@@ -5,6 +5,8 @@
 #[cfg(test)]
 mod crashes;
 #[cfg(test)]
+mod crashes_in_groups;
+#[cfg(test)]
 mod crashes_in_histories;
 #[cfg(test)]
 mod failed_block;
@@ -12,6 +14,8 @@ mod failed_block;
 mod files;
 #[cfg(test)]
 mod first_format;
+#[cfg(test)]
+mod flaky_file;
 #[cfg(test)]
 mod messages;
 #[cfg(test)]

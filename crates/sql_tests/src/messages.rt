@@ -65,6 +65,48 @@ pub fn is_unavailable(response: &[u8]) -> bool {
         && response.ends_with(b"{\"error\":\"storage\",\"number\":29}")
 }
 
+// Returns a register's responses to batches of requests.
+fn responses_to<S: Store>(
+    alloc: Global,
+    register: &mut Register<S>,
+    batches: &[Requests<'_>],
+) -> Option<Vec<u8>> {
+    let mut responses = Vec::new(alloc);
+    for requests in batches {
+        for request in *requests {
+            let response = send(alloc, register, request)?;
+            responses.extend_from_slice(&response).ok()?;
+        }
+    }
+    Some(responses)
+}
+
+/// The result of a group of commits: whether they last, and the responses to its messages.
+#[derive(Drop)]
+pub struct GroupResult {
+    pub lasts: bool,
+    pub responses: Vec<u8>,
+}
+
+// Sends batches of requests in one group of commits. If they do not last, sends the requests again
+// if `is_repeated`, each with a commit of its own.
+fn execute_group<S: Store>(
+    alloc: Global,
+    register: &mut Register<S>,
+    batches: &[Requests<'_>],
+    is_repeated: bool,
+) -> Option<GroupResult> {
+    let is_begun = register.begin_group() == Ok(true);
+    let responses = responses_to(alloc, register, batches)?;
+    let lasts = register.end_group().is_ok() && is_begun;
+    let responses = if !lasts && is_repeated {
+        responses_to(alloc, register, batches)?
+    } else {
+        responses
+    };
+    Some(GroupResult { lasts, responses })
+}
+
 // Sends requests. Returns `None` unless all are accepted.
 fn send_each<S: Store>(
     alloc: Global,
@@ -121,6 +163,23 @@ pub fn send_one<S: Store>(alloc: Global, store: S, request: &Request<'_>) -> (Op
         Ok(mut register) => {
             let response = send(alloc, &mut register, request);
             (response, register.close())
+        }
+        Err(store) => (None, store),
+    }
+}
+
+/// Sends batches of requests to a register over a store, in one group of commits. If they do not
+/// last, sends the requests again if `is_repeated`. Returns the result, and the store afterwards.
+pub fn send_group<S: Store>(
+    alloc: Global,
+    store: S,
+    batches: &[Requests<'_>],
+    is_repeated: bool,
+) -> (Option<GroupResult>, S) {
+    match open_register(alloc, store) {
+        Ok(mut register) => {
+            let result = execute_group(alloc, &mut register, batches, is_repeated);
+            (result, register.close())
         }
         Err(store) => (None, store),
     }

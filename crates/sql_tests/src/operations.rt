@@ -2,7 +2,10 @@
 //!
 //! A call that needs files to hold a database takes forty seconds to prove over the files of the
 //! tests. Over any files it takes twenty. So only `with_database` makes such a call.
-use crate::messages::{Request, Requests, WINDOWS, open_and_close, send_all, send_one, windows_of};
+use crate::messages::{
+    GroupResult, Request, Requests, WINDOWS, open_and_close, send_all, send_group, send_one,
+    windows_of,
+};
 use crate::rows::rows_of;
 use register::OpenFault;
 use sql_store::{FileFault, Refused, SqlStore};
@@ -261,6 +264,32 @@ impl DbOperation for RequestBatches<'_> {
             Ok(store) => {
                 let (sent, store) = send_all(alloc, store, self.0);
                 (sent, database_of(store))
+            }
+            Err((_fault, store)) => (None, store),
+        }
+    }
+}
+
+/// The operation that sends batches of requests to a register, in one group of commits. If they do
+/// not last, it sends the requests again if `is_repeated`, each with a commit of its own.
+#[derive(Clone, Copy)]
+pub struct RequestGroup<'a> {
+    pub batches: &'a [Requests<'a>],
+    pub is_repeated: bool,
+}
+
+impl DbOperation for RequestGroup<'_> {
+    type Output = GroupResult;
+
+    fn execute<S: Alter + Drop>(
+        self,
+        alloc: Global,
+        conn: Connection<S>,
+    ) -> (Option<GroupResult>, S) {
+        match open_with(alloc, conn, StoreOpening::Open) {
+            Ok(store) => {
+                let (result, store) = send_group(alloc, store, self.batches, self.is_repeated);
+                (result, database_of(store))
             }
             Err((_fault, store)) => (None, store),
         }

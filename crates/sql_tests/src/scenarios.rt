@@ -389,3 +389,43 @@ pub static NEW_WINDOWS: Scenario<'static> = Scenario {
     request: NINE_WINDOWS,
     next_request: VERSION_QUESTION,
 };
+
+/// Messages that are executed in one group of commits.
+#[derive(Clone, Copy)]
+pub struct GroupScenario<'a> {
+    /// The messages before the group.
+    pub setup: &'a [Requests<'a>],
+    pub group: &'a [Requests<'a>],
+}
+
+/// A download is sent to each of three carriers.
+pub static GROUP_OF_1: GroupScenario<'static> = GroupScenario {
+    setup: &[OPENING, CREATED],
+    group: &[&[("AAAA", "/subscriptionVersionActivate", r#"{"id":1}"#)]],
+};
+
+/// Both providers create a port.
+pub static GROUP_OF_2: GroupScenario<'static> = GroupScenario {
+    setup: &[OPENING],
+    group: &[CREATED],
+};
+
+/// A port from its creation until the number is in force, and then its routing is modified.
+pub static GROUP_OF_7: GroupScenario<'static> = GroupScenario {
+    setup: &[OPENING],
+    group: &[CREATED, SENT, &[ACKNOWLEDGED, REROUTED]],
+};
+
+/// A number is ported, released and ported again, and then the windows are set 47 times.
+pub static GROUP_OF_64: GroupScenario<'static> = GroupScenario {
+    setup: &[OPENING],
+    group: &[
+        CREATED,
+        SENT,
+        &[ACKNOWLEDGED],
+        RELEASED,
+        CREATED_AGAIN,
+        &[ACTIVATED_AGAIN, LATE],
+        &[NINE_WINDOWS; 47],
+    ],
+};

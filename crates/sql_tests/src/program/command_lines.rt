@@ -43,7 +43,7 @@ const FIRST_AND_CUT: &str = "POST /carriers HTTP/1.1\r\nx-spid: NPAC\r\n\
     x-spid: NPAC\r\ncontent-length: 15\r\n\r\n{\"spid\"";
 
 // Mistakes in the line, found before any file is opened.
-static MISTAKES: [LineCase<'static>; 16] = [
+static MISTAKES: [LineCase<'static>; 18] = [
     ("npacd", "", 2, NO_OUTPUT, None),
     ("npacd listen --windows good.toml", "", 2, NO_OUTPUT, None),
     ("npacd feed", "", 2, NO_OUTPUT, None),
@@ -102,6 +102,20 @@ static MISTAKES: [LineCase<'static>; 16] = [
     ),
     (
         "npacd serve --windows good.toml --port 1 --connections 0",
+        "",
+        2,
+        NO_OUTPUT,
+        None,
+    ),
+    (
+        "npacd serve --windows good.toml --port 1 --group 0",
+        "",
+        2,
+        NO_OUTPUT,
+        None,
+    ),
+    (
+        "npacd serve --windows good.toml --port 1 --group 257",
         "",
         2,
         NO_OUTPUT,
@@ -475,6 +489,7 @@ fn are_lines(alloc: Global) -> Option<bool> {
         connections: Some(3),
         limits: ServeLimits {
             at_once: 1024,
+            group: 1,
             message: 1,
             idle: 2,
             sending: 65_535,
@@ -482,7 +497,7 @@ fn are_lines(alloc: Global) -> Option<bool> {
         log: Some("-"),
     };
     let text = "npacd serve --feed f --connections 3 --port 65535 --windows w --at-once 1024 \
-        --message-limit 1 --idle-limit 2 --sending-limit 65535 --log -";
+        --group 1 --message-limit 1 --idle-limit 2 --sending-limit 65535 --log -";
     let all = is_line(
         alloc,
         text,
@@ -498,6 +513,7 @@ fn are_lines(alloc: Global) -> Option<bool> {
         connections: None,
         limits: ServeLimits {
             at_once: 128,
+            group: 256,
             message: 10,
             idle: 30,
             sending: 10,
