@@ -1,8 +1,10 @@
-"""Measures messages a second of kept connections that port numbers over a file, and how many share a sync.
+"""Measures messages a second of kept connections that port numbers over a file, and how many share a sync: of theirs,
+and of the same ports fed at once.
 
     bench/run syncs [N [CLIENTS]]      (default 2000 ports and 16; needs the built program and strace)
 
-Each client has one message under way. Every answer is looked at. Wall time; the syncs are those of another run.
+Each client has one message under way. Every answer is looked at, those of the feed only counted. Wall time; the syncs
+are those of other runs.
 """
 import re
 import socket
@@ -13,11 +15,11 @@ from concurrent.futures import ThreadPoolExecutor
 from lib.measure import counts, folder
 from lib.messages import shown
 from lib.numbers import CARRIERS, opening, port
-from lib.program import serving
+from lib.program import command_line, serving
 
 # what the answers to a port's messages show
 SHOWN = shown("pending", "pending", *["sending"] * len(CARRIERS), "active")
-SYNCS = "trace=fsync,fdatasync"
+STRACE = ["strace", "-f", "-e", "trace=fsync,fdatasync", "-o"]
 
 
 def version_in(heard):
@@ -90,6 +92,18 @@ def ported(at, count, clients):
     return time.monotonic() - begun
 
 
+def syncs_in(calls):
+    return calls.read_text("utf-8").count("sync(")
+
+
+def fed(count, held):
+    """Feeds the messages of so many ports at once, and returns how many there were, and how often they were synced."""
+    stream = "".join([*opening(), *(it for place in range(count) for it in port(place).whole())]).encode()
+    words = [*STRACE, held / "fed_calls", *command_line("feed", "--db", str(held / "fed"))]
+    answers = subprocess.run(words, input=stream, capture_output=True, check=True).stdout
+    return answers.count(b"HTTP/1.1 200 OK\r\n"), syncs_in(held / "fed_calls")
+
+
 def main(words):
     count, clients = counts(words, 2000, 16)
     messages = count * len(SHOWN)
@@ -98,10 +112,10 @@ def main(words):
             seconds = ported(at, count, clients)
         calls = held / "calls"
         with serving("--db", str(held / "traced")) as (process, at):
-            with subprocess.Popen(["strace", "-f", "-e", SYNCS, "-o", calls, "-p", str(process.pid)],
-                                  stderr=subprocess.DEVNULL) as tracer:
+            with subprocess.Popen([*STRACE, calls, "-p", str(process.pid)], stderr=subprocess.DEVNULL) as tracer:
                 time.sleep(1)
                 ported(at, count, clients)
                 tracer.terminate()
-        syncs = calls.read_text("utf-8").count("sync(")
-    print(f"{messages / seconds:,.0f} messages a second, {messages / syncs:.2f} messages a sync")
+        at_once, feed_syncs = fed(count, held)
+        print(f"{messages / seconds:,.0f} messages a second, {messages / syncs_in(calls):.2f} messages a sync; "
+              f"fed at once {at_once / feed_syncs:.1f}")
