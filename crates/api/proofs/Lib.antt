@@ -1,11 +1,12 @@
 mod Follows
 mod Going
+pub mod Left
 mod NextLemmas
 mod OnceLemmas
 mod PlainLemmas
 mod Risen
 mod RunLemmas
-mod StepLemmas
+pub mod StepLemmas
 mod StorageLemmas
 mod StorageRuns
 mod UriLemmas

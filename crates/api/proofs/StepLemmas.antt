@@ -790,7 +790,7 @@ meets_since from between to st (Some route) method caller body text after before
     path_since from between to st route (allows_method route method) caller body text after before
     behind x
 
-met_since : (from between to : ℕ) (st : State) (tick : Option ℕ) (route : Option Route)
+pub met_since : (from between to : ℕ) (st : State) (tick : Option ℕ) (route : Option Route)
     (method : Method) (caller : Option Spid) (body text : List ℕ) (after : State) → from ≤ between
     → between ≤ to →
     ⊥ ⊎ Dispatches between to (ticked st tick) route method caller body text after
@@ -802,6 +802,37 @@ met_since from between to st tick route method caller body text after before beh
 met_since from between to st tick route method caller body text after before behind (inr x) =
     inr (meets_since from between to (ticked st tick) route method caller body text after before
     behind x)
+
+tick_since : (from between to : ℕ) (st : State) (tick : Option ℕ) (text : List ℕ) (after : State)
+    → from ≤ between → between ≤ to → IsTickUnavailable between to st tick text after
+    → IsTickUnavailable from to st tick text after
+tick_since from between to st None text after before behind x = x
+tick_since from between to st (Some minute) text after before behind x =
+    withheld_since from between to st text after before behind x
+
+outcome_since : (from between to : ℕ) (st : State) (tick : Option ℕ) (route : Option Route)
+    (method : Method) (caller : Option Spid) (body text : List ℕ) (after : State) → from ≤ between
+    → between ≤ to →
+    IsTickUnavailable between to st tick text after
+    ⊎ Dispatches between to (ticked st tick) route method caller body text after
+    → IsTickUnavailable from to st tick text after
+    ⊎ Dispatches from to (ticked st tick) route method caller body text after
+outcome_since from between to st tick route method caller body text after before behind (inl x) =
+    inl (tick_since from between to st tick text after before behind x)
+outcome_since from between to st tick route method caller body text after before behind (inr x) =
+    inr (meets_since from between to (ticked st tick) route method caller body text after before
+    behind x)
+
+-- A failure during a message is one since an earlier count.
+pub step_since : (offered : Bool) (tick : Option ℕ) (from between to : ℕ) (st : State)
+    (request : Request) (body text : List ℕ) (after : State) → from ≤ between
+    → Step offered tick between to st request body text after
+    → Step offered tick from to st request body text after
+step_since offered tick from between to st request body text after before step = record {
+  rises = le_trans before step.rises;
+  outcome = outcome_since from between to st tick (offered_route offered request.route)
+      request.method request.caller body text after before step.rises step.outcome;
+}
 
 -- The clock moved, and then the message was executed.
 pub tick_then : (offered : Bool) (tick : Option ℕ) (from between to : ℕ) (old mid new : Content)

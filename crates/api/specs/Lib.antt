@@ -1,3 +1,4 @@
+pub mod Crashes
 pub mod Executing
 pub mod ReplyBounds
 pub mod Plain

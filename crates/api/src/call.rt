@@ -1,14 +1,16 @@
 //! Executes one message and writes its response.
-ghost use Rattle.std.specs.Prelude.{◌≡◌, ℕ, ◌+◌, ◌*◌, ◌≤◌, List, Some, option_map, true, length, string_bytes, IfOk, IfErr, OnOk, ◌⊎◌};
+ghost use Rattle.std.specs.Prelude.{◌≡◌, ℕ, ◌+◌, ◌*◌, ◌≤◌, List, Some, None, option_map, true, length, string_bytes, IfOk, IfErr, OnOk, ◌⊎◌};
 ghost use Rattle.model.specs.State.{State, all_in_force};
 ghost use Rattle.register.specs.Refinement.{Refines};
-ghost use Rattle.requests.specs.Calls.{called_of};
+ghost use Rattle.register.specs.Crashes.{KeepsOrTakesStep, KeepsState};
+ghost use Rattle.requests.specs.Calls.{called_of, input_of};
 ghost use Rattle.http_messages.specs.Table.{allows_method as takes_method, offered_route};
 ghost use Rattle.json_api.specs.Failures.{failure_text};
 ghost use Rattle.json_api.specs.Forms.{ApiCall as ApiCallModel, RegisterCall, api_call_model as asked_model, json_of};
 ghost use Rattle.json_api.specs.ResponseBuffers.{HasCapacity, IsEmpty, IsWritten};
+ghost use Rattle.api.specs.Crashes.{LeavesCall, LeavesDispatched, LeavesStep};
 ghost use Rattle.api.specs.ReplyBounds.{HasCapacityFor, AreReplyBounds};
-ghost use Rattle.settle.specs.StoreContract.{BeginsNoGroup, EndsNoGroup, IsAvailable, PreservesStore};
+ghost use Rattle.settle.specs.StoreContract.{AddsOnlyCrashStates, BeginsNoGroup, EndsNoGroup, IsAvailable, PreservesStore};
 ghost use Rattle.api.specs.Step.{Step, Dispatches, DispatchesCallOn, IsCallerAdmitted, IsCallerRefused, BodyAsks, IdAsks, NumberAsks, CountAsks, PathAsks, Performs, IsPerformed, IsUnavailableRefusal, response_text, IsReplyAvailable, IsUnavailableText};
 
 use crate::query::query;
@@ -50,6 +52,8 @@ fn count_rows<S: Store>(register: &mut Register<S>) -> Result<usize, Refusal>
         → Refines (S.content register.old.store) st → Refines (S.content register.new.store) st }
     ensures preserves { PreservesStore S.StoreModel register.old.store
         register.new.store (IsAvailable result) ⊥ }
+    ensures left { AddsOnlyCrashStates S.StoreModel register.old.store register.new.store
+        (λ m. S.IsUsable register.old.store × KeepsState (S.content register.old.store) m) }
     ensures count { IfOk result (λ count. S.IsUsable register.new.store → (st : State)
         → Refines (S.content register.old.store) st → length (all_in_force st) ≡ count) }
     ensures unavailable { IfErr result (λ refusal. S.IsUsable register.new.store → (st : State)
@@ -71,6 +75,8 @@ fn admit<S: Store>(register: &mut Register<S>, caller: Spid, call: &Call) -> Res
         → Refines (S.content register.old.store) st → Refines (S.content register.new.store) st }
     ensures preserves { PreservesStore S.StoreModel register.old.store
         register.new.store (IsAvailable result) ⊥ }
+    ensures left { AddsOnlyCrashStates S.StoreModel register.old.store register.new.store
+        (λ m. S.IsUsable register.old.store × KeepsState (S.content register.old.store) m) }
     ensures ok { OnOk result (S.IsUsable register.new.store → (st : State)
         → Refines (S.content register.old.store) st
         → IsCallerAdmitted st caller.number (called_of call.now)) }
@@ -96,6 +102,8 @@ fn bounds_of<S: Store>(register: &mut Register<S>, call: &Call) -> Result<ReplyB
         → Refines (S.content register.old.store) st → Refines (S.content register.new.store) st }
     ensures preserves { PreservesStore S.StoreModel register.old.store
         register.new.store (IsAvailable result) ⊥ }
+    ensures left { AddsOnlyCrashStates S.StoreModel register.old.store register.new.store
+        (λ m. S.IsUsable register.old.store × KeepsState (S.content register.old.store) m) }
     ensures bounds { IfOk result (λ bounds. S.IsUsable register.new.store → (st : State)
         → Refines (S.content register.old.store) st
         → AreReplyBounds st (called_of call.now) bounds) }
@@ -140,6 +148,8 @@ fn reserve_reply<S: Store>(
         → Refines (S.content register.old.store) st → Refines (S.content register.new.store) st }
     ensures preserves { PreservesStore S.StoreModel register.old.store
         register.new.store (IsAvailable result) ⊥ }
+    ensures left { AddsOnlyCrashStates S.StoreModel register.old.store register.new.store
+        (λ m. S.IsUsable register.old.store × KeepsState (S.content register.old.store) m) }
     ensures bounds { IfOk result (λ bounds. S.IsUsable register.new.store → (st : State)
         → Refines (S.content register.old.store) st
         → AreReplyBounds st (called_of call.now) bounds) }
@@ -166,6 +176,9 @@ fn answer_admitted<S: Store>(
     ensures capacity { HasCapacity 512 response.new }
     ensures preserves { PreservesStore S.StoreModel register.old.store
         register.new.store (IsReplyAvailable result) ⊥ }
+    ensures left { AddsOnlyCrashStates S.StoreModel register.old.store register.new.store
+        (λ m. S.IsUsable register.old.store × KeepsOrTakesStep (S.content register.old.store)
+        (input_of caller.number (called_of call.now)) m) }
     ensures performs { S.IsUsable register.new.store → (st : State)
         → Refines (S.content register.old.store) st
         → IsCallerAdmitted st caller.number (called_of call.now)
@@ -194,6 +207,9 @@ fn answer<S: Store>(
     ensures capacity { HasCapacity 512 response.new }
     ensures preserves { PreservesStore S.StoreModel register.old.store
         register.new.store (IsReplyAvailable result) ⊥ }
+    ensures left { AddsOnlyCrashStates S.StoreModel register.old.store register.new.store
+        (λ m. S.IsUsable register.old.store × LeavesCall (S.content register.old.store) m
+        caller.number (RegisterCall (called_of call.now))) }
     ensures performs { S.IsUsable register.new.store
         → Performs (S.failed register.old.store) (S.failed register.new.store)
         (S.content register.old.store) (S.content register.new.store) caller.number
@@ -218,6 +234,9 @@ fn answer_asked<S: Store>(
     ensures capacity { HasCapacity 512 response.new }
     ensures preserves { PreservesStore S.StoreModel register.old.store
         register.new.store (IsReplyAvailable result) ⊥ }
+    ensures left { AddsOnlyCrashStates S.StoreModel register.old.store register.new.store
+        (λ m. S.IsUsable register.old.store × LeavesCall (S.content register.old.store) m
+        caller.number (asked_model asked.now)) }
     ensures performs { S.IsUsable register.new.store
         → Performs (S.failed register.old.store) (S.failed register.new.store)
         (S.content register.old.store) (S.content register.new.store) caller.number
@@ -244,6 +263,11 @@ fn answer_fields<S: Store, F: Fields>(
     ensures capacity { HasCapacity 512 response.new }
     ensures preserves { PreservesStore S.StoreModel register.old.store
         register.new.store (IsReplyAvailable result) ⊥ }
+    ensures left { AddsOnlyCrashStates S.StoreModel register.old.store register.new.store
+        (λ m. S.IsUsable register.old.store × ((body : List ℕ)
+        → json_of body ≡ Some (F.value fields.now)
+        → LeavesDispatched (S.content register.old.store) m (BodyAsks route body)
+        caller.number)) }
     ensures calls { S.IsUsable register.new.store → (body : List ℕ)
         → json_of body ≡ Some (F.value fields.now)
         → DispatchesCallOn (S.failed register.old.store) (S.failed register.new.store)
@@ -274,6 +298,9 @@ fn answer_tree<S: Store>(
     ensures capacity { HasCapacity 512 response.new }
     ensures preserves { PreservesStore S.StoreModel register.old.store
         register.new.store (IsReplyAvailable result) ⊥ }
+    ensures left { AddsOnlyCrashStates S.StoreModel register.old.store register.new.store
+        (λ m. S.IsUsable register.old.store × LeavesDispatched (S.content register.old.store) m
+        (BodyAsks route body.now) caller.number) }
     ensures calls { S.IsUsable register.new.store
         → DispatchesCallOn (S.failed register.old.store) (S.failed register.new.store)
         (S.content register.old.store) (S.content register.new.store) (BodyAsks route body.now)
@@ -302,6 +329,9 @@ fn answer_parsed<S: Store>(
     ensures capacity { HasCapacity 512 response.new }
     ensures preserves { PreservesStore S.StoreModel register.old.store
         register.new.store (IsReplyAvailable result) ⊥ }
+    ensures left { AddsOnlyCrashStates S.StoreModel register.old.store register.new.store
+        (λ m. S.IsUsable register.old.store × LeavesDispatched (S.content register.old.store) m
+        (BodyAsks route body.now) caller.number) }
     ensures calls { S.IsUsable register.new.store
         → DispatchesCallOn (S.failed register.old.store) (S.failed register.new.store)
         (S.content register.old.store) (S.content register.new.store) (BodyAsks route body.now)
@@ -330,6 +360,9 @@ fn answer_body<S: Store>(
     ensures capacity { HasCapacity 512 response.new }
     ensures preserves { PreservesStore S.StoreModel register.old.store
         register.new.store (IsReplyAvailable result) ⊥ }
+    ensures left { AddsOnlyCrashStates S.StoreModel register.old.store register.new.store
+        (λ m. S.IsUsable register.old.store × LeavesDispatched (S.content register.old.store) m
+        (BodyAsks route body.now) caller.number) }
     ensures calls { S.IsUsable register.new.store
         → DispatchesCallOn (S.failed register.old.store) (S.failed register.new.store)
         (S.content register.old.store) (S.content register.new.store) (BodyAsks route body.now)
@@ -404,6 +437,9 @@ fn answer_message<S: Store>(
     ensures capacity { HasCapacity 512 response.new }
     ensures preserves { PreservesStore S.StoreModel register.old.store
         register.new.store (IsReplyAvailable result) ⊥ }
+    ensures left { AddsOnlyCrashStates S.StoreModel register.old.store register.new.store
+        (λ m. S.IsUsable register.old.store × LeavesDispatched (S.content register.old.store) m
+        (PathAsks route body.now) caller.number) }
     ensures calls { S.IsUsable register.new.store
         → DispatchesCallOn (S.failed register.old.store) (S.failed register.new.store)
         (S.content register.old.store) (S.content register.new.store) (PathAsks route body.now)
@@ -436,6 +472,9 @@ fn reply<S: Store>(
     ensures capacity { HasCapacity 512 response.new }
     ensures preserves { PreservesStore S.StoreModel register.old.store
         register.new.store (IsReplyAvailable result) ⊥ }
+    ensures left { AddsOnlyCrashStates S.StoreModel register.old.store register.new.store
+        (λ m. S.IsUsable register.old.store
+        × LeavesStep clock None (S.content register.old.store) m request.now body.now) }
     ensures step { S.IsUsable register.new.store → (st : State)
         → Refines (S.content register.old.store) st → (after : State)
         × Step clock None (S.failed register.old.store) (S.failed register.new.store) st request.now
@@ -468,6 +507,9 @@ pub fn write_response<S: Store>(
     ensures ends { EndsNoGroup S.StoreModel register.old.store register.new.store }
     ensures stays { S.IsUsable register.old.store → S.HasHonestDevice register.new.store
         → IsUnavailableText (string_bytes response.new.text) ⊎ S.IsUsable register.new.store }
+    ensures left { AddsOnlyCrashStates S.StoreModel register.old.store register.new.store
+        (λ m. S.IsUsable register.old.store
+        × LeavesStep clock None (S.content register.old.store) m request.now body.now) }
     ensures step { S.IsUsable register.new.store → (st : State)
         → Refines (S.content register.old.store) st → (after : State)
         × Step clock None (S.failed register.old.store) (S.failed register.new.store) st request.now

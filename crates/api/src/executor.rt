@@ -1,13 +1,14 @@
 //! Executes the messages that have arrived.
 ghost use Rattle.std.specs.Prelude.{◌≡◌, ◌≤◌, ◌<◌, ◌^◌, ℕ, Option, Some, None, string_bytes, length, vec_len, drop, option_map, IfOk, IfSome, OnOk, ◌⊎◌};
 ghost use Rattle.model.specs.State.{State};
-ghost use Rattle.settle.specs.StoreContract.{BeginsNoGroup, EndsNoGroup};
+ghost use Rattle.settle.specs.StoreContract.{AddsOnlyCrashStates, BeginsNoGroup, EndsNoGroup};
 ghost use Rattle.register.specs.Refinement.{Refines};
 ghost use Rattle.http_messages.specs.ReadBuffer.{buffered_bytes, remaining_input};
 ghost use Rattle.http_messages.specs.Reading.{IsAtHand, IsBufferedAhead, IsRead, message_length};
 ghost use Rattle.std.specs.Io.KnownBytes.{Keeps};
 ghost use Rattle.http_messages.specs.Table.{table};
 ghost use Rattle.json_api.specs.ResponseBuffers.{HasCapacity};
+ghost use Rattle.api.specs.Crashes.{LeavesNext, LeavesPrefix};
 ghost use Rattle.api.specs.Executing.{Executes, IsNextOf, IsReady, body_of, consumed_of, read_as};
 ghost use Rattle.api.specs.Serving.{IsUnavailableResponse, RefinesReachable, Responds, WritesUntil, end_of};
 ghost use Rattle.api.specs.Step.{IsUnavailableText};
@@ -93,6 +94,10 @@ fn tick_and_answer<S: Store, T: Ticks>(
     ensures ends { EndsNoGroup S.StoreModel register.old.store register.new.store }
     ensures stays { S.IsUsable register.old.store → S.HasHonestDevice register.new.store
         → IsUnavailableText (string_bytes response.new.text) ⊎ S.IsUsable register.new.store }
+    ensures left { AddsOnlyCrashStates S.StoreModel register.old.store register.new.store
+        (λ m. S.IsUsable register.old.store
+        × LeavesNext clock (T.remaining ticks.old) (T.remaining ticks.new)
+        (S.content register.old.store) m (NextMessage.Message request.now) body.now) }
     ensures responds { S.IsUsable register.new.store
         → Responds clock (T.remaining ticks.old) (T.remaining ticks.new)
         (S.failed register.old.store) (S.failed register.new.store)
@@ -248,6 +253,10 @@ impl Executor {
         ensures stays { S.IsUsable register.old.store → S.HasHonestDevice register.new.store
             → IsUnavailableResponse next.now.message (string_bytes self.new.response.text)
             ⊎ S.IsUsable register.new.store }
+        ensures left { AddsOnlyCrashStates S.StoreModel register.old.store register.new.store
+            (λ m. S.IsUsable register.old.store
+            × LeavesNext clock (T.remaining ticks.old) (T.remaining ticks.new)
+            (S.content register.old.store) m next.now.message (body_of next.now bytes.now)) }
         ensures responds { S.IsUsable register.new.store
             → Responds clock (T.remaining ticks.old) (T.remaining ticks.new)
             (S.failed register.old.store) (S.failed register.new.store) next.now.message
@@ -320,6 +329,13 @@ impl Executor {
         ensures state { S.IsUsable register.new.store → (st : State)
             → Refines (S.content register.old.store) st
             → RefinesReachable st (S.content register.new.store) }
+        // Over an honest device: a crash leaves what it could leave before, or what a prefix of the
+        // messages leads to.
+        ensures left { AddsOnlyCrashStates S.StoreModel register.old.store register.new.store
+            (λ m. S.IsUsable register.old.store × ((st : State)
+            → Refines (S.content register.old.store) st
+            → LeavesPrefix options.now.clock_route (S.failed register.old.store) st input.now
+            (T.remaining ticks.old) output.old.items output.new.items m)) }
         ensures usable { S.IsUsable register.new.store → S.IsUsable register.old.store }
         ensures rises { S.failed register.old.store ≤ S.failed register.new.store }
         ensures honest { S.HasHonestDevice register.new.store

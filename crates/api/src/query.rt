@@ -5,7 +5,8 @@ ghost use Rattle.telnp.specs.Abstraction.{uri_of};
 ghost use Rattle.json_api.specs.Forms.{UriQuery};
 ghost use Rattle.json_api.specs.ResponseBuffers.{HasCapacity, IsEmpty, IsWritten};
 ghost use Rattle.json_api.specs.Texts.{looked_up, uri_text};
-ghost use Rattle.settle.specs.StoreContract.{PreservesStore};
+ghost use Rattle.register.specs.Crashes.{KeepsState};
+ghost use Rattle.settle.specs.StoreContract.{AddsOnlyCrashStates, PreservesStore};
 ghost use Rattle.api.specs.Step.{Performs, AsksFor, IsReturnedAsIs, response_text, IsReplyAvailable};
 
 use json_api::{Failure, ResponseBuffer, URI_CAPACITY, put_looked_up, put_uri};
@@ -81,6 +82,8 @@ pub fn query<S: Store>(
     ensures capacity { HasCapacity 512 response.new }
     ensures preserves { PreservesStore S.StoreModel register.old.store
         register.new.store (IsReplyAvailable result) ⊥ }
+    ensures left { AddsOnlyCrashStates S.StoreModel register.old.store register.new.store
+        (λ m. S.IsUsable register.old.store × KeepsState (S.content register.old.store) m) }
     ensures performs { S.IsUsable register.new.store
         → Performs (S.failed register.old.store) (S.failed register.new.store)
         (S.content register.old.store) (S.content register.new.store) caller.number

@@ -4,7 +4,8 @@ ghost use Rattle.numbers.specs.declared.minute.Minute.{Minute as MinuteImpl};
 ghost use Rattle.model.specs.State.{State};
 ghost use Rattle.register.specs.Refinement.{Refines};
 ghost use Rattle.json_api.specs.Failures.{failure_text};
-ghost use Rattle.settle.specs.StoreContract.{IsAvailable, PreservesStore};
+ghost use Rattle.settle.specs.StoreContract.{AddsOnlyCrashStates, IsAvailable, PreservesStore};
+ghost use Rattle.api.specs.Crashes.{LeavesTick};
 ghost use Rattle.api.specs.Step.{IsTickUnavailable, ticked};
 
 use json_api::Failure;
@@ -18,6 +19,9 @@ use settle::Store;
 pub fn move_clock<S: Store>(register: &mut Register<S>, tick: Option<Minute>) -> Result<(), Refusal>
     ensures preserves { PreservesStore S.StoreModel register.old.store
         register.new.store (IsAvailable result) ⊥ }
+    ensures left { AddsOnlyCrashStates S.StoreModel register.old.store register.new.store
+        (λ m. S.IsUsable register.old.store × LeavesTick (S.content register.old.store) m
+        (option_map (λ (minute : MinuteImpl). minute.number) tick)) }
     ensures moved { OnOk result (S.IsUsable register.new.store → (st : State)
         → Refines (S.content register.old.store) st
         → Refines (S.content register.new.store)

@@ -1,7 +1,9 @@
-use Rattle.std.proofs.Common.{ap, Err, rules}
-use Rattle.requests.specs.Calls.{called_of, reply_of}
+use Rattle.std.proofs.Common.{ap, inl, Err, rules}
+use Rattle.requests.specs.Calls.{called_of, reply_of, input_of}
 use Rattle.json_api.specs.Forms.{RegisterCall}
 use Rattle.api.proofs.StepLemmas.{blamed, blames_since, refused_as, refused_carried, reply_carried, short_carried}
+use Rattle.register.specs.Crashes.{KeepsOrTakesStep, KeepsState}
+use Rattle.api.proofs.Left.{left_after, left_as}
 use Rattle.api.proofs.call.answer_admitted.Goals as goal
 
 pub returns-in_err-bounds-clause-performs : goal.returns-in_err-bounds-clause-performs
@@ -42,3 +44,35 @@ returns-in-Ok-clause-performs g c = λ u st s admits.
     c.in_ok-bounds.bounds c.put_reply.result _
     (c.in_ok-bounds.ensures.kept middle st s) (c.in_ok-bounds.ensures.bounds middle st s)
     (c.in-Ok.ensures.answers u) c.put_reply.ensures.text c.put_reply.ensures.more
+
+pub returns-in_err-bounds-clause-left : goal.returns-in_err-bounds-clause-left
+returns-in_err-bounds-clause-left g c =
+    let old = g.S.StoreModel.content c.args.register.now.store in
+    left_as g.S.StoreModel c.args.register.now.store c.reserve_reply.new.register.store
+    (KeepsState old)
+    (KeepsOrTakesStep old (input_of c.args.caller.number (called_of c.args.call.now)))
+    c.reserve_reply.ensures.left (λ m keeps st s. inl (keeps st s))
+
+pub returns-in-Err-clause-left : goal.returns-in-Err-clause-left
+returns-in-Err-clause-left g c =
+    let old = g.S.StoreModel.content c.args.register.now.store in
+    let mid = g.S.StoreModel.content c.reserve_reply.new.register.store in
+    let input = input_of c.args.caller.number (called_of c.args.call.now) in
+    left_after g.S.StoreModel c.args.register.now.store c.reserve_reply.new.register.store
+    c.answer.new.self.store (KeepsState old) (KeepsOrTakesStep mid input)
+    (KeepsOrTakesStep old input) c.answer.ensures.preserves.honest
+    c.reserve_reply.ensures.preserves.usable c.reserve_reply.ensures.left c.answer.ensures.left
+    (λ m keeps st s. inl (keeps st s))
+    (λ usable m takes st s. takes st (c.reserve_reply.ensures.kept usable st s))
+
+pub returns-in-Ok-clause-left : goal.returns-in-Ok-clause-left
+returns-in-Ok-clause-left g c =
+    let old = g.S.StoreModel.content c.args.register.now.store in
+    let mid = g.S.StoreModel.content c.reserve_reply.new.register.store in
+    let input = input_of c.args.caller.number (called_of c.args.call.now) in
+    left_after g.S.StoreModel c.args.register.now.store c.reserve_reply.new.register.store
+    c.answer.new.self.store (KeepsState old) (KeepsOrTakesStep mid input)
+    (KeepsOrTakesStep old input) c.answer.ensures.preserves.honest
+    c.reserve_reply.ensures.preserves.usable c.reserve_reply.ensures.left c.answer.ensures.left
+    (λ m keeps st s. inl (keeps st s))
+    (λ usable m takes st s. takes st (c.reserve_reply.ensures.kept usable st s))

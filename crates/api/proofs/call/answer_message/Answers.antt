@@ -1,8 +1,10 @@
 use Rattle.std.proofs.Common.{rules}
 use Rattle.requests.specs.Calls.{called_of}
 use Rattle.json_api.specs.Forms.{RegisterCall}
-use Rattle.api.specs.Step.{IdAsks, NumberAsks, CountAsks}
+use Rattle.api.specs.Step.{IdAsks, NumberAsks, CountAsks, BodyAsks, PathAsks}
 use Rattle.api.proofs.StepLemmas.{asked_carried, path_carried, unasked_refused}
+use Rattle.api.specs.Crashes.{LeavesCall, LeavesDispatched}
+use Rattle.api.proofs.Left.{dispatched, left_as, path_left}
 use Rattle.api.proofs.call.answer_message.Goals as goal
 
 pub returns-in_err-version_call-in-Version-clause-calls :
@@ -78,3 +80,54 @@ returns-in_default-clause-calls g c = λ u st s.
     c.args.body.now _
     c.in_default.not-Version c.in_default.not-Number c.in_default.not-Downloads
     (c.answer_body.ensures.calls u st s)
+
+pub returns-in_ok-version_call-in-Version-clause-left :
+    goal.returns-in_ok-version_call-in-Version-clause-left
+returns-in_ok-version_call-in-Version-clause-left g c = rw c.in-Version.is
+    (let old = g.S.StoreModel.content c.args.register.now.store in
+    let caller = c.args.caller.number in
+    let asked = RegisterCall (called_of c.in_ok-version_call-in-Version.field-0) in
+    let Asks = IdAsks c.in-Version.id c.args.body.now in
+    left_as g.S.StoreModel c.args.register.now.store c.answer.new.register.store
+    (λ m. LeavesCall old m caller asked) (λ m. LeavesDispatched old m Asks caller)
+    c.answer.ensures.left
+    (λ m. dispatched old m Asks caller asked
+    c.in_ok-version_call-in-Version.ensures.ok))
+
+pub returns-in_ok-number_call-in-Number-clause-left :
+    goal.returns-in_ok-number_call-in-Number-clause-left
+returns-in_ok-number_call-in-Number-clause-left g c = rw c.in-Number.is
+    (let old = g.S.StoreModel.content c.args.register.now.store in
+    let caller = c.args.caller.number in
+    let asked = RegisterCall (called_of c.in_ok-number_call-in-Number.field-0) in
+    let Asks = NumberAsks c.in-Number.number c.args.body.now in
+    left_as g.S.StoreModel c.args.register.now.store c.answer-in-Number.new.register.store
+    (λ m. LeavesCall old m caller asked) (λ m. LeavesDispatched old m Asks caller)
+    c.answer-in-Number.ensures.left
+    (λ m. dispatched old m Asks caller asked
+    c.in_ok-number_call-in-Number.ensures.ok))
+
+pub returns-in_ok-downloads_call-in-Downloads-clause-left :
+    goal.returns-in_ok-downloads_call-in-Downloads-clause-left
+returns-in_ok-downloads_call-in-Downloads-clause-left g c = rw c.in-Downloads.is
+    (let old = g.S.StoreModel.content c.args.register.now.store in
+    let caller = c.args.caller.number in
+    let asked = RegisterCall (called_of c.in_ok-downloads_call-in-Downloads.field-0) in
+    let Asks = CountAsks c.in-Downloads.count c.args.body.now in
+    left_as g.S.StoreModel c.args.register.now.store c.answer-in-Downloads.new.register.store
+    (λ m. LeavesCall old m caller asked) (λ m. LeavesDispatched old m Asks caller)
+    c.answer-in-Downloads.ensures.left
+    (λ m. dispatched old m Asks caller asked
+    c.in_ok-downloads_call-in-Downloads.ensures.ok))
+
+pub returns-in_default-clause-left : goal.returns-in_default-clause-left
+returns-in_default-clause-left g c =
+    let old = g.S.StoreModel.content c.args.register.now.store in
+    let route = c.args.route in
+    let body = c.args.body.now in
+    let caller = c.args.caller.number in
+    left_as g.S.StoreModel c.args.register.now.store c.answer_body.new.register.store
+    (λ m. LeavesDispatched old m (BodyAsks route body) caller)
+    (λ m. LeavesDispatched old m (PathAsks route body) caller) c.answer_body.ensures.left
+    (λ m. path_left old m route caller body c.in_default.not-Version c.in_default.not-Number
+    c.in_default.not-Downloads)

@@ -13,6 +13,7 @@ returns-in_default-refusal g c = record {
     rises = c.in-Err.ensures.preserves.rises;
     storage = λ never. absurd never;
   };
+  left = rw c.in-Some.is c.clock.ensures.left;
   moved = tt;
   unavailable = rw c.in-Some.is (λ u. move_withheld c.in-Err.refusal
       (g.S.StoreModel.failed c.args.register.now.store)

@@ -1,10 +1,12 @@
-use Rattle.std.proofs.Common.{◌≡◌, ℕ, ◌+◌, List, Some, drop, string_bytes, not, sym, ap, ◌∙◌, subst, arith, length-drop}
+use Rattle.std.proofs.Common.{◌≡◌, ℕ, ◌+◌, List, [], Some, append-nil, drop, string_bytes, not, sym, ap, ◌∙◌, subst, arith, length-drop}
 use Rattle.std.proofs.Math.Nat.{le_trans}
 use Rattle.http_messages.specs.Arrived.{HasArrived}
 use Rattle.http_messages.specs.Sending.{AppendsPrefix}
+use Rattle.api.specs.Crashes.{LeavesNext}
 use Rattle.api.specs.Executing.{body_of}
 use Rattle.api.specs.Serving.{Responds}
 use Rattle.api.proofs.Going.{Progress, ends_with, parted, state_then, went_on, whole_to}
+use Rattle.api.proofs.Left.{Leaves, left_on}
 use Rattle.api.proofs.NextLemmas.{next_within}
 use Rattle.api.proofs.RunLemmas.{appended, dropped_more, ends_at, next_here, not_appended, nothing_appended, pauses_at, reads_so, rest_is, stops_at, unread_after}
 use Rattle.api.proofs.Withheld.{already, further, further_partly, still, stopped, stopped_partly, stops}
@@ -224,6 +226,57 @@ returns-in-Some-clause-until g c =
     c.extend_from_slice.new.self.items) (string_bytes c.respond-end.new.self.response.text) sent
     past))
 
+pub returns-then-is_err-clause-left : goal.returns-then-is_err-clause-left
+returns-then-is_err-clause-left g c =
+    let rest = drop c.loop-count.consumed c.args.input.now in
+    let comes = next_here rest c.args.has_ended c.next_arrived-arrived.result c.in-Ok.next
+    (subst (λ b. HasArrived b c.args.has_ended c.next_arrived-arrived.result)
+    (rest_is c.args.input.now c.loop-count.consumed) c.next_arrived-arrived.ensures.arrived)
+    c.in-Ok.ensures in
+    left_on g.S.StoreModel c.args.options.now.clock_route c.args.register.now.store
+    c.loop-count.register.store c.respond-end.new.register.store c.args.input.now
+    (g.T.Ticks.remaining c.args.ticks.now) c.args.output.now.items c.loop-count.output.items
+    c.extend_from_slice.new.self.items [] c.loop-count.count
+    (Some rest) (Some (drop c.in-Ok.next.end rest)) (g.T.Ticks.remaining c.loop-count.ticks)
+    (g.T.Ticks.remaining c.respond-end.new.ticks) c.in-Ok.next.message (body_of c.in-Ok.next rest)
+    c.respond-end.ensures.honest c.loop-count.invariant.1 c.loop-count.invariant.8
+    c.loop-count.invariant.5 comes
+    (subst (λ b. Leaves g.S.StoreModel c.loop-count.register.store
+    c.respond-end.new.register.store (λ m. LeavesNext c.args.options.now.clock_route
+    (g.T.Ticks.remaining c.loop-count.ticks) (g.T.Ticks.remaining c.respond-end.new.ticks)
+    (g.S.StoreModel.content c.loop-count.register.store) m c.in-Ok.next.message
+    (body_of c.in-Ok.next b))) (rest_is c.args.input.now c.loop-count.consumed)
+    c.respond-end.ensures.left)
+    (not_appended c.loop-count.output.items c.extend_from_slice.new.self.items _ _
+    c.extend_from_slice.ensures.items (c.is_err.ensures.negation ∙ ap not c.if-is_err.true)
+    ∙ sym (append-nil c.loop-count.output.items))
+
+pub returns-in-Some-clause-left : goal.returns-in-Some-clause-left
+returns-in-Some-clause-left g c =
+    let rest = drop c.loop-count.consumed c.args.input.now in
+    let comes = next_here rest c.args.has_ended c.next_arrived-arrived.result c.in-Ok.next
+    (subst (λ b. HasArrived b c.args.has_ended c.next_arrived-arrived.result)
+    (rest_is c.args.input.now c.loop-count.consumed) c.next_arrived-arrived.ensures.arrived)
+    c.in-Ok.ensures in
+    left_on g.S.StoreModel c.args.options.now.clock_route c.args.register.now.store
+    c.loop-count.register.store c.respond-end.new.register.store c.args.input.now
+    (g.T.Ticks.remaining c.args.ticks.now) c.args.output.now.items c.loop-count.output.items
+    c.extend_from_slice.new.self.items (string_bytes c.respond-end.new.self.response.text)
+    c.loop-count.count (Some rest) (Some (drop c.in-Ok.next.end rest))
+    (g.T.Ticks.remaining c.loop-count.ticks)
+    (g.T.Ticks.remaining c.respond-end.new.ticks) c.in-Ok.next.message (body_of c.in-Ok.next rest)
+    c.respond-end.ensures.honest c.loop-count.invariant.1 c.loop-count.invariant.8
+    c.loop-count.invariant.5 comes
+    (subst (λ b. Leaves g.S.StoreModel c.loop-count.register.store
+    c.respond-end.new.register.store (λ m. LeavesNext c.args.options.now.clock_route
+    (g.T.Ticks.remaining c.loop-count.ticks) (g.T.Ticks.remaining c.respond-end.new.ticks)
+    (g.S.StoreModel.content c.loop-count.register.store) m c.in-Ok.next.message
+    (body_of c.in-Ok.next b))) (rest_is c.args.input.now c.loop-count.consumed)
+    c.respond-end.ensures.left)
+    (appended c.loop-count.output.items c.extend_from_slice.new.self.items _ _ _
+    c.extend_from_slice.ensures.items (c.is_err.ensures.negation ∙ ap not c.if-is_err.false)
+    c.as_bytes.ensures.value)
+
 pub loop-count-preserved : goal.loop-count-preserved
 loop-count-preserved g c =
     let within = next_within (drop c.loop-count.consumed c.args.input.now) c.args.has_ended
@@ -307,6 +360,30 @@ loop-count-preserved g c =
       λ m inside. c.loop-count.invariant.6 m (c.respond-end.ensures.begins m inside),
       λ usable m inside. c.respond-end.ensures.ends usable m
           (c.loop-count.invariant.7 (c.respond-end.ensures.usable usable) m inside),
+      let rest = drop c.loop-count.consumed c.args.input.now in
+          let comes = next_here rest c.args.has_ended c.next_arrived-arrived.result c.in-Ok.next
+          (subst (λ b. HasArrived b c.args.has_ended c.next_arrived-arrived.result)
+          (rest_is c.args.input.now c.loop-count.consumed) c.next_arrived-arrived.ensures.arrived)
+          c.in-Ok.ensures in
+          left_on g.S.StoreModel c.args.options.now.clock_route c.args.register.now.store
+          c.loop-count.register.store c.respond-end.new.register.store c.args.input.now
+          (g.T.Ticks.remaining c.args.ticks.now) c.args.output.now.items c.loop-count.output.items
+          c.extend_from_slice.new.self.items (string_bytes c.respond-end.new.self.response.text)
+          c.loop-count.count (Some rest) (Some (drop c.in-Ok.next.end rest))
+          (g.T.Ticks.remaining c.loop-count.ticks)
+          (g.T.Ticks.remaining c.respond-end.new.ticks) c.in-Ok.next.message
+          (body_of c.in-Ok.next rest)
+          c.respond-end.ensures.honest c.loop-count.invariant.1 c.loop-count.invariant.8
+          c.loop-count.invariant.5 comes
+          (subst (λ b. Leaves g.S.StoreModel c.loop-count.register.store
+          c.respond-end.new.register.store (λ m. LeavesNext c.args.options.now.clock_route
+          (g.T.Ticks.remaining c.loop-count.ticks) (g.T.Ticks.remaining c.respond-end.new.ticks)
+          (g.S.StoreModel.content c.loop-count.register.store) m c.in-Ok.next.message
+          (body_of c.in-Ok.next b))) (rest_is c.args.input.now c.loop-count.consumed)
+          c.respond-end.ensures.left)
+          (appended c.loop-count.output.items c.extend_from_slice.new.self.items _ _ _
+          c.extend_from_slice.ensures.items (c.is_err.ensures.negation ∙ ap not c.if-is_err.false)
+          c.as_bytes.ensures.value),
     )
 
 pub returns-clause-executes : goal.returns-clause-executes

@@ -1,6 +1,7 @@
 use Rattle.std.proofs.Common.{◌⊎◌, ◌≤◌, drop, length, Some}
 use Rattle.settle.specs.StoreContract.{BeginsNoGroup, EndsNoGroup}
 use Rattle.api.proofs.Going.{Progress}
+use Rattle.api.proofs.Left.{IsOfPrefix, Leaves}
 use Rattle.api.proofs.Withheld.{Past}
 use Rattle.api.proofs.executor.Executor.execute.Given as goal
 
@@ -24,3 +25,7 @@ invariant-loop-count g l =
     (g.T.Ticks.remaining l.ticks) l.count)
     × BeginsNoGroup g.S.StoreModel l.fn.register.store l.register.store
     × EndsNoGroup g.S.StoreModel l.fn.register.store l.register.store
+    × Leaves g.S.StoreModel l.fn.register.store l.register.store
+    (IsOfPrefix l.fn.options.clock_route (g.S.StoreModel.failed l.fn.register.store)
+    (g.S.StoreModel.content l.fn.register.store) l.fn.input (g.T.Ticks.remaining l.fn.ticks)
+    l.fn.output.items l.output.items)
