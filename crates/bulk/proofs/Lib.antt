@@ -19,3 +19,4 @@ mod Until
 pub mod Wishes
 mod Examples
 mod AuditExamples
+mod Noted

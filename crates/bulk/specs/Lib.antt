@@ -12,3 +12,4 @@ pub mod Findings
 pub mod Audits
 pub mod Sides
 pub mod Comparing
+pub mod Noting

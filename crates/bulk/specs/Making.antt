@@ -27,6 +27,11 @@ outcome_line row tn (outcome.Version id) = report_line row (tn_text tn) (codes "
 outcome_line row tn (outcome.Refused refusal) = report_line row (tn_text tn) (refusal_name refusal)
     []
 
+-- Whether the result is a refusal.
+abbrev pub is_refusal : CommandResult → Bool
+is_refusal (outcome.Version id) = false
+is_refusal (outcome.Refused refusal) = true
+
 -- Holds if the result is that of the reply.
 abbrev pub IsResultOf : CommandResult → Reply → Type 0
 IsResultOf outcome reply = (row tn : ℕ) → outcome_line row tn outcome ≡ reply_line row tn reply

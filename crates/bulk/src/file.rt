@@ -1,9 +1,10 @@
 //! Runs bulk files.
-ghost use Rattle.std.specs.Prelude.{◌≡◌, ◌⊎◌, ◌∷◌, List, IfSome, IfErr, OnOk};
+ghost use Rattle.std.specs.Prelude.{◌≡◌, ◌⊎◌, ◌∷◌, false, List, IfSome, IfErr, OnOk};
 ghost use Rattle.model.specs.State.{State};
 ghost use Rattle.register.specs.Refinement.{Refines};
 ghost use Rattle.settle.specs.StoreContract.{PreservesStore, ReportsStorage};
 ghost use Rattle.bulk.specs.Faults.{FailsWith, IsAvailable, IsUnread};
+ghost use Rattle.bulk.specs.Noting.{ReportsNoting};
 ghost use Rattle.bulk.specs.Requests.{header};
 ghost use Rattle.bulk.specs.Rows.{Row, HasRows, IsPlain};
 ghost use Rattle.bulk.specs.Running.{RefinesReachable, LacksHeader, Reports, ReportsUntil, RunsFile, RunsFileUntil};
@@ -62,6 +63,8 @@ fn report_rows<S: Store, R: Read, W: Write>(
     ensures state { S.IsUsable register.new.store → (st : State)
         → Refines (S.content register.old.store) st
         → RefinesReachable st (S.content register.new.store) }
+    ensures noted { line.old.has_refusal ≡ false → OnOk result (ReportsNoting
+        (W.contents writer.old) (W.contents writer.new) line.new.has_refusal) }
     ensures preserves { PreservesStore S.StoreModel register.old.store register.new.store
         (IsAvailable result) (ReportsStorage (S.IsUsable register.new.store)
         (S.content register.old.store) (FailsWith FaultKind.Storage result)) }
@@ -70,6 +73,46 @@ fn report_rows<S: Store, R: Read, W: Write>(
     match line.send(writer) {
         Ok(()) => run_rows(alloc, register, line, reader, writer),
         Err(kind) => Err(BulkFault::at_start(kind)),
+    }
+}
+
+/// Like `run_file`, and also returns whether some line of the report has a result other than `ok`.
+pub fn run_noting_refusals<S: Store, R: Read + Drop, W: Write>(
+    alloc: Global,
+    register: &mut Register<S>,
+    reader: R,
+    writer: &mut W,
+) -> (Result<u64, BulkFault>, bool)
+    ensures runs { S.IsUsable register.new.store → (st : State)
+        → Refines (S.content register.old.store) st
+        → IfSome (R.remaining reader) (λ bytes. RunsFile st bytes (S.content register.new.store)
+        (W.contents writer.old) (W.contents writer.new) result.0) }
+    // If the store shuts over an honest device: the lines up to then are those of a run.
+    ensures until { S.IsUsable register.old.store → S.HasHonestDevice register.new.store
+        → S.IsUsable register.new.store
+        ⊎ ((st : State) → Refines (S.content register.old.store) st
+        → IfSome (R.remaining reader) (λ bytes. RunsFileUntil st bytes (W.contents writer.old)
+        (W.contents writer.new) result.0)) }
+    ensures state { S.IsUsable register.new.store → (st : State)
+        → Refines (S.content register.old.store) st
+        → RefinesReachable st (S.content register.new.store) }
+    ensures noted { OnOk result.0 (ReportsNoting (W.contents writer.old) (W.contents writer.new)
+        result.1) }
+    ensures preserves { PreservesStore S.StoreModel register.old.store register.new.store
+        (IsAvailable result.0) (ReportsStorage (S.IsUsable register.new.store)
+        (S.content register.old.store) (FailsWith FaultKind.Storage result.0)) }
+{
+    let mut line = match LineBuffer::new(alloc) {
+        Ok(line) => line,
+        Err(_) => return (Err(BulkFault::at_start(FaultKind::NoMemory)), false),
+    };
+    let mut reader = open(alloc, reader);
+    match read_header(alloc, &mut reader) {
+        Ok(()) => {
+            let ran = report_rows(alloc, register, &mut line, &mut reader, writer);
+            (ran, line.has_refusal)
+        }
+        Err(kind) => (Err(BulkFault::at_start(kind)), false),
     }
 }
 
@@ -110,13 +153,6 @@ pub fn run_file<S: Store, R: Read + Drop, W: Write>(
         (IsAvailable result) (ReportsStorage (S.IsUsable register.new.store)
         (S.content register.old.store) (FailsWith FaultKind.Storage result)) }
 {
-    let mut line = match LineBuffer::new(alloc) {
-        Ok(line) => line,
-        Err(_) => return Err(BulkFault::at_start(FaultKind::NoMemory)),
-    };
-    let mut reader = open(alloc, reader);
-    match read_header(alloc, &mut reader) {
-        Ok(()) => report_rows(alloc, register, &mut line, &mut reader, writer),
-        Err(kind) => Err(BulkFault::at_start(kind)),
-    }
+    let (ran, _has_refusal) = run_noting_refusals(alloc, register, reader, writer);
+    ran
 }

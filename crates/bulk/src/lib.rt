@@ -25,7 +25,7 @@ pub use command_result::CommandResult;
 pub use exporting::export;
 pub use fault::{BulkFault, FaultKind};
 pub use fields::read_request;
-pub use file::run_file;
+pub use file::{run_file, run_noting_refusals};
 pub use finding::{Finding, SubjectFinding};
 pub use range::Numbers;
 pub use request::{ActionName, BulkRequest, Operation};

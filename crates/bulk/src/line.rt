@@ -1,6 +1,6 @@
 //! Writes lines of files into reserved memory.
-ghost use Rattle.std.specs.Prelude.{◌≡◌, ◌+◌, ◌≤◌, ◌++◌, ◌∷◌, [], string_bytes, string_len, string_capacity, IfErr, OnOk, OnErr, Some, length, codes, decimal};
-ghost use Rattle.bulk.specs.Making.{outcome_line};
+ghost use Rattle.std.specs.Prelude.{◌≡◌, ◌+◌, ◌≤◌, ◌++◌, ◌∷◌, [], string_bytes, string_len, string_capacity, IfErr, IfOk, OnOk, OnErr, Some, false, true, length, codes, decimal, ◌||◌};
+ghost use Rattle.bulk.specs.Making.{is_refusal, outcome_line};
 ghost use Rattle.bulk.specs.Report.{report_line};
 ghost use Rattle.std.specs.Io.KnownBytes.{Appends};
 ghost use Rattle.delivery.specs.Mirrors.{in_force_of};
@@ -29,6 +29,8 @@ pub const LINE_CAPACITY: usize = 128;
 #[derive(Drop)]
 pub struct LineBuffer {
     pub text: String,
+    /// Whether a line of a bad row or of a refusal was written.
+    pub has_refusal: bool,
     pub ghost room: { 128 ≤ string_capacity text },
 }
 
@@ -67,16 +69,20 @@ impl LineBuffer {
     /// # Errors
     ///
     /// `AllocError` if the allocation fails.
-    pub fn new(alloc: Global) -> Result<LineBuffer, AllocError> {
+    pub fn new(alloc: Global) -> Result<LineBuffer, AllocError>
+        ensures { IfOk result (λ line. line.has_refusal ≡ false) }
+    {
         Ok(LineBuffer {
             text: String::with_capacity(alloc, LINE_CAPACITY)?,
+            has_refusal: false,
         })
     }
 
     /// Writes the first line of a file.
     pub fn set_first(&mut self, header: &str)
         requires { length header.now ≤ 127 }
-        ensures { string_bytes self.new.text ≡ header.now ++ 10 ∷ [] }
+        ensures text { string_bytes self.new.text ≡ header.now ++ 10 ∷ [] }
+        ensures refusal { self.new.has_refusal ≡ self.old.has_refusal }
     {
         self.text.clear();
         put(&mut self.text, header);
@@ -109,6 +115,7 @@ impl LineBuffer {
     fn set_row(&mut self, row: u64)
         ensures bytes { string_bytes self.new.text ≡ decimal row ++ 44 ∷ [] }
         ensures len { string_len self.new.text ≤ 21 }
+        ensures refusal { self.new.has_refusal ≡ self.old.has_refusal }
     {
         self.text.clear();
         put_number(&mut self.text, row);
@@ -117,15 +124,18 @@ impl LineBuffer {
 
     /// Writes the report's line for a bad row.
     pub fn set_bad(&mut self, row: u64)
-        ensures { string_bytes self.new.text ≡ report_line row [] (codes "bad_row") [] }
+        ensures text { string_bytes self.new.text ≡ report_line row [] (codes "bad_row") [] }
+        ensures refusal { self.new.has_refusal ≡ true }
     {
+        self.has_refusal = true;
         self.set_row(row);
         put(&mut self.text, ",bad_row,\n");
     }
 
     /// Writes the report's line for a command on a number.
     pub fn set_outcome(&mut self, row: u64, tn: Tn, outcome: CommandResult)
-        ensures { string_bytes self.new.text ≡ outcome_line row tn.number outcome }
+        ensures text { string_bytes self.new.text ≡ outcome_line row tn.number outcome }
+        ensures refusal { self.new.has_refusal ≡ self.old.has_refusal || is_refusal outcome }
     {
         self.set_row(row);
         put_subject(&mut self.text, Subject::Number(tn));
@@ -135,6 +145,7 @@ impl LineBuffer {
                 put_number(&mut self.text, id);
             }
             CommandResult::Refused(refusal) => {
+                self.has_refusal = true;
                 put(&mut self.text, ",");
                 put(&mut self.text, Failure::Refused(refusal).name());
                 put(&mut self.text, ",");

@@ -12,6 +12,7 @@ ghost use Rattle.register.specs.Refinement.{Refines};
 ghost use Rattle.settle.specs.StoreContract.{PreservesStore, ReportsStorage};
 ghost use Rattle.bulk.specs.Faults.{IsAvailableKind, IsUnavailableKind};
 ghost use Rattle.bulk.specs.Making.{IsCommandReply, IsResultOf, is_of_number};
+ghost use Rattle.bulk.specs.Noting.{NotesLine};
 ghost use Rattle.bulk.specs.Report.{CommandTask, input_for, line_of, next_state};
 
 use crate::asking::command_for;
@@ -118,6 +119,8 @@ pub fn execute<S: Store>(
         operation.now))
         × Refines (S.content register.new.store)
         (next_state st (CommandTask row caller.number tn.number operation.now))) }
+    ensures noted { OnOk result (NotesLine (string_bytes line.new.text) line.old.has_refusal
+        line.new.has_refusal) }
     ensures kept { OnErr result (S.IsUsable register.new.store → (st : State)
         → Refines (S.content register.old.store) st → Refines (S.content register.new.store) st) }
     ensures unavailable { IfErr result IsUnavailableKind }

@@ -1,5 +1,5 @@
 //! Runs the rows of a bulk file.
-ghost use Rattle.std.specs.Prelude.{◌≡◌, ◌⊎◌, List, ◌+◌, ◌<◌, ◌≤◌, ◌^◌, ⊤, [], ◌∷◌, Some, Option, IfOk, IfErr, OnErr, string_bytes};
+ghost use Rattle.std.specs.Prelude.{◌≡◌, ◌⊎◌, List, ◌+◌, ◌<◌, ◌≤◌, ◌^◌, ⊤, [], ◌∷◌, Some, Option, IfOk, IfErr, OnErr, OnOk, string_bytes};
 ghost use Rattle.std.specs.Io.KnownBytes.{Appends};
 ghost use Rattle.csv.specs.Records.{fields_of};
 ghost use Rattle.model.specs.State.{State};
@@ -8,6 +8,7 @@ ghost use Rattle.register.specs.Refinement.{Refines};
 ghost use Rattle.settle.specs.StoreContract.{PreservesStore, ReportsStorage};
 ghost use Rattle.bulk.specs.Faults.{FailsWith, IsAvailable};
 ghost use Rattle.bulk.specs.Requests.{ParsesRow};
+ghost use Rattle.bulk.specs.Noting.{SendsNoting};
 ghost use Rattle.bulk.specs.Report.{CommandTask, tasks_of};
 ghost use Rattle.bulk.specs.Rows.{Row, HasRows, IsPlain};
 ghost use Rattle.bulk.specs.Running.{RefinesReachable, RunsRows, RunsRowsUntil, RunsTo, RunsUntil, SendsOne};
@@ -60,6 +61,8 @@ fn run_number<S: Store, W: Write>(
         → RunsUntil st (CommandTask row request.now.caller.number tn.number
         request.now.operation ∷ []) (W.contents writer.old) (W.contents writer.new) count result) }
     ensures count { IfOk result (λ k. k ≡ count + 1) }
+    ensures noted { OnOk result (SendsNoting (W.contents writer.old) (W.contents writer.new)
+        line.old.has_refusal line.new.has_refusal) }
     ensures preserves { PreservesStore S.StoreModel register.old.store register.new.store
         (IsAvailable result) (ReportsStorage (S.IsUsable register.new.store)
         (S.content register.old.store) (FailsWith FaultKind.Storage result)) }
@@ -90,6 +93,8 @@ fn run_request<S: Store, W: Write>(
         → RunsUntil st (tasks_of row (Some request.now)) (W.contents writer.old)
         (W.contents writer.new) count result) }
     ensures few { IfOk result (λ k. k ≤ count + 1000) }
+    ensures noted { OnOk result (SendsNoting (W.contents writer.old) (W.contents writer.new)
+        line.old.has_refusal line.new.has_refusal) }
     ensures preserves { PreservesStore S.StoreModel register.old.store register.new.store
         (IsAvailable result) (ReportsStorage (S.IsUsable register.new.store)
         (S.content register.old.store) (FailsWith FaultKind.Storage result)) }
@@ -123,6 +128,8 @@ fn run_row<S: Store, W: Write>(
         → RunsUntil st (tasks_of row o) (W.contents writer.old) (W.contents writer.new) count
         result)) }
     ensures few { IfOk result (λ k. k ≤ count + 1000) }
+    ensures noted { OnOk result (SendsNoting (W.contents writer.old) (W.contents writer.new)
+        line.old.has_refusal line.new.has_refusal) }
     ensures preserves { PreservesStore S.StoreModel register.old.store register.new.store
         (IsAvailable result) (ReportsStorage (S.IsUsable register.new.store)
         (S.content register.old.store) (FailsWith FaultKind.Storage result)) }
@@ -160,6 +167,8 @@ pub fn run_rows<S: Store, R: Read, W: Write>(
     ensures state { S.IsUsable register.new.store → (st : State)
         → Refines (S.content register.old.store) st
         → RefinesReachable st (S.content register.new.store) }
+    ensures noted { OnOk result (SendsNoting (W.contents writer.old) (W.contents writer.new)
+        line.old.has_refusal line.new.has_refusal) }
     ensures preserves { PreservesStore S.StoreModel register.old.store register.new.store
         (IsAvailable result) (ReportsStorage (S.IsUsable register.new.store)
         (S.content register.old.store) (FailsWith FaultKind.Storage result)) }

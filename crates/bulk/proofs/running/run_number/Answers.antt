@@ -1,5 +1,6 @@
 use Rattle.std.proofs.Common.{[], ◌∷◌, inr, string_bytes}
 use Rattle.bulk.specs.Report.{CommandTask}
+use Rattle.bulk.proofs.Noted.{one_noted}
 use Rattle.bulk.proofs.Runs.{one_sent, short_stop}
 use Rattle.bulk.proofs.Until.{until_none}
 use Rattle.bulk.proofs.running.run_number.Goals as goal
@@ -11,6 +12,11 @@ returns-in-Ok-clause-runs g c = λ u st s.
     c.args.request.now.operation) _ _ _ c.args.count (string_bytes c.execute.new.line.text)
     c.send_line.result
     made.0 made.1 c.send_line.ensures
+
+pub returns-in-Ok-clause-noted : goal.returns-in-Ok-clause-noted
+returns-in-Ok-clause-noted g c =
+    one_noted _ _ (string_bytes c.execute.new.line.text) _ _ c.args.count c.send_line.result
+    c.in-Ok.ensures.noted c.send_line.ensures
 
 pub returns-in-Err-clause-runs : goal.returns-in-Err-clause-runs
 returns-in-Err-clause-runs g c = λ u st s.

@@ -3,6 +3,7 @@ use Rattle.std.proofs.Math.Nat.{le_trans}
 use Rattle.bulk.specs.Report.{Task, CommandTask, rising, state_after}
 use Rattle.bulk.proofs.Asked.{owes_on}
 use Rattle.bulk.proofs.Ranging.{runs_number, fails_among, until_among, does_numbers}
+use Rattle.bulk.proofs.Noted.{noted_then}
 use Rattle.bulk.proofs.running.run_request.Goals as goal
 
 pub returns-in_err-written-clause-runs : goal.returns-in_err-written-clause-runs
@@ -76,6 +77,7 @@ loop-number-preserved g c = record {
     rises = le_trans c.loop-number.invariant.owed.rises c.run_number.ensures.preserves.rises;
     storage = λ x. absurd x;
   };
+  noted = noted_then _ _ _ _ _ _ c.loop-number.invariant.noted c.in_ok-written.ensures.noted;
   going = λ u st s.
       let f : ℕ → Task =
       λ n. CommandTask c.args.row c.args.request.now.caller.number n c.args.request.now.operation in

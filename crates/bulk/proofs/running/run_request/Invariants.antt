@@ -3,6 +3,7 @@ use Rattle.std.specs.Prelude.{⊤}
 use Rattle.model.specs.State.{State}
 use Rattle.register.specs.Refinement.{Refines}
 use Rattle.settle.specs.StoreContract.{PreservesStore}
+use Rattle.bulk.specs.Noting.{SendsNoting}
 use Rattle.bulk.specs.Report.{CommandTask, rising}
 use Rattle.bulk.specs.Running.{DoesAll}
 use Rattle.bulk.proofs.running.run_request.Given as goal
@@ -14,6 +15,8 @@ invariant-loop-number g l = record {
   owed : PreservesStore g.S.StoreModel
       l.fn.register.store
       l.register.store ⊤ ⊥;
+  noted : SendsNoting (g.W.Write.contents l.fn.writer) (g.W.Write.contents l.writer)
+      l.fn.line.has_refusal l.line.has_refusal;
   going : g.S.StoreModel.IsUsable l.register.store → (st : State)
       → Refines (g.S.StoreModel.content l.fn.register.store) st →
       DoesAll st (map (λ (n : ℕ). CommandTask l.row l.request.caller.number n l.request.operation)

@@ -5,6 +5,7 @@ use Rattle.bulk.specs.Report.{state_after, tasks_from, tasks_of}
 use Rattle.bulk.specs.declared.fault.FaultKind.TheVariants.{NoMemory}
 use Rattle.bulk.proofs.Asked.{owes_none, owes_on}
 use Rattle.bulk.proofs.Passing.{begins, ends, unread, passes_row, fails_row, until_row}
+use Rattle.bulk.proofs.Noted.{none_noted, noted_then}
 use Rattle.bulk.proofs.Until.{or_then}
 use Rattle.bulk.proofs.Runs.{run_follows, follows_then, follows_none}
 use Rattle.bulk.proofs.running.run_rows.Goals as goal
@@ -15,6 +16,7 @@ loop-row-init g c = record {
   few = omega arith;
   owed = owes_none g.S.StoreModel
       c.args.register.now.store;
+  noted = none_noted (g.W.Write.contents c.args.writer.now) c.args.line.now.has_refusal;
   follows = λ u st s. follows_none st (g.S.StoreModel.content c.args.register.now.store) s;
   passes = λ u st s rows has. begins g.R.Read.remaining st rows c.args.reader.now
       (g.S.StoreModel.content c.args.register.now.store) (g.W.Write.contents c.args.writer.now) s
@@ -92,6 +94,7 @@ loop-row-preserved g c =
         rises = le_trans c.loop-row.invariant.owed.rises c.run_row.ensures.preserves.rises;
         storage = λ x. absurd x;
       };
+      noted = noted_then _ _ _ _ _ _ c.loop-row.invariant.noted c.in-Ok.ensures.noted;
       follows = λ u st s.
           follows_then st (g.S.StoreModel.content c.loop-row.register.store) _
           (c.loop-row.invariant.follows (c.run_row.ensures.preserves.usable u) st s)

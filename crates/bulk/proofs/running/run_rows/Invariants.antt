@@ -3,6 +3,7 @@ use Rattle.std.specs.Prelude.{⊤}
 use Rattle.model.specs.State.{State}
 use Rattle.register.specs.Refinement.{Refines}
 use Rattle.settle.specs.StoreContract.{PreservesStore}
+use Rattle.bulk.specs.Noting.{SendsNoting}
 use Rattle.bulk.specs.Rows.{Row, HasRows, IsPlain}
 use Rattle.bulk.specs.Running.{RefinesReachable}
 use Rattle.bulk.proofs.Passing.{Passes}
@@ -15,6 +16,8 @@ invariant-loop-row g l = record {
   owed : PreservesStore g.S.StoreModel
       l.fn.register.store
       l.register.store ⊤ ⊥;
+  noted : SendsNoting (g.W.Write.contents l.fn.writer) (g.W.Write.contents l.writer)
+      l.fn.line.has_refusal l.line.has_refusal;
   follows : g.S.StoreModel.IsUsable l.register.store → (st : State)
       → Refines (g.S.StoreModel.content l.fn.register.store) st
       → RefinesReachable st (g.S.StoreModel.content l.register.store);
