@@ -4,7 +4,7 @@ use Rattle.std.specs.Prelude.{◌==◌, ◌||◌, IsTrue, if◌then◌else◌, i
 use Rattle.std.specs.declared.cmp.Ordering.{Ordering}
 use Rattle.std.specs.Ordering.{nat_cmp, eq_by_cmp, is_eq}
 use Rattle.std.specs.Cmp.{IsTotalOrder, nat_cmp_total}
-use Rattle.std.specs.FinMap.{FinMap, get, insert, remove, get-insert, get-remove}
+use Rattle.std.specs.FinMap.{FinMap, get, insert, remove, get-insert, get-remove, same_map, nat_cmp-IsAntisymmetric}
 use Rattle.std.proofs.lemmas.Bool.Decides.{nat_tests}
 use Rattle.numbers.specs.Abstraction.{subject_of}
 use Rattle.numbers.specs.declared.block_id.BlockId.{BlockId}
@@ -18,14 +18,14 @@ use Rattle.windows.specs.declared.window.WindowSet.{WindowSet as SetImpl}
 use Rattle.model.specs.Windows.{WindowSet, Windows}
 use Rattle.version.specs.Abstraction.{no_windows, set_of, windows_of}
 use Rattle.sql_rows.specs.Clocks.{StoredClock, clock_row, windows_named, with_windows}
-use Rattle.model.specs.Content.{Content, ClockRow, BroadcastKey, WaitKey, broadcast_cmp, empty_content, wait_cmp}
+use Rattle.model.specs.Content.{Content, ClockRow, BroadcastKey, VersionRow, WaitKey, broadcast_cmp, empty_content, wait_cmp}
 use Rattle.settle.specs.Changes.{AppliesChanges, changes_of, clock_after, clock_move_of, put_rows, put_row, delete_rows, same_broadcast, same_wait}
 use Rattle.settle.specs.Lists.{items_of}
 use Rattle.settle.specs.Abstraction.{spid_of, lrn_of, code_of, block_of, block_row_of, clock_row_of, broadcast_row_of, broadcast_key_of, wait_key_of}
 use Rattle.settle.specs.declared.changes.Changes.{Changes}
 use Rattle.sql_rows.proofs.Orders.{broadcast_tie, wait_tie}
 use Rattle.model.proofs.KeyOrders.{broadcast_total, wait_total}
-use Rattle.sql_store.specs.Changes.{all_made, go_by_clock, if_some, singles, lists, with_changes, with_carrier, with_lrn, with_code, with_block, clock_made, with_version, without_version, with_broadcast, without_broadcast, with_wait, without_wait, rewindowed}
+use Rattle.sql_store.specs.Changes.{all_made, go_by_clock, if_some, singles, lists, with_changes, with_carrier, with_lrn, with_code, with_block, clock_made, with_version, without_version, with_broadcast, without_broadcast, with_wait, without_wait, replaced, rewindowed}
 use Rattle.numbers.proofs.Small.{grouped}
 
 -- ---- parts of the content that a change keeps
@@ -475,3 +475,26 @@ pub one_more : {X : Type 0} (change : X → Content → Content) (xs : List X) (
 one_more change xs i x low item c =
     rw add-one (sym (ap (λ l. all_made change l c) (drop-cons xs i x low)
     ∙ ap (λ y. all_made change (drop (suc i) xs) (change y c)) (sym item)))
+
+-- ---- one version
+
+-- To write the row of one version is to replace it.
+pub one_replaced : (p : ℕ × VersionRow) (c : Content)
+    → with_version p.0 p.1 c ≡ replaced (p ∷ []) c
+one_replaced p c =
+    ap (λ m. record c { versions = m }) (same_map nat_cmp_total nat_cmp-IsAntisymmetric _ _ at)
+  where
+    by_cases : (b : Bool) (o : Option VersionRow)
+        → (if b then Some p.1 else o) ≡ (if b then Some p.1 else (if b then None else o))
+    by_cases true o = refl
+    by_cases false o = refl
+
+    at : (k : ℕ) → get (with_version p.0 p.1 c).versions k ≡ get (replaced (p ∷ []) c).versions k
+    at k =
+        put_at nat_cmp nat_cmp_total ◌==◌ number_ties c.versions p.0 p.1 k
+        ∙ by_cases (p.0 == k) (get c.versions k)
+        ∙ ap (λ o. if p.0 == k then Some p.1 else o) (sym (all_taken nat_cmp nat_cmp_total ◌==◌
+        number_ties (λ m. m.versions) (λ e. e.0) (λ e. without_version e.0) (λ x c. refl) (p ∷ []) c
+        k))
+        ∙ sym (put_at nat_cmp nat_cmp_total ◌==◌ number_ties (without_version p.0 c).versions p.0
+        p.1 k)

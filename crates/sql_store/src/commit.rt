@@ -1,17 +1,16 @@
 //! Commits batches of changes: each in a transaction of its own, or several in one.
-ghost use Rattle.std.specs.Prelude.{◌≡◌, false, IsTrue, OnErr, OnOk, Option, Some, is_ok};
+ghost use Rattle.std.specs.Prelude.{◌≡◌, false, IsTrue, OnErr, OnOk, is_ok};
 ghost use Rattle.sqlite.specs.Held.{state};
 ghost use Rattle.sqlite.specs.State.{HasCleanDisk, Shows, Survives};
 ghost use Rattle.numbers.specs.Abstraction.{subject_of};
 ghost use Rattle.settle.specs.Abstraction.{spid_of, lrn_of, code_of, block_of, block_row_of, broadcast_row_of, broadcast_key_of, wait_key_of};
-ghost use Rattle.model.specs.Content.{ClockRow as Row};
-ghost use Rattle.settle.specs.Changes.{changes_of, clock_after, AppliesChanges};
+ghost use Rattle.settle.specs.Changes.{changes_of, AppliesChanges};
 ghost use Rattle.sql_store.specs.Store.{CommitLeaves, HasStoreTables, AppliesInTransaction, HasCommitted, HasEndedGroup, HasWritten, HasWrittenOver, IsIdle};
 ghost use Rattle.sql_store.specs.Transactions.{HasEnded, IsUndone};
-ghost use Rattle.sql_store.specs.Changes.{singles, lists, with_changes, all_made, if_some, with_carrier, with_lrn, with_code, with_block, clock_made, with_version, without_version, with_broadcast, without_broadcast, with_wait, without_wait};
+ghost use Rattle.sql_store.specs.Changes.{singles, lists, replaced, with_changes, all_made, if_some, with_carrier, with_lrn, with_code, with_block, clock_made, with_version, without_version, with_broadcast, without_broadcast, with_wait, without_wait};
 
 use crate::database::Database;
-use crate::kept::clock;
+use crate::kept::{Kept, clock};
 use crate::rows::{
     delete_broadcast, delete_version, delete_wait, put_block, put_broadcast, put_carrier,
     put_clock, put_code, put_lrn, put_set, put_set_alone, put_version, put_wait,
@@ -49,6 +48,21 @@ fn put_versions<S: Alter>(conn: &mut Connection<S>, rows: &[(u64, VersionRow)]) 
         put_version(conn, row.0, &row.1)?;
     }
     Ok(())
+}
+
+// Replaces the rows with these ids. The row of one version takes its subject from no other.
+fn replace_versions<S: Alter>(
+    conn: &mut Connection<S>,
+    rows: &[(u64, VersionRow)],
+) -> Result<(), Fault>
+    ensures { AppliesInTransaction (state S.Store conn.old)
+        (state S.Store conn.new) (is_ok result) (replaced rows.now) }
+{
+    if let [row] = rows {
+        return put_version(conn, row.0, &row.1);
+    }
+    clear_versions(conn, rows)?;
+    put_versions(conn, rows)
 }
 
 fn put_broadcasts<S: Alter>(
@@ -214,8 +228,7 @@ fn write_lists<S: Alter>(conn: &mut Connection<S>, changes: &Changes) -> Result<
     ensures { AppliesInTransaction (state S.Store conn.old)
         (state S.Store conn.new) (is_ok result) (lists changes.now) }
 {
-    clear_versions(conn, changes.versions.as_slice())?;
-    put_versions(conn, changes.versions.as_slice())?;
+    replace_versions(conn, changes.versions.as_slice())?;
     put_broadcasts(conn, changes.broadcasts.as_slice())?;
     put_waits(conn, changes.waits.as_slice())?;
     delete_broadcasts(conn, changes.deleted_broadcasts.as_slice())?;
@@ -258,18 +271,6 @@ fn write_or_undo<S: Alter>(
     Ok(())
 }
 
-// Returns the clock's row, if the changes leave it.
-fn unchanged(changes: &Changes, row: Option<ClockRow>) -> Option<ClockRow>
-    ensures { (r : ClockRow) → result ≡ Some r → (row ≡ Some r)
-        × ((before : Option Row) → clock_after (changes_of changes.now).clock
-        (changes_of changes.now).set before ≡ before) }
-{
-    match (changes.clock, changes.set) {
-        (None, None) => row,
-        _ => None,
-    }
-}
-
 /// Writes all changes in the transaction, which it begins if necessary. If a write fails, the
 /// transaction is rolled back. Reads the clock's row first: a shut connection fails there, and
 /// nothing is written to it.
@@ -278,12 +279,10 @@ pub(crate) fn write<S: Alter>(db: &mut Database<S>, changes: &Changes) -> Result
         (AppliesChanges (changes_of changes.now)) }
 {
     let row = clock(db)?;
-    db.clock = None;
-    let done = write_or_undo(&mut db.conn, changes, row);
-    if done.is_ok() {
-        db.clock = unchanged(changes, row);
-    }
-    done
+    let before = db.kept.take();
+    write_or_undo(&mut db.conn, changes, row)?;
+    db.kept = before.after(changes, row);
+    Ok(())
 }
 
 // Commits the transaction, or rolls it back.
@@ -297,9 +296,9 @@ fn commit_written<S: Alter>(db: &mut Database<S>) -> Result<(), Fault>
         (λ trees. trees ≡ (state S.Store db.old.conn).now.trees) }
 {
     // A failure may roll back to another row, or shut the connection.
-    let clock = db.clock.take();
+    let kept = db.kept.take();
     transaction::commit(&mut db.conn)?;
-    db.clock = clock;
+    db.kept = kept;
     Ok(())
 }
 
@@ -321,7 +320,7 @@ pub(crate) fn undo<S: Alter>(db: &mut Database<S>)
         → IsUndone (state S.Store db.old.conn) (state S.Store db.new.conn) }
     ensures survives { Survives (state S.Store db.old.conn) (state S.Store db.new.conn) (λ _. ⊥) }
 {
-    db.clock = None;
+    db.kept = Kept::none();
     transaction::roll_back(&mut db.conn);
 }
 

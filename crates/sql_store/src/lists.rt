@@ -12,7 +12,7 @@ ghost use Rattle.sql_store.specs.Lists.{download_of, is_waiting};
 ghost use Rattle.sql_store.specs.Store.{HasStoreTables, HasQueried, content_at};
 
 use crate::database::Database;
-use crate::lookups::carrier;
+use crate::kept;
 use crate::order::put_in_order;
 use crate::select::{find, find_all};
 use delivery::{Broadcast, DownloadKey};
@@ -133,7 +133,7 @@ pub(crate) fn waiters<S: Alter>(
         key.id key.attempt carriers.items) }
     ensures queried { HasQueried (state S.Store db.old.conn) (state S.Store db.new.conn) (is_ok result) }
 {
-    let carriers = carriers(db)?;
+    let carriers = kept::carriers(db)?;
     let alloc = *carriers.allocator();
     if key.id >= 9_223_372_036_854_775_808 || key.attempt >= 9_223_372_036_854_775_808 {
         return Ok(Vec::new(alloc));
@@ -185,7 +185,7 @@ pub(crate) fn is_last_wait<S: Alter>(db: &mut Database<S>, wait: WaitKey) -> Res
     let Some((other, _)) = found else {
         return Ok(true);
     };
-    if carrier(db, other.carrier)? {
+    if kept::carrier(db, other.carrier)? {
         return Ok(false);
     }
     is_last_of_all(db, wait)

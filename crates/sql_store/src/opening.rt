@@ -375,7 +375,7 @@ impl<S: Alter + Drop> SqlStore<S> {
         ensures { result ≡ self.db.conn }
     {
         let SqlStore {
-            db: Database { conn, clock: _ },
+            db: Database { conn, kept: _ },
             failures: _,
             group: _,
         } = self;

@@ -28,9 +28,9 @@ pub(crate) fn select<S: Alter>(
     ensures queried { HasQueried (state S.Store db.old.conn) (state S.Store db.new.conn) (is_ok result) }
 {
     // A failure may shut the connection, which then answers nothing.
-    let clock = db.clock.take();
+    let kept = db.kept.take();
     let rows = db.conn.query_all(query.text(), params)?;
-    db.clock = clock;
+    db.kept = kept;
     Ok(rows)
 }
 

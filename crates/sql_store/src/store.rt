@@ -112,7 +112,7 @@ impl<S: Alter> Store for SqlStore<S> {
         counted(
             &mut self.failures,
             &mut self.group,
-            lookups::carrier(&mut self.db, spid),
+            kept::carrier(&mut self.db, spid),
         )
     }
 
@@ -176,7 +176,7 @@ impl<S: Alter> Store for SqlStore<S> {
         counted(
             &mut self.failures,
             &mut self.group,
-            lookups::least_due(&mut self.db, now),
+            kept::least_due(&mut self.db, now),
         )
     }
 
@@ -236,7 +236,7 @@ impl<S: Alter> Store for SqlStore<S> {
         counted(
             &mut self.failures,
             &mut self.group,
-            lists::carriers(&mut self.db),
+            kept::carriers(&mut self.db),
         )
     }
 

@@ -6,6 +6,7 @@ ghost use Rattle.sql_store.specs.Store.{HasStoreTables, HasQueried, content_at};
 ghost use Rattle.sql_store.specs.Whole.{HasPresentSet, IsMoved, IsRead, ReadsAdded, ReadsAll, ReadsRegistry, ReadsVersions};
 
 use crate::database::Database;
+use crate::kept::Kept;
 use crate::lookups;
 use crate::through::read_table;
 use delivery::Broadcast;
@@ -21,7 +22,7 @@ fn read<T: FromRow + Drop, S: Alter>(db: &mut Database<S>, table: Table) -> Resu
         → IfOk result (IsRead table T.seen_in (state S.Store db.old.conn).now.trees) }
     ensures queried { HasQueried (state S.Store db.old.conn) (state S.Store db.new.conn) (is_ok result) }
 {
-    db.clock = None;
+    db.kept = Kept::none();
     read_table::<T, S>(&mut db.conn, table)
 }
 

@@ -11,7 +11,7 @@ invariant_of-db g c =
       ours = ended_ours old new c.args.db.now.ours
           (clean_if_open new.is_clean new.is_open (g.met.S.Store.shut_if_dirty _))
           c.commit.result c.commit.ensures.committed c.commit.ensures.err;
-      kept = nothing_kept new c.take-clock.new.self c.take-clock.ensures.after;
+      are_kept = nothing_kept new c.take-kept.new.self c.take-kept.ensures.after;
     }
 
 pub invariant_of-db-2 : goal.invariant_of-db-2
@@ -22,6 +22,7 @@ invariant_of-db-2 g c =
     record {
       ours = ended_ours old new c.args.db.now.ours clean_of
           c.commit.result c.commit.ensures.committed c.commit.ensures.err;
-      kept = kept_by_commit old new c.args.db.now.clock c.take-clock.result
-          c.take-clock.ensures.value c.args.db.now.kept clean_of c.in_ok-commit.ensures.committed;
+      are_kept = kept_by_commit old new c.args.db.now.kept c.take-kept.result
+          c.take-kept.ensures.value c.args.db.now.are_kept clean_of
+          c.in_ok-commit.ensures.committed;
     }

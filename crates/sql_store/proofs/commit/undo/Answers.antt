@@ -1,4 +1,3 @@
-use Rattle.std.proofs.Common.{refl}
 use Rattle.sqlite.specs.Held.{state}
 use Rattle.sql_store.proofs.CallLemmas.{clean_if_open, undone_ours}
 use Rattle.sql_store.proofs.KeptLemmas.{nothing_kept}
@@ -12,5 +11,5 @@ invariant_of-db g c =
       ours = undone_ours old new c.args.db.now.ours
           (clean_if_open new.is_clean new.is_open (g.met.S.Store.shut_if_dirty _))
           c.roll_back.ensures.undone;
-      kept = nothing_kept new _ refl;
+      are_kept = nothing_kept new c.none.result c.none.ensures;
     }

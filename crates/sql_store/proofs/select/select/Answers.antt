@@ -64,7 +64,7 @@ invariant_of-db g c =
     c.text.ensures c.query_all.ensures.survives) in
     record {
       ours = looked_ours old new (is_ok c.query_all.result) c.args.db.now.ours looked;
-      kept = nothing_kept new c.take-clock.new.self c.take-clock.ensures.after;
+      are_kept = nothing_kept new c.take-kept.new.self c.take-kept.ensures.after;
     }
 
 pub invariant_of-db-2 : goal.invariant_of-db-2
@@ -79,6 +79,6 @@ invariant_of-db-2 g c =
     c.text.ensures c.query_all.ensures.survives) in
     record {
       ours = looked_ours old new true c.args.db.now.ours looked;
-      kept = kept_by_query old new c.args.db.now.clock c.take-clock.result
-          c.take-clock.ensures.value c.args.db.now.kept looked;
+      are_kept = kept_by_query old new c.args.db.now.kept c.take-kept.result
+          c.take-kept.ensures.value c.args.db.now.are_kept looked;
     }

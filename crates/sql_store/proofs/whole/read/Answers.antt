@@ -4,6 +4,7 @@ use Rattle.sql_rows.specs.Statements.{all_text}
 use Rattle.sql_store.specs.Store.{clean_if_open}
 use Rattle.sql_store.specs.Through.{BlankMeansNone}
 use Rattle.sql_store.proofs.CallLemmas.{looked_ours}
+use Rattle.sql_store.proofs.KeptLemmas.{nothing_kept}
 use Rattle.sql_store.proofs.ThroughLemmas.{ours_plain, ours_read, table_looked}
 use Rattle.sql_store.proofs.whole.read.Goals as goal
 
@@ -41,3 +42,7 @@ invariant_of-db-clause-ours g c =
     c.read_table.result (ours_plain g.T.FromRow.seen_in c.args.table old new c.args.db.now.ours)
     (clean_if_open new.is_clean new.is_open (g.met.S.Store.shut_if_dirty _))
     c.read_table.ensures.all c.read_table.ensures.err c.read_table.ensures.survives)
+
+pub invariant_of-db-clause-are_kept : goal.invariant_of-db-clause-are_kept
+invariant_of-db-clause-are_kept g c =
+    nothing_kept (state g.S.Store c.read_table.new.conn) c.none.result c.none.ensures

@@ -36,3 +36,10 @@ returns-in_err-clock-clause-queried g c =
     let three = looked_then _ _ _ true two c.in_ok-waits.ensures.queried in
     subst (HasQueried _ _) (sym fails)
     (looked_then _ _ _ false three c.in_err-clock.ensures.queried)
+
+pub returns-clause-queried : goal.returns-clause-queried
+returns-clause-queried g c =
+    let two = looked_then _ _ _ true c.in_ok-versions.ensures.queried
+    c.in_ok-broadcasts.ensures.queried in
+    let three = looked_then _ _ _ true two c.in_ok-waits.ensures.queried in
+    looked_then _ _ _ true three c.in_ok-clock.ensures.queried
