@@ -29,87 +29,105 @@ use Rattle.http_messages.specs.declared.message.Request.{Request}
 use Rattle.connections.specs.Connections.{ConnectionModel, wanted_after, is_open, new_connection, takes_input, wants_input, with_end, with_executed, with_input, with_sent}
 use Rattle.connections.specs.Feeding.{GoesOn, HasAnswered, IsFed, IsSent, Receives, StepsOn, WritesAll, WritesPart, io_of}
 use Rattle.connections.specs.Rows.{RowsFollow}
-use Rattle.connections.specs.Schedules.{Answers, AnswersTo, Chain, TakesSteps}
+use Rattle.connections.specs.Schedules.{Answers, AnswersTo, TakesSteps}
 use Rattle.connections.specs.declared.connection.Phase.{Phase}
 use Rattle.connections.specs.declared.connection.Phase.TheVariants.{Open, Stopped, Ended, Lost}
 use Rattle.connections.proofs.Chains.{chain_then, supplied_then}
 use Rattle.connections.proofs.Played.{no_steps}
 use Rattle.connections.proofs.RowsLemmas.{same_as_begun}
+use Rattle.connections.proofs.Since.{steps_since}
 use Rattle.connections.proofs.Turns.{arrives, ends, sends, turn_trace, turned}
 
 -- ---- executing
 
--- Some steps, and then others.
-pub steps_then : (n : ℕ) (st : State) (mid new : Content) (Was Is : List Exchange → Type 0)
-    → TakesSteps true n n st mid (Some []) (Some []) Was
+-- Some steps, and then others. Between them, failures may be counted.
+pub steps_then : (from past between to : ℕ) (st : State) (mid new : Content)
+    (Was Is : List Exchange → Type 0) → past ≤ between
+    → TakesSteps true from past st mid (Some []) (Some []) Was
     → ((later : State) → Refines mid later → (xs : List Exchange) → Was xs
-    → TakesSteps true n n later new (Some []) (Some []) (λ ys. Is (xs ++ ys)))
-    → TakesSteps true n n st new (Some []) (Some []) Is
-steps_then n st mid new Was Is was on =
-    let more = on was.end was.refines was.exchanges was.holds in
-    record {
-      exchanges = was.exchanges ++ more.exchanges;
-      end = more.end;
-      chain = chain_then true n n n st was.end more.end was.exchanges more.exchanges was.chain
-          more.chain;
-      refines = more.refines;
-      supplied = supplied_then (Some []) (Some []) (Some []) was.exchanges more.exchanges
-          was.supplied more.supplied;
-      holds = more.holds;
-    }
+    → (last : ℕ) × (last ≤ to)
+    × TakesSteps true between last later new (Some []) (Some []) (λ ys. Is (xs ++ ys)))
+    → (last : ℕ) × (last ≤ to) × TakesSteps true from last st new (Some []) (Some []) Is
+steps_then from past between to st mid new Was Is before was on =
+    let later = on was.end was.refines was.exchanges was.holds in
+    let (last, at_most, more) = steps_since past between later.0 was.end new _ before later.2 in (
+      last,
+      le_trans at_most later.1,
+      record {
+        exchanges = was.exchanges ++ more.exchanges;
+        end = more.end;
+        chain = chain_then true from past last st was.end more.end was.exchanges more.exchanges
+            was.chain more.chain;
+        refines = more.refines;
+        supplied = supplied_then (Some []) (Some []) (Some []) was.exchanges more.exchanges
+            was.supplied more.supplied;
+        holds = more.holds;
+      },
+    )
 
-pub steps_stay : (n : ℕ) (st : State) (new : Content) (c : ConnectionModel) → Refines new st
-    → StepsOn n st new c c
-steps_stay n st new c refines = λ input received earlier was.
-    no_steps true n st new (Some []) (λ xs. IsFed c input received (earlier ++ xs)) refines
-    (subst (λ xs. IsFed c input received xs) (sym (append-nil earlier)) was)
+pub steps_stay : (from to : ℕ) (st : State) (new : Content) (c : ConnectionModel) → from ≤ to
+    → Refines new st → StepsOn from to st new c c
+steps_stay from to st new c rises refines = λ input received earlier was. (
+  from,
+  rises,
+  no_steps true from st new (Some []) (λ xs. IsFed c input received (earlier ++ xs)) refines
+      (subst (λ xs. IsFed c input received xs) (sym (append-nil earlier)) was),
+)
 
--- Counts of failures that rise, and are the same at the end, are all the same.
-pub between_same : (from mid to : ℕ) → from ≤ mid → mid ≤ to → to ≡ from → mid ≡ from
-between_same from mid to first second same = omega (arith, first, second, same)
+-- What is so of the messages of some steps.
+holds_on : (from to : ℕ) (st : State) (new : Content) (Was Is : List Exchange → Type 0)
+    → ((xs : List Exchange) → Was xs → Is xs)
+    → TakesSteps true from to st new (Some []) (Some []) Was
+    → TakesSteps true from to st new (Some []) (Some []) Is
+holds_on from to st new Was Is on was = record {
+  exchanges = was.exchanges;
+  end = was.end;
+  chain = was.chain;
+  refines = was.refines;
+  supplied = was.supplied;
+  holds = on was.exchanges was.holds;
+}
 
 module _ {S : Type 0} (store : Ghosts S) where
   -- Nothing was executed.
   pub goes_same : (old new : S) (c d : ConnectionModel) → d ≡ c
+      → store.failed old ≤ store.failed new
       → (store.IsUsable new → store.content new ≡ store.content old) → GoesOn store old new c d
-  goes_same old new c d kept is = record {
+  goes_same old new c d kept rises is = record {
     same_end = ap (λ (m : ConnectionModel). m.has_ended) kept;
-    steps = λ usable same st refines.
-        subst (λ (m : ConnectionModel). StepsOn (store.failed old) st (store.content new) c m)
-        (sym kept)
-        (steps_stay (store.failed old) st (store.content new) c
+    steps = λ usable st refines.
+        subst (λ (m : ConnectionModel). StepsOn (store.failed old) (store.failed new) st
+        (store.content new) c m) (sym kept)
+        (steps_stay (store.failed old) (store.failed new) st (store.content new) c rises
         (subst (λ (m : Content). Refines m st) (sym (is usable)) refines));
   }
 
   pub goes_stay : (s : S) (c : ConnectionModel) → GoesOn store s s c c
-  goes_stay s c = goes_same s s c c refl (λ usable. refl)
+  goes_stay s c = goes_same s s c c refl (le_refl (store.failed s)) (λ usable. refl)
 
-  pub goes_then : (old mid new : S) (c m d : ConnectionModel) → RowsFollow store old mid
-      → RowsFollow store mid new → GoesOn store old mid c m → GoesOn store mid new m d
-      → GoesOn store old new c d
-  goes_then old mid new c m d before behind first second = record {
+  pub goes_then : (old mid new : S) (c m d : ConnectionModel) → RowsFollow store mid new
+      → GoesOn store old mid c m → GoesOn store mid new m d → GoesOn store old new c d
+  goes_then old mid new c m d behind first second = record {
     same_end = second.same_end ∙ first.same_end;
-    steps = λ usable same st refines input received earlier was.
-        let at : store.failed mid ≡ store.failed old =
-        between_same _ _ _ before.rises behind.rises same in
-        steps_then (store.failed old) st (store.content mid) (store.content new)
+    steps = λ usable st refines input received earlier was.
+        let (past, at_most, steps) =
+        first.steps (behind.usable usable) st refines input received earlier was in
+        steps_then (store.failed old) past (store.failed mid) (store.failed new) st
+        (store.content mid) (store.content new)
         (λ xs. IsFed m input received (earlier ++ xs))
-        (λ xs. IsFed d input received (earlier ++ xs))
-        (first.steps (behind.usable usable) at st refines input received earlier was)
-        (λ later r xs is. let go = subst (λ (n : ℕ). StepsOn n later (store.content new) m d) at
-        (second.steps usable (same ∙ sym at) later r) in
-        let more = go input received (earlier ++ xs) is in record {
-          exchanges = more.exchanges;
-          end = more.end;
-          chain = more.chain;
-          refines = more.refines;
-          supplied = more.supplied;
-          holds = subst (λ zs. IsFed d input received zs)
-              (append_assoc earlier xs more.exchanges) more.holds;
-        });
+        (λ xs. IsFed d input received (earlier ++ xs)) at_most steps
+        (λ later r xs is. let (last, within, more) =
+        second.steps usable later r input received (earlier ++ xs) is in (
+          last,
+          within,
+          holds_on (store.failed mid) last later (store.content new)
+              (λ ys. IsFed d input received ((earlier ++ xs) ++ ys))
+              (λ ys. IsFed d input received (earlier ++ (xs ++ ys)))
+              (λ ys. subst (λ zs. IsFed d input received zs) (append_assoc earlier xs ys)) more,
+        ));
   }
 
--- ---- how many bytes are wanted
+-- ---- how many bytes a connection wants
 
 longer : (xs ys : List ℕ) → 1 ≤ length ys → 1 ≤ length (xs ++ ys)
 longer xs ys some = omega (arith, some, length-append xs ys)
@@ -170,25 +188,37 @@ module _ (most from to : ℕ) (st : State) (new : Content) (c d : ConnectionMode
   wants_so (Err lost) trace same is wants = wants
 
   -- A turn of a connection that is fed.
-  pub steps_turned : (result : Result Executed LostResponse) → to ≡ from
+  pub steps_turned : (result : Result Executed LostResponse)
       → Executes result true most c.has_ended from to st new (turn_trace true most from to st new
       (Some []) (Some []) c d result)
-      → d ≡ with_executed c result d.unsent → c.phase ≡ Open → StepsOn from st new c d
-  steps_turned result same is e opened = λ input received earlier was.
+      → d ≡ with_executed c result d.unsent → c.phase ≡ Open → StepsOn from to st new c d
+  steps_turned result is e opened = λ input received earlier was.
       let steps = turned true most from to st new (Some []) (Some []) c d result input received
       earlier is e opened was.0 in
       let wants = subst (λ (m : ConnectionModel). WantsMore m.unread m.wanted) (sym e)
-      (wants_so result _ refl is was.1) in
-      record {
-        exchanges = steps.exchanges;
-        end = steps.end;
-        chain = subst (λ (n : ℕ). Chain true from n st steps.exchanges steps.end) same steps.chain;
-        refines = steps.refines;
-        supplied = steps.supplied;
-        holds = (steps.holds, wants);
-      }
+      (wants_so result _ refl is was.1) in (
+        to,
+        le_refl to,
+        record {
+          exchanges = steps.exchanges;
+          end = steps.end;
+          chain = steps.chain;
+          refines = steps.refines;
+          supplied = steps.supplied;
+          holds = (steps.holds, wants);
+        },
+      )
 
 -- ---- groups
+
+-- Failures may be counted before the steps, and after them.
+steps_wider : (early from to late : ℕ) (st : State) (new : Content) (c d : ConnectionModel)
+    → early ≤ from → to ≤ late → StepsOn from to st new c d → StepsOn early late st new c d
+steps_wider early from to late st new c d before behind on = λ input received earlier was.
+    let (last, at_most, steps) = on input received earlier was in
+    let (at, within, more) = steps_since early from last st new
+    (λ xs. IsFed d input received (earlier ++ xs)) before steps in
+    (at, le_trans within (le_trans at_most behind), more)
 
 -- A group of commits that lasts.
 module _ {S : Type 0} (store : Ghosts S) (old begun ran ended : S) (c d : ConnectionModel)
@@ -197,51 +227,36 @@ module _ {S : Type 0} (store : Ghosts S) (old begun ran ended : S) (c d : Connec
       → GoesOn store old ended c d
   goes_grouped done ends goes = record {
     same_end = goes.same_end;
-    steps = λ usable same st refines.
+    steps = λ usable st refines.
         let at_end = ends.content usable in
         let at_begin = begins.same (runs.usable at_end.0) in
-        let from_old : store.failed begun ≡ store.failed old =
-        between_same _ _ _ begins.rises (le_trans runs.rises ends.leaves.rises) same in
-        let to_ran : store.failed ran ≡ store.failed begun =
-        between_same _ _ _ runs.rises ends.leaves.rises (same ∙ sym from_old) in
-        let on = goes.steps at_end.0 to_ran st
+        let on = goes.steps at_end.0 st
         (subst (λ (m : Content). Refines m st) (sym at_begin.1) refines) in
-        subst (λ (m : Content). StepsOn (store.failed old) st m c d) (sym at_end.1)
-        (subst (λ (n : ℕ). StepsOn n st (store.content ran) c d) from_old on);
+        subst (λ (m : Content). StepsOn (store.failed old) (store.failed ended) st m c d)
+        (sym at_end.1)
+        (steps_wider (store.failed old) (store.failed begun) (store.failed ran)
+        (store.failed ended) st (store.content ran) c d begins.rises ends.leaves.rises on);
   }
 
-  -- A group of commits that does not last.
+  -- A group of commits that does not last: its messages had no step.
   pub goes_undone : (fault : StoreFault) → EndsGroup store ran ended (Err fault)
       → BeginsNoGroup store begun ran → EndsNoGroup store begun ran → GoesOn store old ended c c
-  goes_undone fault ends begins_none ends_none = goes_same store old ended c c refl (λ usable.
+  goes_undone fault ends begins_none ends_none = goes_same store old ended c c refl
+      (le_trans begins.rises (le_trans runs.rises ends.leaves.rises)) (λ usable.
       (same_as_begun store old begun ran ended begins runs begins_none ends_none ends.content
       usable).1)
 
 -- ---- what was fed
 
 -- Holds if a connection has got this far with what was read of the input.
-pub record HasFed (n : ℕ) (st : State) (new : Content) (trace : IoTrace) (c : ConnectionModel)
+pub record HasFed (from to : ℕ) (st : State) (new : Content) (trace : IoTrace) (c : ConnectionModel)
     : Type 0 where
   pub arrived : List ℕ
   pub output : List ℕ
   pub read : Consumes (Some trace.input) trace.unread arrived
   pub ended : c.has_ended ≡ true → IsAtEnd trace.unread
   pub written : Appends trace.written_before trace.written_after output
-  pub steps : TakesSteps true n n st new (Some []) (Some []) (λ xs. IsFed c arrived output xs)
-
--- What is so of the messages of some steps.
-holds_on : (n : ℕ) (st : State) (new : Content) (Was Is : List Exchange → Type 0)
-    → ((xs : List Exchange) → Was xs → Is xs)
-    → TakesSteps true n n st new (Some []) (Some []) Was
-    → TakesSteps true n n st new (Some []) (Some []) Is
-holds_on n st new Was Is on was = record {
-  exchanges = was.exchanges;
-  end = was.end;
-  chain = was.chain;
-  refines = was.refines;
-  supplied = was.supplied;
-  holds = on was.exchanges was.holds;
-}
+  pub steps : TakesSteps true from to st new (Some []) (Some []) (λ xs. IsFed c arrived output xs)
 
 fewer : (wanted many : ℕ) → ((nat_le wanted many ≡ true) × (wanted ≤ many))
     ⊎ ((nat_le wanted many ≡ false) × (many < wanted)) → not (nat_le wanted many) ≡ true
@@ -264,30 +279,32 @@ takes_input_of c wants = by_cases c.phase c.has_ended refl refl wants
     by_cases (Ended end) has_ended at runs e = impossible (sym e)
     by_cases Lost has_ended at runs e = impossible (sym e)
 
-module _ (n : ℕ) (st : State) (had : Option (List ℕ)) where
+module _ (from : ℕ) (st : State) (had : Option (List ℕ)) where
   -- Nothing has been read.
   pub fed_new : (new : Content) (unread : Option (List ℕ)) (c : ConnectionModel)
       → c ≡ new_connection → Refines new st
-      → IfSome unread (λ input. HasFed n st new (io_of input unread had had) c)
+      → IfSome unread (λ input. HasFed from from st new (io_of input unread had had) c)
   fed_new new None c e refines = tt
   fed_new new (Some input) c e refines =
-      subst (λ (m : ConnectionModel). HasFed n st new (io_of input (Some input) had had) m) (sym e)
+      subst (λ (m : ConnectionModel). HasFed from from st new (io_of input (Some input) had had) m)
+      (sym e)
       (record {
         arrived = [];
         output = [];
         read = refl;
         ended = λ ended. impossible (sym ended);
         written = Appends-nil had;
-        steps = no_steps true n st new (Some []) (λ xs. IsFed new_connection [] [] xs) refines
+        steps = no_steps true from st new (Some []) (λ xs. IsFed new_connection [] [] xs) refines
             ((refl, refl), wants_one []);
       })
 
+module _ (from to : ℕ) (st : State) (had : Option (List ℕ)) where
   module _ (new : Content) (input : List ℕ) (unread unread' has : Option (List ℕ))
       (c : ConnectionModel) (wants : wants_input c ≡ true)
-      (fed : HasFed n st new (io_of input unread had has) c) where
+      (fed : HasFed from to st new (io_of input unread had has) c) where
     -- More has arrived.
     pub fed_more : (more : List ℕ) → Consumes unread unread' more
-        → HasFed n st new (io_of input unread' had has) (with_input c more)
+        → HasFed from to st new (io_of input unread' had has) (with_input c more)
     fed_more more consumes =
         let at = takes_input_of c wants in
         record {
@@ -296,7 +313,7 @@ module _ (n : ℕ) (st : State) (had : Option (List ℕ)) where
           read = Consumes-trans (Some input) unread unread' fed.arrived more fed.read consumes;
           ended = λ ended. impossible (sym ended ∙ at.1);
           written = fed.written;
-          steps = holds_on n st new (λ xs. IsFed c fed.arrived fed.output xs)
+          steps = holds_on from to st new (λ xs. IsFed c fed.arrived fed.output xs)
               (λ xs. IsFed (with_input c more) (fed.arrived ++ more) fed.output xs)
               (λ xs is. (
                 arrives fed.arrived more xs c fed.output at.1 is.0,
@@ -311,41 +328,44 @@ module _ (n : ℕ) (st : State) (had : Option (List ℕ)) where
 
     -- The input has ended.
     fed_end : Consumes unread unread' [] → IsAtEnd unread'
-        → HasFed n st new (io_of input unread' had has) (with_end c)
+        → HasFed from to st new (io_of input unread' had has) (with_end c)
     fed_end consumes at_end = record {
       arrived = fed.arrived ++ [];
       output = fed.output;
       read = Consumes-trans (Some input) unread unread' fed.arrived [] fed.read consumes;
       ended = λ ended. at_end;
       written = fed.written;
-      steps = holds_on n st new (λ xs. IsFed c fed.arrived fed.output xs)
+      steps = holds_on from to st new (λ xs. IsFed c fed.arrived fed.output xs)
           (λ xs. IsFed (with_end c) (fed.arrived ++ []) fed.output xs)
           (λ xs is. subst (λ (t : List ℕ). IsFed (with_end c) t fed.output xs)
           (sym (append-nil fed.arrived)) (ends fed.arrived xs c fed.output is.0, is.1)) fed.steps;
     }
 
     pub fed_received : (d : ConnectionModel) → Receives (Ok tt) unread unread' c d
-        → HasFed n st new (io_of input unread' had has) d
+        → HasFed from to st new (io_of input unread' had has) d
     fed_received d (inl (more, consumes, e)) =
-        subst (λ (m : ConnectionModel). HasFed n st new (io_of input unread' had has) m) (sym e)
+        subst (λ (m : ConnectionModel). HasFed from to st new (io_of input unread' had has) m)
+        (sym e)
         (fed_more more consumes)
     fed_received d (inr (consumes, at_end, e)) =
-        subst (λ (m : ConnectionModel). HasFed n st new (io_of input unread' had has) m) (sym e)
+        subst (λ (m : ConnectionModel). HasFed from to st new (io_of input unread' had has) m)
+        (sym e)
         (fed_end consumes at_end)
 
   -- What is to be sent was written.
   pub fed_sent : (new : Content) (input : List ℕ) (unread has has' : Option (List ℕ))
-      (c d : ConnectionModel) → HasFed n st new (io_of input unread had has) c
-      → IsSent c d has has' → HasFed n st new (io_of input unread had has') d
+      (c d : ConnectionModel) → HasFed from to st new (io_of input unread had has) c
+      → IsSent c d has has' → HasFed from to st new (io_of input unread had has') d
   fed_sent new input unread has has' c d fed sent =
-      subst (λ (m : ConnectionModel). HasFed n st new (io_of input unread had has') m) (sym sent.0)
+      subst (λ (m : ConnectionModel). HasFed from to st new (io_of input unread had has') m)
+      (sym sent.0)
       (record {
         arrived = fed.arrived;
         output = fed.output ++ c.unsent;
         read = fed.read;
         ended = fed.ended;
         written = Appends-trans had has has' fed.output c.unsent fed.written sent.1;
-        steps = holds_on n st new (λ xs. IsFed c fed.arrived fed.output xs)
+        steps = holds_on from to st new (λ xs. IsFed c fed.arrived fed.output xs)
             (λ xs. IsFed (with_sent c (length c.unsent)) fed.arrived (fed.output ++ c.unsent) xs)
             (λ xs is. (
               subst (λ (t : List ℕ). AnswersTo (with_sent c (length c.unsent)) fed.arrived
@@ -356,29 +376,30 @@ module _ (n : ℕ) (st : State) (had : Option (List ℕ)) where
             )) fed.steps;
       })
 
-  -- Messages were executed.
-  pub fed_went : {S : Type 0} (store : Ghosts S) (start mid new : S) (c d : ConnectionModel)
-      (input : List ℕ) (unread has : Option (List ℕ)) → n ≡ store.failed start
-      → RowsFollow store start mid → RowsFollow store mid new → GoesOn store mid new c d
-      → store.IsUsable new → store.failed new ≡ n
-      → HasFed n st (store.content mid) (io_of input unread had has) c
-      → HasFed n st (store.content new) (io_of input unread had has) d
-  fed_went store start mid new c d input unread has from before behind goes usable same fed =
-      let at : store.failed mid ≡ n =
-      between_same n _ _ (subst (λ k. k ≤ store.failed mid) (sym from) before.rises) behind.rises
-      same in
+-- Messages were executed.
+pub fed_went : {S : Type 0} (store : Ghosts S) (from past : ℕ) (st : State)
+    (had : Option (List ℕ)) (mid new : S) (c d : ConnectionModel) (input : List ℕ)
+    (unread has : Option (List ℕ)) → past ≤ store.failed mid → GoesOn store mid new c d
+    → store.IsUsable new
+    → HasFed from past st (store.content mid) (io_of input unread had has) c
+    → (last : ℕ) × (last ≤ store.failed new)
+    × HasFed from last st (store.content new) (io_of input unread had has) d
+fed_went store from past st had mid new c d input unread has at_most goes usable fed =
+    let (last, within, steps) = steps_then from past (store.failed mid) (store.failed new) st
+    (store.content mid) (store.content new) (λ xs. IsFed c fed.arrived fed.output xs)
+    (λ xs. IsFed d fed.arrived fed.output xs) at_most fed.steps
+    (λ later r xs is. goes.steps usable later r fed.arrived fed.output xs is) in (
+      last,
+      within,
       record {
         arrived = fed.arrived;
         output = fed.output;
         read = fed.read;
         ended = λ ended. fed.ended (sym goes.same_end ∙ ended);
         written = fed.written;
-        steps = steps_then n st (store.content mid) (store.content new)
-            (λ xs. IsFed c fed.arrived fed.output xs) (λ xs. IsFed d fed.arrived fed.output xs)
-            fed.steps
-            (λ later r xs is. subst (λ k. StepsOn k later (store.content new) c d) at
-            (goes.steps usable (same ∙ sym at) later r) fed.arrived fed.output xs is);
-      }
+        steps = steps;
+      },
+    )
 
 -- ---- how feeding ends
 
@@ -390,16 +411,16 @@ take_on (x ∷ xs) ys n =
     subst (λ (k : ℕ). take k ((x ∷ xs) ++ ys) ≡ (x ∷ xs) ++ take n ys) (sym e)
     (ap (λ (t : List ℕ). x ∷ t) (take_on xs ys n))
 
-module _ (n : ℕ) (st : State) (new : Content) (trace : IoTrace) (c : ConnectionModel)
-    (fed : HasFed n st new trace c) where
+module _ (from to : ℕ) (st : State) (new : Content) (trace : IoTrace) (c : ConnectionModel)
+    (fed : HasFed from to st new trace c) where
   answered : (phase : Phase) (output : List ℕ) → c.phase ≡ phase
-      → fed.output ++ c.unsent ≡ output → HasAnswered n st new trace phase c.unread output
+      → fed.output ++ c.unsent ≡ output → HasAnswered from to st new trace phase c.unread output
   answered phase output at is = record {
     arrived = fed.arrived;
     read = fed.read;
     has_ended = c.has_ended;
     ended = fed.ended;
-    steps = holds_on n st new (λ xs. IsFed c fed.arrived fed.output xs)
+    steps = holds_on from to st new (λ xs. IsFed c fed.arrived fed.output xs)
         (λ xs. Answers phase c.unread fed.arrived c.has_ended xs output)
         (λ xs was. subst (λ (p : Phase). Answers p c.unread fed.arrived c.has_ended xs output) at
         (subst (λ (o : List ℕ). Answers c.phase c.unread fed.arrived c.has_ended xs o) is was.0))
@@ -408,7 +429,7 @@ module _ (n : ℕ) (st : State) (new : Content) (trace : IoTrace) (c : Connectio
 
   -- Nothing is unsent.
   pub writes_all : (phase : Phase) → c.phase ≡ phase → c.unsent ≡ []
-      → WritesAll n st new trace phase c.unread
+      → WritesAll from to st new trace phase c.unread
   writes_all phase at none = record {
     output = fed.output;
     answered = answered phase fed.output at
@@ -418,7 +439,7 @@ module _ (n : ℕ) (st : State) (new : Content) (trace : IoTrace) (c : Connectio
 
   -- A part of what is unsent was written.
   pub writes_part : (has : Option (List ℕ)) → AppendsPrefix trace.written_after has c.unsent
-      → WritesPart n st new (record trace { written_after = has })
+      → WritesPart from to st new (record trace { written_after = has })
   writes_part has (part, within, appends) = record {
     phase = c.phase;
     left = c.unread;

@@ -16,13 +16,13 @@ use Rattle.api.specs.Ticks.{ConsumesTicks}
 use Rattle.api.specs.Step.{Step}
 use Rattle.api.specs.declared.serving.End.{End}
 use Rattle.api.specs.declared.serving.End.TheVariants.{Input, Closed, Refused}
-use Rattle.connections.specs.Feeding.{FeedsTo, WritesAll, io_of}
+use Rattle.connections.specs.Feeding.{FeedsAs, WritesAll, io_of}
 use Rattle.connections.specs.Schedules.{Begins, BeginsToClose, Chain}
 use Rattle.connections.specs.declared.connection.Phase.TheVariants.{Open, Ended}
 use Rattle.connections.specs.declared.feeding.FeedFault.TheVariants as fault
 use Rattle.connections.proofs.Chains.{begins_more, responses-last}
 
-run_of : (from to : ℕ) (st : State) (input : List ℕ) (xs : List Exchange) (end : State)
+pub run_of : (from to : ℕ) (st : State) (input : List ℕ) (xs : List Exchange) (end : State)
     (rest : List ℕ) → Chain true from to st xs end → Begins input xs rest
     → Run true from to st input xs end rest
 run_of from to st input [] end rest chain begins = (chain.0, chain.1, begins)
@@ -37,12 +37,12 @@ run_of from to st input (x ∷ xs) end rest chain begins = (
 )
 
 -- A chain whose last step is a message's.
-abbrev EndsWithStep : (from to : ℕ) → State → List Exchange → Exchange → State → Type 0
+abbrev pub EndsWithStep : (from to : ℕ) → State → List Exchange → Exchange → State → Type 0
 EndsWithStep from to st xs x end =
     (between : ℕ) × (mid : State) × Chain true from between st xs mid
     × Step true x.tick between to mid x.request x.body x.response end
 
-last_step : (from to : ℕ) (st : State) (xs : List Exchange) (x : Exchange) (end : State)
+pub last_step : (from to : ℕ) (st : State) (xs : List Exchange) (x : Exchange) (end : State)
     → Chain true from to st (xs ++ x ∷ []) end → EndsWithStep from to st xs x end
 last_step from to st [] x end chain = (
   from,
@@ -57,7 +57,8 @@ last_step from to st (y ∷ xs) x end chain =
     let later = last_step chain.0 to chain.1 xs x end chain.3 in
     (later.0, later.1, (chain.0, chain.1, chain.2, later.2), later.3)
 
-module _ (n : ℕ) (st : State) (new : Content) (input more : List ℕ) (had has : Option (List ℕ))
+module _ (from to : ℕ) (st : State) (new : Content) (input more : List ℕ)
+    (had has : Option (List ℕ))
   where
     abbrev known : IoTrace
     known = io_of input (Some more) had has
@@ -66,32 +67,33 @@ module _ (n : ℕ) (st : State) (new : Content) (input more : List ℕ) (had has
         (end : State) (refines : Refines new end)
         (supplied : ConsumesTicks (Some []) (ticks_of xs) (Some []))
         (written : Appends had has output) where
-      runs : (to : ℕ) (mid : State) (ys : List Exchange) (rest : List ℕ) → Chain true n to st ys mid
-          → Begins arrived ys rest → Run true n to st input ys mid (rest ++ more)
-      runs to mid ys rest chain begins =
-          run_of n to st input ys mid (rest ++ more) chain
+      runs : (late : ℕ) (mid : State) (ys : List Exchange) (rest : List ℕ)
+          → Chain true from late st ys mid
+          → Begins arrived ys rest → Run true from late st input ys mid (rest ++ more)
+      runs late mid ys rest chain begins =
+          run_of from late st input ys mid (rest ++ more) chain
           (subst (λ (t : List ℕ). Begins t ys (rest ++ more)) (sym is_read)
           (begins_more arrived rest more ys begins))
 
-      abbrev exchanged : (rest : List ℕ) → Chain true n n st xs end → Begins arrived xs rest
-          → output ≡ responses xs → AfterExchanges true n n st new known (length xs)
+      abbrev exchanged : (rest : List ℕ) → Chain true from to st xs end → Begins arrived xs rest
+          → output ≡ responses xs → AfterExchanges true from to st new known (length xs)
       exchanged rest chain begins answers = record {
         exchanges = xs;
         end = end;
         rest = rest ++ more;
-        run = runs n end xs rest chain begins;
+        run = runs to end xs rest chain begins;
         refines = refines;
         count = refl;
         supplied = supplied;
         written = subst (λ (t : List ℕ). Appends had has t) answers written;
       }
 
-      abbrev closed : Chain true n n st xs end → (is : BeginsToClose arrived xs)
+      abbrev closed : Chain true from to st xs end → (is : BeginsToClose arrived xs)
           → output ≡ responses xs
-          → AfterClose true n n st new known (length is.earlier + 1)
+          → AfterClose true from to st new known (length is.earlier + 1)
       closed chain is answers =
-          let by = last_step n n st is.earlier is.last end
-          (subst (λ ys. Chain true n n st ys end) is.all chain) in
+          let by = last_step from to st is.earlier is.last end
+          (subst (λ ys. Chain true from to st ys end) is.all chain) in
           record {
             exchanges = is.earlier;
             between = by.0;
@@ -113,15 +115,15 @@ module _ (n : ℕ) (st : State) (new : Content) (input more : List ℕ) (had has
           }
 
       abbrev refused : (fault : MessageFault) (rest : List ℕ) (has_ended : Bool)
-          → (has_ended ≡ true → IsAtEnd (Some more)) → Chain true n n st xs end
+          → (has_ended ≡ true → IsAtEnd (Some more)) → Chain true from to st xs end
           → Begins arrived xs rest → HasArrived rest has_ended (begins_with.Refused fault)
           → output ≡ responses xs ++ message_refusal_text fault
-          → AfterRefusal fault true n n st new known (length xs + 1)
+          → AfterRefusal fault true from to st new known (length xs + 1)
       refused fault rest has_ended at_end chain begins arrives answers = record {
         exchanges = xs;
         end = end;
         rest = rest ++ more;
-        run = runs n end xs rest chain begins;
+        run = runs to end xs rest chain begins;
         refused = refused_at rest (Some more) fault (has_ended, at_end, arrives);
         refines = refines;
         count = refl;
@@ -131,8 +133,8 @@ module _ (n : ℕ) (st : State) (new : Content) (input more : List ℕ) (had has
 
     module _ (left : List ℕ) where
       -- Feeding has ended.
-      ends_known : (end : End) → WritesAll n st new known (Ended end) left
-          → FeedsTo (Ok end) n st new known
+      ends_known : (end : End) → WritesAll from to st new known (Ended end) left
+          → FeedsAs (Ok end) from to st new known
       ends_known Input is =
           let a = is.answered in let s = a.steps in let h = s.holds in (
             length s.exchanges,
@@ -159,10 +161,10 @@ module _ (n : ℕ) (st : State) (new : Content) (input more : List ℕ) (had has
           )
 
       -- The reader has failed.
-      unread_known : WritesAll n st new known Open left
+      unread_known : WritesAll from to st new known Open left
           → ((request : Request) (body rest : List ℕ)
           → ¬ (ParsesAs left (WholeMessage request body rest)))
-          → FeedsTo (Err fault.Read) n st new known
+          → FeedsAs (Err fault.Read) from to st new known
       unread_known is none =
           let a = is.answered in let s = a.steps in let h = s.holds in (
             length s.exchanges,
@@ -171,17 +173,19 @@ module _ (n : ℕ) (st : State) (new : Content) (input more : List ℕ) (had has
             record { read = left; all = refl; none = none },
           )
 
-module _ (n : ℕ) (st : State) (new : Content) (input : List ℕ) (had has : Option (List ℕ)) where
+module _ (from to : ℕ) (st : State) (new : Content) (input : List ℕ)
+    (had has : Option (List ℕ)) where
   pub feeds_end : (unread : Option (List ℕ)) (end : End) (left : List ℕ)
-      → WritesAll n st new (io_of input unread had has) (Ended end) left
-      → FeedsTo (Ok end) n st new (io_of input unread had has)
+      → WritesAll from to st new (io_of input unread had has) (Ended end) left
+      → FeedsAs (Ok end) from to st new (io_of input unread had has)
   feeds_end None end left is = absurd is.answered.read
-  feeds_end (Some more) end left is = ends_known n st new input more had has left end is
+  feeds_end (Some more) end left is = ends_known from to st new input more had has left end is
 
   pub feeds_unread : (unread : Option (List ℕ)) (left : List ℕ)
-      → WritesAll n st new (io_of input unread had has) Open left
+      → WritesAll from to st new (io_of input unread had has) Open left
       → ((request : Request) (body rest : List ℕ)
       → ¬ (ParsesAs left (WholeMessage request body rest)))
-      → FeedsTo (Err fault.Read) n st new (io_of input unread had has)
+      → FeedsAs (Err fault.Read) from to st new (io_of input unread had has)
   feeds_unread None left is none = absurd is.answered.read
-  feeds_unread (Some more) left is none = unread_known n st new input more had has left is none
+  feeds_unread (Some more) left is none =
+      unread_known from to st new input more had has left is none

@@ -2,6 +2,8 @@ mod Chains
 mod Fed
 mod FedEnds
 mod FedRuns
+mod LeftFed
 mod Played
 pub mod RowsLemmas
+mod Since
 mod Turns

@@ -1,6 +1,6 @@
 -- Feeding: the messages of a reader, executed in groups of commits, and their responses.
 --
--- It begins in the state `st`, with `n` failures of the device, and no further one is counted. No
+-- It begins in the state `st`. `from` and `to` count the device's failures before and after. No
 -- minute is supplied, and `POST /clock` is served. `new` is the content afterwards.
 use Rattle.std.specs.Prelude.{◌≡◌, ◌⊎◌, ℕ, ◌≤◌, List, [], ◌++◌, length, take, Option, Some, Result, Ok, Err, Bool, true}
 use Rattle.std.specs.Io.KnownBytes.{Appends, Consumes, IsAtEnd, Keeps}
@@ -48,19 +48,22 @@ abbrev pub IsFed : ConnectionModel → (input received : List ℕ) → (xs : Lis
 IsFed c input received xs = AnswersTo c input received xs × WantsMore c.unread c.wanted
 
 -- Holds if the machine took the steps of some messages, and the connection has become one whose
--- messages are those before and these.
-abbrev pub StepsOn : (n : ℕ) → State → (new : Content) → (c d : ConnectionModel) → Type 0
-StepsOn n st new c d = (input received : List ℕ) (earlier : List Exchange)
+-- messages are those before and these. After the last of them, `last` failures were counted. A
+-- group without messages may count more.
+abbrev pub StepsOn : (from to : ℕ) → State → (new : Content) → (c d : ConnectionModel) → Type 0
+StepsOn from to st new c d = (input received : List ℕ) (earlier : List Exchange)
     → IsFed c input received earlier
-    → TakesSteps true n n st new (Some []) (Some []) (λ xs. IsFed d input received (earlier ++ xs))
+    → (last : ℕ) × (last ≤ to)
+    × TakesSteps true from last st new (Some []) (Some [])
+    (λ xs. IsFed d input received (earlier ++ xs))
 
--- Holds if, unless a failure is counted, the connection has become one whose further messages had
--- their steps. What has arrived, and whether that is all, stays.
+-- Holds if the connection has become one whose further messages had their steps, each once. What
+-- has arrived, and whether that is all, stays.
 pub record GoesOn {S : Type 0} (store : Ghosts S) (old new : S) (c d : ConnectionModel) : Type 0
   where
     pub same_end : d.has_ended ≡ c.has_ended
-    pub steps : store.IsUsable new → store.failed new ≡ store.failed old → (st : State)
-        → Refines (store.content old) st → StepsOn (store.failed old) st (store.content new) c d
+    pub steps : store.IsUsable new → (st : State) → Refines (store.content old) st
+        → StepsOn (store.failed old) (store.failed new) st (store.content new) c d
 
 -- ---- the whole
 
@@ -77,28 +80,28 @@ io_of input unread had has = record {
 
 -- Holds if the messages of what was read had their steps, `output` is what answers them, and a
 -- connection is this far with that: `left` is what was not executed.
-pub record HasAnswered (n : ℕ) (st : State) (new : Content) (trace : IoTrace) (phase : Phase)
+pub record HasAnswered (from to : ℕ) (st : State) (new : Content) (trace : IoTrace) (phase : Phase)
     (left output : List ℕ) : Type 0 where
   pub arrived : List ℕ
   pub read : Consumes (Some trace.input) trace.unread arrived
   pub has_ended : Bool
   pub ended : has_ended ≡ true → IsAtEnd trace.unread
-  pub steps : TakesSteps true n n st new (Some []) (Some [])
+  pub steps : TakesSteps true from to st new (Some []) (Some [])
       (λ xs. Answers phase left arrived has_ended xs output)
 
 -- Holds if this was written: all that answers the messages that had their steps.
-pub record WritesAll (n : ℕ) (st : State) (new : Content) (trace : IoTrace) (phase : Phase)
+pub record WritesAll (from to : ℕ) (st : State) (new : Content) (trace : IoTrace) (phase : Phase)
     (left : List ℕ) : Type 0 where
   pub output : List ℕ
-  pub answered : HasAnswered n st new trace phase left output
+  pub answered : HasAnswered from to st new trace phase left output
   pub written : Appends trace.written_before trace.written_after output
 
 -- Holds if a part of what answers the messages that had their steps was written.
-pub record WritesPart (n : ℕ) (st : State) (new : Content) (trace : IoTrace) : Type 0 where
+pub record WritesPart (from to : ℕ) (st : State) (new : Content) (trace : IoTrace) : Type 0 where
   pub phase : Phase
   pub left : List ℕ
   pub output : List ℕ
-  pub answered : HasAnswered n st new trace phase left output
+  pub answered : HasAnswered from to st new trace phase left output
   pub part : ℕ
   pub written : Appends trace.written_before trace.written_after (take part output)
 
@@ -110,17 +113,25 @@ IsReadPast rest unread = (read : List ℕ) × Consumes (Some rest) unread read
 -- message is not said. After `Write`, a prefix of the responses was written, and all messages that
 -- had their steps may be more than were answered. After `NoMemory`, all of them were answered, or
 -- all but the last.
-abbrev pub FeedsTo : Result End FeedFault → (n : ℕ) → State → (new : Content) → IoTrace → Type 0
-FeedsTo (Ok Input) n st new trace = (k : ℕ) × EndsAt Input true n n st new trace k
-FeedsTo (Ok Closed) n st new trace =
-    (k : ℕ) × (closed : AfterClose true n n st new trace k)
+abbrev pub FeedsAs : Result End FeedFault → (from to : ℕ) → State → (new : Content) → IoTrace
+    → Type 0
+FeedsAs (Ok Input) from to st new trace = (k : ℕ) × EndsAt Input true from to st new trace k
+FeedsAs (Ok Closed) from to st new trace =
+    (k : ℕ) × (closed : AfterClose true from to st new trace k)
     × IsReadPast closed.rest_after trace.unread
-FeedsTo (Ok (Refused fault)) n st new trace =
-    (k : ℕ) × (refusal : AfterRefusal fault true n n st new trace k)
+FeedsAs (Ok (Refused fault)) from to st new trace =
+    (k : ℕ) × (refusal : AfterRefusal fault true from to st new trace k)
     × IsReadPast refusal.rest trace.unread
-FeedsTo (Err fault.Read) n st new trace =
-    (k : ℕ) × (whole : AfterExchanges true n n st new trace k)
+FeedsAs (Err fault.Read) from to st new trace =
+    (k : ℕ) × (whole : AfterExchanges true from to st new trace k)
     × HasNoWholeMessage whole.rest trace.unread
-FeedsTo (Err fault.Write) n st new trace = WritesPart n st new trace
-FeedsTo (Err fault.NoMemory) n st new trace =
-    (phase : Phase) × (left : List ℕ) × WritesAll n st new trace phase left
+FeedsAs (Err fault.Write) from to st new trace = WritesPart from to st new trace
+FeedsAs (Err fault.NoMemory) from to st new trace =
+    (phase : Phase) × (left : List ℕ) × WritesAll from to st new trace phase left
+
+-- Holds if feeding ended or failed so, and after the last message at most `to` failures were
+-- counted. A group without messages may count more.
+abbrev pub FeedsTo : Result End FeedFault → (from to : ℕ) → State → (new : Content) → IoTrace
+    → Type 0
+FeedsTo result from to st new trace =
+    (last : ℕ) × (last ≤ to) × FeedsAs result from last st new trace

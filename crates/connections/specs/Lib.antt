@@ -1,4 +1,5 @@
 pub mod Connections
+pub mod Crashes
 pub mod Feeding
 pub mod Rows
 pub mod Schedules

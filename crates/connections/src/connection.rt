@@ -1,8 +1,9 @@
 //! A connection as two byte lists: what has arrived, and what is to be sent.
 ghost use Rattle.std.specs.Prelude.{◌≡◌, ◌≤◌, ◌⊎◌, ◌++◌, Err, Some, drop, length, IfOk, OnOk, OnErr};
 ghost use Rattle.model.specs.State.{State};
-ghost use Rattle.settle.specs.StoreContract.{BeginsNoGroup, EndsNoGroup};
+ghost use Rattle.settle.specs.StoreContract.{AddsOnlyCrashStates, BeginsNoGroup, EndsNoGroup};
 ghost use Rattle.register.specs.Refinement.{Refines};
+ghost use Rattle.api.specs.Crashes.{LeavesPrefix};
 ghost use Rattle.api.specs.Executing.{Executes, consumed_of};
 ghost use Rattle.api.specs.Serving.{WritesUntil};
 ghost use Rattle.connections.specs.Connections.{connection_of, has_work, is_open, may_go_on, new_connection, phase_after, wanted_after, wants_input, with_end, with_executed, with_input, with_sent, with_stop};
@@ -215,6 +216,12 @@ impl Connection {
             → WritesUntil options.now.clock_route (S.failed register.old.store) st
             (connection_of self.old).unread (T.remaining ticks.old)
             (Some (connection_of self.old).unsent) (Some (connection_of self.new).unsent)) }
+        ensures left { AddsOnlyCrashStates S.StoreModel register.old.store register.new.store
+            (λ m. S.IsUsable register.old.store × ((st : State)
+            → Refines (S.content register.old.store) st
+            → LeavesPrefix options.now.clock_route (S.failed register.old.store) st
+            (connection_of self.old).unread (T.remaining ticks.old)
+            (connection_of self.old).unsent (connection_of self.new).unsent m)) }
         ensures follows { RowsFollow S.StoreModel register.old.store register.new.store }
         ensures begins { BeginsNoGroup S.StoreModel register.old.store register.new.store }
         ensures ends { EndsNoGroup S.StoreModel register.old.store register.new.store }

@@ -7,6 +7,7 @@ ghost use Rattle.model.specs.State.{State};
 ghost use Rattle.register.specs.Refinement.{Refines};
 ghost use Rattle.settle.specs.StoreContract.{BeginsNoGroup, EndsNoGroup};
 ghost use Rattle.connections.specs.Connections.{connection_of, new_connection};
+ghost use Rattle.connections.specs.Crashes.{LeavesFirstMessages, LeavesFirstOf};
 ghost use Rattle.connections.specs.Feeding.{FeedsTo, GoesOn, IsSent, ReadsSome, Receives, io_of};
 ghost use Rattle.connections.specs.Rows.{RowsFollow};
 
@@ -66,6 +67,8 @@ fn execute_some<S: Store>(
     ensures goes_on { GoesOn S.StoreModel register.old.store register.new.store
         (connection_of connection.old) (connection_of connection.new) }
     ensures follows { RowsFollow S.StoreModel register.old.store register.new.store }
+    ensures left { LeavesFirstOf S.StoreModel register.old.store register.new.store
+        (connection_of connection.old) }
     ensures begins { BeginsNoGroup S.StoreModel register.old.store register.new.store }
     ensures ends { EndsNoGroup S.StoreModel register.old.store register.new.store }
 {
@@ -105,6 +108,8 @@ impl Feeder {
         ensures goes_on { GoesOn S.StoreModel register.old.store register.new.store
             (connection_of self.old.connection) (connection_of self.new.connection) }
         ensures follows { RowsFollow S.StoreModel register.old.store register.new.store }
+        ensures left { LeavesFirstOf S.StoreModel register.old.store register.new.store
+            (connection_of self.old.connection) }
     {
         let Ok(mut ahead) = self.connection.copy() else {
             return false;
@@ -122,12 +127,14 @@ impl Feeder {
         }
     }
 
-    // Executes messages in one group of commits. If there is none, or it does not last, each of them
-    // commits by itself.
+    // Executes messages in one group of commits. Without a group, or if it does not last, each of
+    // them commits by itself.
     fn execute<S: Store>(&mut self, register: &mut Register<S>)
         ensures goes_on { GoesOn S.StoreModel register.old.store register.new.store
             (connection_of self.old.connection) (connection_of self.new.connection) }
         ensures follows { RowsFollow S.StoreModel register.old.store register.new.store }
+        ensures left { LeavesFirstOf S.StoreModel register.old.store register.new.store
+            (connection_of self.old.connection) }
     {
         if !self.execute_group(register) {
             execute_some(&mut self.connection, &mut self.executor, register);
@@ -192,15 +199,17 @@ pub fn feed<S: Store, R: Read, W: Write>(
     reader: &mut R,
     writer: &mut W,
 ) -> Result<End, FeedFault>
-    // If no failure is counted: every message, its response, and what has been read and written.
-    ensures feeds { S.IsUsable register.new.store
-        → S.failed register.new.store ≡ S.failed register.old.store → (st : State)
+    // Every message, its response, and what has been read and written.
+    ensures feeds { S.IsUsable register.new.store → (st : State)
         → Refines (S.content register.old.store) st
         → IfSome (R.remaining reader.old)
-        (λ input. FeedsTo result (S.failed register.old.store) st (S.content register.new.store)
-        (io_of input (R.remaining reader.new) (W.contents writer.old)
-        (W.contents writer.new))) }
+        (λ input. FeedsTo result (S.failed register.old.store) (S.failed register.new.store) st
+        (S.content register.new.store) (io_of input (R.remaining reader.new)
+        (W.contents writer.old) (W.contents writer.new))) }
     ensures follows { RowsFollow S.StoreModel register.old.store register.new.store }
+    // A crash leaves what it could leave before, or what the first messages lead to.
+    ensures left { LeavesFirstMessages S.StoreModel register.old.store register.new.store
+        (R.remaining reader.old) }
 {
     let Ok(mut feeder) = Feeder::new(alloc) else {
         return Err(FeedFault::NoMemory);

@@ -38,9 +38,9 @@ pub struct Limits {
 }
 
 impl Limits {
-    /// Returns limits for `at_once` connections, of which at most `group` messages share a commit,
-    /// with seconds for a message, between messages, and until further bytes are taken. Between
-    /// messages it is 1 second while another connection waits. Input is discarded for 2 seconds.
+    /// Returns limits for `at_once` connections, where at most `group` messages share a commit, with
+    /// seconds for a message, between messages, and until further bytes are taken. Between messages
+    /// it is 1 second while another connection waits. Input is discarded for 2 seconds.
     pub fn new(at_once: usize, group: u64, message: u64, idle: u64, sending: u64) -> Limits
         ensures { AreLimits at_once group message idle 1 sending 2 result }
     {

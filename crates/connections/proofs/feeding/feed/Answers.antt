@@ -1,70 +1,75 @@
-use Rattle.std.proofs.Common.{◌≡◌, ◌∙◌, [], ap, refl, subst, sym}
+use Rattle.std.proofs.Common.{◌≡◌, ◌∙◌, [], ap, inl, subst, sym}
 use Rattle.model.specs.State.{State}
 use Rattle.register.specs.Refinement.{Refines}
+use Rattle.connections.specs.Crashes.{LeavesFirstMessages}
 use Rattle.connections.specs.Rows.{RowsFollow}
 use Rattle.connections.specs.Connections.{ConnectionModel, connection_of}
-use Rattle.connections.proofs.Fed.{fed_new}
-use Rattle.connections.proofs.FedEnds.{Fed, at_break, at_end, moved, not_begun, not_received, not_sent, received, sent, unsent_received, unsent_sent, went}
+use Rattle.connections.proofs.FedEnds.{Fed, at_break, at_end, fed_nothing, moved, not_begun, not_received, not_sent, received, sent, unsent_received, unsent_sent, went}
+use Rattle.connections.proofs.LeftFed.{left_fed}
 use Rattle.connections.proofs.RowsLemmas.{rows_stay, rows_then}
 use Rattle.connections.proofs.feeding.feed.Goals as goal
 use Rattle.connections.proofs.feeding.feed.Goals.{then-wants_input+in-Ok-receive, in-Open-2+in-Ok-send}
 
 pub returns-in_default-clause-feeds : goal.returns-in_default-clause-feeds
-returns-in_default-clause-feeds g c = λ usable same st refines.
+returns-in_default-clause-feeds g c = λ usable st refines.
     not_begun (g.S.StoreModel.failed c.args.register.now.store) st
     (g.S.StoreModel.content c.args.register.now.store) _ _ refines
 
 pub loop-init : goal.loop-init
 loop-init g c = record {
   follows = rows_stay g.S.StoreModel c.args.register.now.store;
+  left = λ honest m may. inl may;
   sent = ap (λ (m : ConnectionModel). m.unsent) c.in-Ok.ensures;
-  fed = λ usable same st refines. fed_new (g.S.StoreModel.failed c.args.register.now.store) st
-      (g.W.Write.contents c.args.writer.now)
-      (g.S.StoreModel.content c.args.register.now.store) (g.R.Read.remaining c.args.reader.now)
+  fed = λ usable st refines. fed_nothing (g.S.StoreModel.failed c.args.register.now.store) st
+      (g.W.Write.contents c.args.writer.now) (g.R.Read.remaining c.args.reader.now)
+      (g.S.StoreModel.content c.args.register.now.store)
       (connection_of c.in-Ok.feeder.connection) c.in-Ok.ensures refines;
 }
 
 pub returns-in-Ended-clause-feeds : goal.returns-in-Ended-clause-feeds
-returns-in-Ended-clause-feeds g c = λ usable same st refines.
-    at_end (g.S.StoreModel.failed c.args.register.now.store) st
+returns-in-Ended-clause-feeds g c = λ usable st refines.
+    at_end (g.S.StoreModel.failed c.args.register.now.store)
+    (g.S.StoreModel.failed c.loop.register.store) st
     (g.W.Write.contents c.args.writer.now) (g.R.Read.remaining c.args.reader.now)
     (g.S.StoreModel.content c.loop.register.store) (g.R.Read.remaining c.loop.reader)
     (g.W.Write.contents c.loop.writer) (connection_of c.loop.feeder.connection)
-    (c.loop.invariant.fed usable same st refines) _ (sym c.phase.ensures ∙ c.in-Ended.is)
+    (c.loop.invariant.fed usable st refines) _ (sym c.phase.ensures ∙ c.in-Ended.is)
     c.loop.invariant.sent
 
 pub returns-clause-feeds : goal.returns-clause-feeds
-returns-clause-feeds g c = λ usable same st refines.
-    at_break (g.S.StoreModel.failed c.args.register.now.store) st
+returns-clause-feeds g c = λ usable st refines.
+    at_break (g.S.StoreModel.failed c.args.register.now.store)
+    (g.S.StoreModel.failed c.loop.register.store) st
     (g.W.Write.contents c.args.writer.now) (g.R.Read.remaining c.args.reader.now)
     (g.S.StoreModel.content c.loop.register.store) (g.R.Read.remaining c.loop.reader)
     (g.W.Write.contents c.loop.writer) (connection_of c.loop.feeder.connection)
-    (c.loop.invariant.fed usable same st refines) c.loop.invariant.sent
+    (c.loop.invariant.fed usable st refines) c.loop.invariant.sent
 
 pub returns-in-Err-clause-feeds : goal.returns-in-Err-clause-feeds
-returns-in-Err-clause-feeds g c = λ usable same st refines.
-    not_received (g.S.StoreModel.failed c.args.register.now.store) st
+returns-in-Err-clause-feeds g c = λ usable st refines.
+    not_received (g.S.StoreModel.failed c.args.register.now.store)
+    (g.S.StoreModel.failed c.loop.register.store) st
     (g.W.Write.contents c.args.writer.now) (g.R.Read.remaining c.args.reader.now)
     (g.S.StoreModel.content c.loop.register.store) (g.R.Read.remaining c.loop.reader)
     (g.R.Read.remaining c.receive.new.reader) (g.W.Write.contents c.loop.writer)
     (connection_of c.loop.feeder.connection) (connection_of c.receive.new.self.connection)
     c.receive.result _ c.in-Err.is c.receive.ensures
     (sym c.wants_input.ensures ∙ c.if-wants_input.true) c.loop.invariant.sent
-    (c.loop.invariant.fed usable same st refines)
+    (c.loop.invariant.fed usable st refines)
 
 pub returns-in-Err-send-clause-feeds : goal.returns-in-Err-send-clause-feeds
-returns-in-Err-send-clause-feeds g c = λ usable same st refines.
-    not_sent (g.S.StoreModel.failed c.args.register.now.store) st
+returns-in-Err-send-clause-feeds g c = λ usable st refines.
+    not_sent (g.S.StoreModel.failed c.args.register.now.store)
+    (g.S.StoreModel.failed c.execute.new.register.store) st
     (g.W.Write.contents c.args.writer.now) (g.R.Read.remaining c.args.reader.now)
     (g.S.StoreModel.content c.execute.new.register.store) (g.R.Read.remaining c.loop.reader)
     (g.W.Write.contents c.loop.writer) (connection_of c.execute.new.self.connection)
-    (went (g.S.StoreModel.failed c.args.register.now.store) st
-    (g.W.Write.contents c.args.writer.now) (g.R.Read.remaining c.args.reader.now) g.S.StoreModel
-    c.args.register.now.store c.loop.register.store c.execute.new.register.store
-    (connection_of c.loop.feeder.connection) (connection_of c.execute.new.self.connection)
-    (g.R.Read.remaining c.loop.reader) (g.W.Write.contents c.loop.writer) refl
-    c.loop.invariant.follows c.execute.ensures.follows c.execute.ensures.goes_on usable same
-    (λ up at. c.loop.invariant.fed up at st refines))
+    (went g.S.StoreModel (g.S.StoreModel.failed c.args.register.now.store) st
+    (g.W.Write.contents c.args.writer.now) (g.R.Read.remaining c.args.reader.now)
+    c.loop.register.store c.execute.new.register.store (connection_of c.loop.feeder.connection)
+    (connection_of c.execute.new.self.connection) (g.R.Read.remaining c.loop.reader)
+    (g.W.Write.contents c.loop.writer) c.execute.ensures.follows c.execute.ensures.goes_on usable
+    (λ up. c.loop.invariant.fed up st refines))
     (g.W.Write.contents c.send.new.writer) c.send.result _ c.in-Err-send.is c.send.ensures.part
     c.send.ensures.fault
 
@@ -88,6 +93,19 @@ loop-preserved g c =
           (rows_then store start c.loop.register.store w.execute.new.register.store
           c.loop.invariant.follows w.execute.ensures.follows)
     ] in
+    let left : LeavesFirstMessages store start c.if-wants_input.register.store all =
+    elim c.if-wants_input.branch [
+      | then-wants_input+in-Ok-receive w ↦ subst (λ r. LeavesFirstMessages store start r.store all)
+          (sym w.register-is) c.loop.invariant.left
+      | in-Open-2+in-Ok-send w ↦ subst (λ r. LeavesFirstMessages store start r.store all)
+          (sym w.register-is)
+          (left_fed g.S.StoreModel c.args.register.now.store c.loop.register.store
+          w.execute.new.register.store (g.W.Write.contents c.args.writer.now)
+          (g.R.Read.remaining c.args.reader.now) (g.R.Read.remaining c.loop.reader)
+          (g.W.Write.contents c.loop.writer) (connection_of c.loop.feeder.connection)
+          w.execute.ensures.follows.honest c.loop.invariant.follows.usable c.loop.invariant.fed
+          c.loop.invariant.left w.execute.ensures.left)
+    ] in
     let sends : (connection_of c.if-wants_input.feeder.connection).unsent ≡ [] =
     elim c.if-wants_input.branch [
       | then-wants_input+in-Ok-receive w ↦
@@ -102,42 +120,54 @@ loop-preserved g c =
           (connection_of w.execute.new.self.connection)
           (connection_of w.send.new.self.connection) w.in-Ok-send.ensures.sent)
     ] in
-    let fed : store.IsUsable c.if-wants_input.register.store
-    → store.failed c.if-wants_input.register.store ≡ store.failed start → (st : State)
+    let fed : store.IsUsable c.if-wants_input.register.store → (st : State)
     → Refines (store.content start) st
-    → Fed (store.failed start) st had all (store.content c.if-wants_input.register.store)
+    → Fed (store.failed start) (store.failed c.if-wants_input.register.store) st had all
+    (store.content c.if-wants_input.register.store)
     (g.R.Read.remaining c.if-wants_input.reader) (g.W.Write.contents c.if-wants_input.writer)
     (connection_of c.if-wants_input.feeder.connection) =
     elim c.if-wants_input.branch [
       | then-wants_input+in-Ok-receive w ↦
-          moved (λ r reader writer f. store.IsUsable r.store
-          → store.failed r.store ≡ store.failed start → (st : State)
+          moved (λ r reader writer f. store.IsUsable r.store → (st : State)
           → Refines (store.content start) st
-          → Fed (store.failed start) st had all (store.content r.store)
+          → Fed (store.failed start) (store.failed r.store) st had all (store.content r.store)
           (g.R.Read.remaining reader) (g.W.Write.contents writer) (connection_of f.connection))
           _ _ _ _ _ _ _ _ w.register-is w.reader-is w.writer-is w.feeder-is
-          (λ usable same st refines. received (store.failed start) st had all
+          (λ usable st refines. received (store.failed start)
+          (store.failed c.loop.register.store) st had all
           (store.content c.loop.register.store) (g.R.Read.remaining c.loop.reader)
           (g.W.Write.contents c.loop.writer) before
-          (c.loop.invariant.fed usable same st refines) (g.R.Read.remaining w.receive.new.reader)
+          (c.loop.invariant.fed usable st refines) (g.R.Read.remaining w.receive.new.reader)
           (connection_of w.receive.new.self.connection)
           (sym c.wants_input.ensures ∙ w.if-wants_input.true) w.in-Ok-receive.ensures)
       | in-Open-2+in-Ok-send w ↦
-          moved (λ r reader writer f. store.IsUsable r.store
-          → store.failed r.store ≡ store.failed start → (st : State)
+          moved (λ r reader writer f. store.IsUsable r.store → (st : State)
           → Refines (store.content start) st
-          → Fed (store.failed start) st had all (store.content r.store)
+          → Fed (store.failed start) (store.failed r.store) st had all (store.content r.store)
           (g.R.Read.remaining reader) (g.W.Write.contents writer) (connection_of f.connection))
           _ _ _ _ _ _ _ _ w.register-is w.reader-is w.writer-is w.feeder-is
-          (λ usable same st refines. sent (store.failed start) st had all
+          (λ usable st refines. sent (store.failed start)
+          (store.failed w.execute.new.register.store) st had all
           (store.content w.execute.new.register.store) (g.R.Read.remaining c.loop.reader)
           (g.W.Write.contents c.loop.writer) (connection_of w.execute.new.self.connection)
-          (went (store.failed start) st had all store start c.loop.register.store
+          (went store (store.failed start) st had all c.loop.register.store
           w.execute.new.register.store before (connection_of w.execute.new.self.connection)
-          (g.R.Read.remaining c.loop.reader) (g.W.Write.contents c.loop.writer) refl
-          c.loop.invariant.follows w.execute.ensures.follows w.execute.ensures.goes_on usable same
-          (λ up at. c.loop.invariant.fed up at st refines))
+          (g.R.Read.remaining c.loop.reader) (g.W.Write.contents c.loop.writer)
+          w.execute.ensures.follows w.execute.ensures.goes_on usable
+          (λ up. c.loop.invariant.fed up st refines))
           (g.W.Write.contents w.send.new.writer) (connection_of w.send.new.self.connection)
           w.in-Ok-send.ensures.sent)
     ] in
-    record { follows = follows; sent = sends; fed = fed }
+    record { follows = follows; left = left; sent = sends; fed = fed }
+
+pub returns-in_default-clause-left : goal.returns-in_default-clause-left
+returns-in_default-clause-left g c = λ honest m may. inl may
+
+pub returns-in-Err-send-clause-left : goal.returns-in-Err-send-clause-left
+returns-in-Err-send-clause-left g c =
+    left_fed g.S.StoreModel c.args.register.now.store c.loop.register.store
+    c.execute.new.register.store (g.W.Write.contents c.args.writer.now)
+    (g.R.Read.remaining c.args.reader.now) (g.R.Read.remaining c.loop.reader)
+    (g.W.Write.contents c.loop.writer) (connection_of c.loop.feeder.connection)
+    c.execute.ensures.follows.honest c.loop.invariant.follows.usable c.loop.invariant.fed
+    c.loop.invariant.left c.execute.ensures.left

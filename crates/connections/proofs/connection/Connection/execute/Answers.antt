@@ -1,6 +1,8 @@
 use Rattle.std.proofs.Common.{◌≡◌, ◌⊎◌, ℕ, List, Some, drop, sym, subst}
 use Rattle.model.specs.State.{State}
 use Rattle.register.specs.Refinement.{Refines}
+use Rattle.settle.specs.StoreContract.{AddsOnlyCrashStates}
+use Rattle.api.specs.Crashes.{LeavesPrefix}
 use Rattle.api.specs.Executing.{Executes, consumed_of}
 use Rattle.api.specs.Serving.{WritesUntil}
 use Rattle.connections.specs.Connections.{connection_of, queued}
@@ -79,3 +81,29 @@ returns-clause-until g c = λ usable honest.
     (g.T.Ticks.remaining c.args.ticks.now) (Some had) (Some has))) _ _ _ _ _ _
     c.as_slice-input.ensures c.move_to_start.ensures.bytes c.move_to_start.ensures.start
     (c.execute-result.ensures.until usable honest))
+
+pub returns-clause-left : goal.returns-clause-left
+returns-clause-left g c =
+    let unsent : queued c.note_executed.new.self.output
+    ≡ drop c.move_to_start.new.self.start c.execute-result.new.output.items =
+    unsent_after (connection_of c.note_executed.new.self)
+    (record {
+      phase = c.args.self.now.phase;
+      unread = queued c.args.self.now.input;
+      wanted = c.args.self.now.wanted;
+      has_ended = c.args.self.now.has_ended;
+      unsent = drop c.move_to_start.new.self.start c.execute-result.new.output.items;
+    }) c.execute-result.result
+    (drop c.move_to_start.new.self.start c.execute-result.new.output.items)
+    c.note_executed.ensures in
+    let Leaves : (input had has : List ℕ) → Type 0 =
+    λ input had has. AddsOnlyCrashStates g.S.StoreModel c.args.register.now.store
+    c.execute-result.new.register.store
+    (λ m. g.S.StoreModel.IsUsable c.args.register.now.store × ((st : State)
+    → Refines (g.S.StoreModel.content c.args.register.now.store) st
+    → LeavesPrefix c.args.options.now.clock_route
+    (g.S.StoreModel.failed c.args.register.now.store) st input
+    (g.T.Ticks.remaining c.args.ticks.now) had has m)) in
+    subst (Leaves (queued c.args.self.now.input) (queued c.args.self.now.output)) (sym unsent)
+    (renamed Leaves _ _ _ _ _ _ c.as_slice-input.ensures c.move_to_start.ensures.bytes
+    c.move_to_start.ensures.start c.execute-result.ensures.left)

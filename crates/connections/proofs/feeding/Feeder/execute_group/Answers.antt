@@ -1,15 +1,17 @@
-use Rattle.std.proofs.Common.{◌∙◌, Ok, ap, refl, subst}
+use Rattle.std.proofs.Common.{◌∙◌, Ok, ap, inl, refl, subst}
 use Rattle.settle.specs.StoreContract.{BeginsGroup, EndsGroup}
 use Rattle.connections.specs.Connections.{ConnectionModel, connection_of}
+use Rattle.connections.specs.Crashes.{LeavesFirstOf}
 use Rattle.connections.specs.Feeding.{GoesOn}
 use Rattle.connections.proofs.Fed.{goes_grouped, goes_same, goes_undone}
+use Rattle.connections.proofs.LeftFed.{left_grouped}
 use Rattle.connections.proofs.RowsLemmas.{rows_grouped}
 use Rattle.connections.proofs.feeding.Feeder.execute_group.Goals as goal
 
 pub returns-in_default-begin_group-clause-goes_on : goal.returns-in_default-begin_group-clause-goes_on
 returns-in_default-begin_group-clause-goes_on g c =
     goes_same g.S.StoreModel c.args.register.now.store c.begin_group.new.self.store _ _ refl
-    (λ usable. (c.begin_group.ensures.same usable).1)
+    c.begin_group.ensures.rises (λ usable. (c.begin_group.ensures.same usable).1)
 
 pub returns-in-Err-clause-goes_on : goal.returns-in-Err-clause-goes_on
 returns-in-Err-clause-goes_on g c =
@@ -58,3 +60,41 @@ returns-in-Ok-end_group-clause-goes_on g c =
     (subst (λ (m : ConnectionModel). GoesOn store c.begin_group.new.self.store
     c.execute_some.new.register.store m (connection_of c.execute_some.new.connection))
     c.in-Ok.ensures c.execute_some.ensures.goes_on)
+
+pub returns-in_default-begin_group-clause-left : goal.returns-in_default-begin_group-clause-left
+returns-in_default-begin_group-clause-left g c = λ honest m may.
+    inl (c.begin_group.ensures.left honest m may)
+
+pub returns-in-Err-clause-left : goal.returns-in-Err-clause-left
+returns-in-Err-clause-left g c =
+    let store = g.S.StoreModel in
+    let before = connection_of c.args.self.now.connection in
+    left_grouped store c.args.register.now.store c.begin_group.new.self.store
+    c.execute_some.new.register.store c.end_group.new.self.store before
+    (connection_of c.execute_some.new.connection) c.end_group.result
+    (subst (BeginsGroup store c.args.register.now.store c.begin_group.new.self.store)
+    (c.in-Ok-true.is ∙ ap Ok c.in-Ok-true.field-0-test) c.begin_group.ensures)
+    c.execute_some.ensures.follows
+    (subst (λ (m : ConnectionModel). GoesOn store c.begin_group.new.self.store
+    c.execute_some.new.register.store m (connection_of c.execute_some.new.connection))
+    c.in-Ok.ensures c.execute_some.ensures.goes_on)
+    (subst (λ (m : ConnectionModel). LeavesFirstOf store c.begin_group.new.self.store
+    c.execute_some.new.register.store m) c.in-Ok.ensures c.execute_some.ensures.left)
+    c.end_group.ensures
+
+pub returns-in-Ok-end_group-clause-left : goal.returns-in-Ok-end_group-clause-left
+returns-in-Ok-end_group-clause-left g c =
+    let store = g.S.StoreModel in
+    let before = connection_of c.args.self.now.connection in
+    left_grouped store c.args.register.now.store c.begin_group.new.self.store
+    c.execute_some.new.register.store c.end_group.new.self.store before
+    (connection_of c.execute_some.new.connection) c.end_group.result
+    (subst (BeginsGroup store c.args.register.now.store c.begin_group.new.self.store)
+    (c.in-Ok-true.is ∙ ap Ok c.in-Ok-true.field-0-test) c.begin_group.ensures)
+    c.execute_some.ensures.follows
+    (subst (λ (m : ConnectionModel). GoesOn store c.begin_group.new.self.store
+    c.execute_some.new.register.store m (connection_of c.execute_some.new.connection))
+    c.in-Ok.ensures c.execute_some.ensures.goes_on)
+    (subst (λ (m : ConnectionModel). LeavesFirstOf store c.begin_group.new.self.store
+    c.execute_some.new.register.store m) c.in-Ok.ensures c.execute_some.ensures.left)
+    c.end_group.ensures
