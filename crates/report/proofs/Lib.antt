@@ -1,0 +1,3 @@
+mod Carrying
+mod Counting
+mod Ranging

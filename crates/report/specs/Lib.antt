@@ -1,0 +1,5 @@
+pub mod Counts
+pub mod Carriers
+pub mod Life
+pub mod Figures
+pub mod Page
