@@ -1,13 +1,15 @@
 -- How the program ends.
-use Rattle.std.proofs.Common.{◌≡◌, ℕ, ◌≤◌, List, Option, Result, Ok, Err, arith, inl, inr, refl, subst, sym}
+use Rattle.std.proofs.Common.{◌≡◌, ℕ, ◌≤◌, Bool, true, false, List, Option, Result, Ok, Err, arith, inl, inr, refl, subst, sym}
 use Rattle.std.specs.Borrow.{Bor}
-use Rattle.std.specs.Prelude.{IfErr}
+use Rattle.std.specs.Prelude.{IfErr, OnOk}
+use Rattle.bulk.specs.Noting.{ReportsNoting}
+use Rattle.bulk.specs.declared.fault.BulkFault.{BulkFault}
 use Rattle.settle.specs.Reads.{HasDeviceFailed}
 use Rattle.register.specs.declared.register.OpenFault.TheVariants as opening
 use Rattle.cli.specs.CommandLine.{IsLine}
 use Rattle.cli.specs.declared.parse.CommandLine.{CommandLine}
 use Rattle.cli.specs.declared.parse.Parsed.{Parsed}
-use Rattle.cli.specs.Faults.{IsOfListening, IsOfSubcommand, MayEnd, MayEndAs, MayEndListening}
+use Rattle.cli.specs.Faults.{IsOfListening, IsOfSubcommand, JudgesRows, MayEnd, MayEndAs, MayEndListening, outcome_of_commands}
 use Rattle.cli.specs.declared.parse.ServeLimits.{ServeLimits}
 use Rattle.cli.specs.declared.parse.Subcommand.{Subcommand}
 use Rattle.cli.specs.declared.parse.Subcommand.TheVariants as sub
@@ -75,3 +77,14 @@ module _ (line : CommandLine) (port : ℕ) (connections : Option ℕ) (limits : 
   serving_ends (Err (fault.Windows refused)) may storage = absurd may
   serving_ends (Err (fault.Message refused)) may storage = absurd may
   serving_ends (Err (fault.File refused)) may storage = absurd may
+  serving_ends (Err fault.RowsRefused) may storage = absurd may
+
+-- A run of a file of commands ends as its report says.
+pub rows_judged : (strict noted : Bool) (had has : Option (List ℕ)) (ran : Result ℕ BulkFault)
+    → OnOk ran (ReportsNoting had has noted)
+    → JudgesRows strict had has (outcome_of_commands strict ran noted)
+rows_judged true noted had has (Err refused) reports = tt
+rows_judged false noted had has (Err refused) reports = tt
+rows_judged true true had has (Ok lines) reports = reports
+rows_judged true false had has (Ok lines) reports = reports
+rows_judged false noted had has (Ok lines) reports = tt

@@ -188,7 +188,7 @@ module _ (w : WindowsModel) (unread had mid has : Option (List ℕ)) (unwritten 
 -- ---- in groups of commits
 
 module _ (w : WindowsModel) (trace : IoTrace) (new : Content) where
-  of_groups : (r : Result End FeedFault) → FeedsTo r 0 (first_state w) new trace
+  of_groups : (r : Result End FeedFault) → FeedsTo r 0 0 (first_state w) new trace
       → FeedsInGroups w trace (outcome_of_groups r)
   of_groups (Ok Input) feeds = inl (new, feeds)
   of_groups (Ok Closed) feeds = inr (new, feeds)
@@ -199,13 +199,14 @@ module _ (w : WindowsModel) (trace : IoTrace) (new : Content) where
 
 -- The device has never failed.
 pub fed_at_zero : (w : WindowsModel) (unread had has all : Option (List ℕ))
-    (r : Result End FeedFault) (result : Result (Unit {0}) Fault) (new : Content) (from : ℕ)
-    → from ≡ 0 → result ≡ outcome_of_groups r
-    → IfSome all (λ input. FeedsTo r from (first_state w) new (io_of_feed input unread had has))
+    (r : Result End FeedFault) (result : Result (Unit {0}) Fault) (new : Content) (from to : ℕ)
+    → from ≡ 0 → to ≡ 0 → result ≡ outcome_of_groups r
+    → IfSome all (λ input. FeedsTo r from to (first_state w) new (io_of_feed input unread had has))
     → IfSome all (λ input. FeedsInGroups w (io_of_feed input unread had has) result)
-fed_at_zero w unread had has None r result new from none is feeds = tt
-fed_at_zero w unread had has (Some input) r result new from none is feeds =
+fed_at_zero w unread had has None r result new from to before after is feeds = tt
+fed_at_zero w unread had has (Some input) r result new from to before after is feeds =
     subst (FeedsInGroups w (io_of_feed input unread had has)) (sym is)
     (of_groups w (io_of_feed input unread had has) new r
-    (subst (λ (n : ℕ). FeedsTo r n (first_state w) new (io_of_feed input unread had has)) none
-    feeds))
+    (subst (λ (n : ℕ). FeedsTo r 0 n (first_state w) new (io_of_feed input unread had has)) after
+    (subst (λ (n : ℕ). FeedsTo r n to (first_state w) new (io_of_feed input unread had has)) before
+    feeds)))

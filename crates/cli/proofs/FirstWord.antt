@@ -88,6 +88,21 @@ unfolding clap_on_literals
 windows_named present =
     record { met = refl; reads = λ after rows e. ap (option_map (λ (p : Pair). p.1)) e }
 
+check_named : (present : Bool) → IsNamed present (codes "check")
+unfolding clap_on_literals
+check_named present =
+    record { met = refl; reads = λ after rows e. ap (option_map (λ (p : Pair). p.1)) e }
+
+backup_named : (present : Bool) → IsNamed present (codes "backup")
+unfolding clap_on_literals
+backup_named present =
+    record { met = refl; reads = λ after rows e. ap (option_map (λ (p : Pair). p.1)) e }
+
+report_named : (present : Bool) → IsNamed present (codes "report")
+unfolding clap_on_literals
+report_named present =
+    record { met = refl; reads = λ after rows e. ap (option_map (λ (p : Pair). p.1)) e }
+
 at_name : (present : Bool) (program literal name : Text) (after : List Text) (rows : List Row)
     → IsNamed present literal
     → name ≡ literal
@@ -121,8 +136,8 @@ rows_are_named present program name after told rows sub.Feed h found =
 rows_are_named present program name after told rows
     (sub.Serve port connections limits log) h found =
     at_name present program (codes "serve") name after rows (serve_named present) h.0 found
-rows_are_named present program name after told rows sub.Bulk h found =
-    at_name present program (codes "bulk") name after rows (bulk_named present) h found
+rows_are_named present program name after told rows (sub.Bulk strict) h found =
+    at_name present program (codes "bulk") name after rows (bulk_named present) h.0 found
 rows_are_named present program name after told rows sub.Export h found =
     at_name present program (codes "export") name after rows (export_named present) h found
 rows_are_named present program name after told rows (sub.Audit spid) h found =
@@ -134,8 +149,14 @@ pub rows_are_parsed : (present : Bool) (program name : Text) (after : List Text)
     (p : Parsed) → IsParsedOf present name told p
     → subcommand_of (npacd_app present) (program ∷ name ∷ after) ≡ Some (name, rows)
     → rows_named present name after ≡ Some rows
-rows_are_parsed present program name after told rows (parsed.Windows db) h found =
+rows_are_parsed present program name after told rows (parsed.Windows line) h found =
     at_name present program (codes "windows") name after rows (windows_named present) h.0 found
+rows_are_parsed present program name after told rows (parsed.Check line) h found =
+    at_name present program (codes "check") name after rows (check_named present) h.0 found
+rows_are_parsed present program name after told rows (parsed.Backup line to) h found =
+    at_name present program (codes "backup") name after rows (backup_named present) h.0 found
+rows_are_parsed present program name after told rows (parsed.Report line to number) h found =
+    at_name present program (codes "report") name after rows (report_named present) h.0 found
 rows_are_parsed present program name after told rows (parsed.Line line) h found =
     rows_are_named present program name after told rows line.subcommand h.subcommand found
 

@@ -17,7 +17,8 @@ serve_only : (rows : List Row)
     → IsSubcommand (codes "serve") rows (sub.Serve port connections limits log) → ⊥)
     → (s : Subcommand) → IsSubcommand (codes "serve") rows s → ⊥
 serve_only rows none sub.Feed h = let e : 115 ≡ 102 = first_same h in absurd (omega (arith, e))
-serve_only rows none sub.Bulk h = let e : 115 ≡ 98 = first_same h in absurd (omega (arith, e))
+serve_only rows none (sub.Bulk strict) h = let e : 115 ≡ 98 = first_same h.0 in
+    absurd (omega (arith, e))
 serve_only rows none sub.Export h = let e : 115 ≡ 101 = first_same h in absurd (omega (arith, e))
 serve_only rows none (sub.Audit spid) h = let e : 115 ≡ 97 = first_same h.0 in
     absurd (omega (arith, e))
@@ -26,10 +27,20 @@ serve_only rows none (sub.Serve port connections limits log) h = none port conne
 -- No subcommand over a register has the name `windows`.
 pub no_windows : (rows : List Row) (s : Subcommand) → IsSubcommand (codes "windows") rows s → ⊥
 no_windows rows sub.Feed h = let e : 119 ≡ 102 = first_same h in absurd (omega (arith, e))
-no_windows rows sub.Bulk h = let e : 119 ≡ 98 = first_same h in absurd (omega (arith, e))
+no_windows rows (sub.Bulk strict) h = let e : 119 ≡ 98 = first_same h.0 in
+    absurd (omega (arith, e))
 no_windows rows sub.Export h = let e : 119 ≡ 101 = first_same h in absurd (omega (arith, e))
 no_windows rows (sub.Audit spid) h = let e : 119 ≡ 97 = first_same h.0 in absurd (omega (arith, e))
 no_windows rows (sub.Serve port connections limits log) h = let e : 119 ≡ 115 = first_same h.0 in
+    absurd (omega (arith, e))
+
+-- No subcommand over a register has the name `check`.
+pub no_check : (rows : List Row) (s : Subcommand) → IsSubcommand (codes "check") rows s → ⊥
+no_check rows sub.Feed h = let e : 99 ≡ 102 = first_same h in absurd (omega (arith, e))
+no_check rows (sub.Bulk strict) h = let e : 99 ≡ 98 = first_same h.0 in absurd (omega (arith, e))
+no_check rows sub.Export h = let e : 99 ≡ 101 = first_same h in absurd (omega (arith, e))
+no_check rows (sub.Audit spid) h = let e : 99 ≡ 97 = first_same h.0 in absurd (omega (arith, e))
+no_check rows (sub.Serve port connections limits log) h = let e : 99 ≡ 115 = first_same h.0 in
     absurd (omega (arith, e))
 
 pub no_connections : (rows : List Row) → IsNoNumber (codes "connections") rows

@@ -3,8 +3,11 @@ use Rattle.std.specs.Prelude.{◌≡◌, ℕ, nat_lt, Bool, true, false, not, Li
 use Rattle.clap.specs.declared.builder.action.ArgAction.TheVariants.{SetTrue}
 use Rattle.clap.specs.declared.builder.value_parser.ValueParser.TheVariants.{Unsigned}
 use Rattle.std.specs.List.{list_any}
+use Rattle.std.specs.Option.{option_map_or}
 use Rattle.std.specs.Str.{bytes_eq}
 use Rattle.http_messages.specs.Fields.{number_of}
+use Rattle.numbers.specs.Texts.{tn_text}
+use Rattle.numbers.specs.declared.tn.Tn.{Tn}
 use Rattle.clap.specs.Walk.{answers_to, rows_after}
 use Rattle.clap.specs.Simple.{built, label_of}
 use Rattle.clap.specs.Faults.{fault_of}
@@ -13,6 +16,7 @@ use Rattle.cli.specs.declared.parse.ServeLimits.{ServeLimits}
 use Rattle.cli.specs.declared.parse.Subcommand.{Subcommand}
 use Rattle.cli.specs.declared.parse.Subcommand.TheVariants as sub
 use Rattle.cli.specs.declared.parse.CommandLine.{CommandLine}
+use Rattle.cli.specs.declared.parse.FileLine.{FileLine}
 use Rattle.cli.specs.declared.parse.Parsed.{Parsed}
 use Rattle.cli.specs.declared.parse.Parsed.TheVariants as parsed
 use Rattle.cli.specs.declared.parse.WindowsSource.{WindowsSource}
@@ -40,10 +44,15 @@ abbrev pub with_sources : (present : Bool) → App → App
 with_sources present a = with_rule (with_rule a (option_rule (codes "windows") (not present)))
     (flag_rule (codes "present-windows"))
 
+-- `a` with the options of a database, which is required or not.
+abbrev pub with_database : (required : Bool) → App → App
+with_database required a = with_rule (with_rule (with_rule a (option_rule (codes "db") required))
+    (flag_rule (codes "existing"))) (option_rule (codes "explain") false)
+
 -- A subcommand with the options that each subcommand over a register has.
 abbrev pub plain_app : (present : Bool) → Text → App
-plain_app present name = with_rule (with_rule (with_sources present (new_app name))
-    (option_rule (codes "feed") false)) (option_rule (codes "db") present)
+plain_app present name = with_database present (with_rule (with_sources present (new_app name))
+    (option_rule (codes "feed") false))
 
 -- `a` with the options that limit connections, and how many messages share a commit.
 abbrev pub with_limits : App → App
@@ -65,8 +74,19 @@ abbrev pub audit_app : (present : Bool) → App
 audit_app present =
     with_rule (plain_app present (codes "audit")) (option_rule (codes "spid") true)
 
-abbrev pub windows_app : App
-windows_app = with_rule (new_app (codes "windows")) (option_rule (codes "db") true)
+abbrev pub bulk_app : (present : Bool) → App
+bulk_app present = with_rule (plain_app present (codes "bulk")) (flag_rule (codes "strict"))
+
+-- A subcommand over an existing database, which opens no register.
+abbrev pub file_app : Text → App
+file_app name = with_database true (new_app name)
+
+-- Such a subcommand that writes a file too.
+abbrev pub writing_app : Text → App
+writing_app name = with_rule (file_app name) (option_rule (codes "to") true)
+
+abbrev pub report_app : App
+report_app = with_rule (writing_app (codes "report")) (option_rule (codes "number") false)
 
 abbrev pub with_wanted_subcommand : App → App
 with_wanted_subcommand a = record a { top = record a.top { subcommand_required = true } }
@@ -83,14 +103,24 @@ with_serving present a =
 -- `a` with the subcommands that read and write files added.
 abbrev pub with_files : (present : Bool) → App → App
 with_files present a =
-    with_subcommand (with_subcommand (with_subcommand a (plain_app present (codes "bulk")).top)
+    with_subcommand (with_subcommand (with_subcommand a (bulk_app present).top)
     (plain_app present (codes "export")).top) (audit_app present).top
+
+-- `a` with the subcommands that open no register added.
+abbrev pub with_inspection : App → App
+with_inspection a = with_subcommand (with_subcommand (with_subcommand (with_subcommand a
+    (file_app (codes "windows")).top) (file_app (codes "check")).top)
+    (writing_app (codes "backup")).top) report_app.top
 
 -- The whole command. `present` says whether `--present-windows` is given.
 abbrev pub npacd_app : (present : Bool) → App
 npacd_app present =
-    with_subcommand (with_files present (with_serving present (with_wanted_subcommand
-    (with_version (new_app (codes "npacd")))))) windows_app.top
+    with_inspection (with_files present (with_serving present (with_wanted_subcommand
+    (with_version (new_app (codes "npacd"))))))
+
+-- Whether a flag is given.
+abbrev pub has_flag : Text → List Row → Bool
+has_flag id rows = option_map_or (λ text. bytes_eq text (codes "true")) (first_of id rows) false
 
 -- A number, if it is below 2^16.
 abbrev pub small_number : Option ℕ → Option ℕ
@@ -130,7 +160,8 @@ AreNoLimits rows = (limits : ServeLimits) → ¬ (AreLimits rows limits)
 -- Holds if the name and the rows are this subcommand's.
 abbrev pub IsSubcommand : Text → List Row → Subcommand → Type 0
 IsSubcommand name rows sub.Feed = name ≡ codes "feed"
-IsSubcommand name rows sub.Bulk = name ≡ codes "bulk"
+IsSubcommand name rows (sub.Bulk strict) =
+    (name ≡ codes "bulk") × (strict ≡ has_flag (codes "strict") rows)
 IsSubcommand name rows sub.Export = name ≡ codes "export"
 IsSubcommand name rows (sub.Audit spid) =
     (name ≡ codes "audit") × (first_of (codes "spid") rows ≡ Some spid.now)
@@ -160,14 +191,38 @@ pub record IsLineOf (present : Bool) (name : Text) (rows : List Row)
   pub windows : AreWindowsIn present rows line.windows
   pub feed : first_of (codes "feed") rows ≡ option_map (λ s. s.now) line.feed
   pub db : first_of (codes "db") rows ≡ option_map (λ s. s.now) line.db
+  pub existing : line.existing ≡ has_flag (codes "existing") rows
+  pub explain : first_of (codes "explain") rows ≡ option_map (λ s. s.now) line.explain
 
 abbrev pub IsNoLineOf : (present : Bool) → Text → List Row → Type 0
 IsNoLineOf present name rows = (line : CommandLine) → ¬ (IsLineOf present name rows line)
 
+-- Holds if the rows name this database, and say where a fault is explained.
+pub record IsOverFile (rows : List Row) (line : FileLine) : Type 0 where
+  pub db : first_of (codes "db") rows ≡ Some line.db.now
+  pub explain : first_of (codes "explain") rows ≡ option_map (λ s. s.now) line.explain
+
+abbrev pub IsOverNoFile : List Row → Type 0
+IsOverNoFile rows = (line : FileLine) → ¬ (IsOverFile rows line)
+
+-- Holds if this is the telephone number of `--number`, or none if the option is not given.
+abbrev pub IsTnIfAny : List Row → Option Tn → Type 0
+IsTnIfAny rows None = first_of (codes "number") rows ≡ None
+IsTnIfAny rows (Some tn) = first_of (codes "number") rows ≡ Some (tn_text tn.number)
+
+abbrev pub IsNoTn : List Row → Type 0
+IsNoTn rows = (number : Option Tn) → ¬ (IsTnIfAny rows number)
+
 -- Holds if the name and the rows ask for this.
 abbrev pub IsParsedOf : (present : Bool) → Text → List Row → Parsed → Type 0
-IsParsedOf present name rows (parsed.Windows db) =
-    (name ≡ codes "windows") × (first_of (codes "db") rows ≡ Some db.now)
+IsParsedOf present name rows (parsed.Windows line) =
+    (name ≡ codes "windows") × IsOverFile rows line
+IsParsedOf present name rows (parsed.Check line) = (name ≡ codes "check") × IsOverFile rows line
+IsParsedOf present name rows (parsed.Backup line to) =
+    (name ≡ codes "backup") × IsOverFile rows line × (first_of (codes "to") rows ≡ Some to.now)
+IsParsedOf present name rows (parsed.Report line to number) =
+    (name ≡ codes "report") × IsOverFile rows line × (first_of (codes "to") rows ≡ Some to.now)
+    × IsTnIfAny rows number
 IsParsedOf present name rows (parsed.Line line) = IsLineOf present name rows line
 
 abbrev pub IsNoParsedOf : (present : Bool) → Text → List Row → Type 0

@@ -1,5 +1,5 @@
 -- The faults of a command line: their names on standard error, and their exit statuses.
-use Rattle.std.specs.Prelude.{◌⊎◌, ℕ, List, codes, ⊤, IsSome}
+use Rattle.std.specs.Prelude.{◌⊎◌, ◌&&◌, ℕ, Bool, true, false, if◌then◌else◌, List, Option, codes, Result, Ok, Err, ⊤, IsSome}
 use Rattle.windows.specs.File.{name_of}
 use Rattle.windows.specs.declared.window.WindowFault.TheVariants as windows
 use Rattle.http_messages.specs.Faults.{message_name}
@@ -7,6 +7,8 @@ use Rattle.register.specs.declared.register.OpenFault.TheVariants as opening
 use Rattle.sql_store.specs.declared.file_fault.FileFault.{FileFault}
 use Rattle.sql_store.specs.declared.file_fault.FileFault.TheVariants as file
 use Rattle.bulk.specs.Faults.{kind_name}
+use Rattle.bulk.specs.Noting.{ReportsNoting}
+use Rattle.bulk.specs.declared.fault.BulkFault.{BulkFault}
 use Rattle.bulk.specs.declared.fault.FaultKind.TheVariants as kind
 use Rattle.cli.specs.declared.fault.Fault.{Fault}
 use Rattle.cli.specs.declared.fault.Fault.TheVariants as fault
@@ -25,6 +27,7 @@ fault_name (fault.Open opening.Storage) = codes "storage"
 fault_name (fault.Open opening.NoMemory) = codes "no_memory"
 fault_name (fault.Message refused) = message_name refused
 fault_name (fault.File refused) = kind_name refused
+fault_name fault.RowsRefused = codes "rows_refused"
 fault_name fault.Listen = codes "listen"
 fault_name fault.Read = codes "read"
 fault_name fault.Write = codes "write"
@@ -42,6 +45,7 @@ exit_status (fault.Open opening.WindowsDiffer) = 1
 exit_status (fault.Open opening.Storage) = 3
 exit_status (fault.Open opening.NoMemory) = 3
 exit_status (fault.Message refused) = 1
+exit_status fault.RowsRefused = 1
 exit_status (fault.File kind.BadHeader) = 1
 exit_status (fault.File kind.BadFile) = 1
 exit_status (fault.File kind.UnknownCarrier) = 1
@@ -101,6 +105,11 @@ abbrev pub IsOfFile : Fault → Type 0
 IsOfFile (fault.File refused) = ⊤
 IsOfFile other = ⊥
 
+-- Holds for the faults of a file of commands. A refused row is one only if `strict`.
+abbrev pub IsOfCommands : (strict : Bool) → Fault → Type 0
+IsOfCommands true fault.RowsRefused = ⊤
+IsOfCommands strict other = IsOfFile other
+
 -- Holds for the faults of listening to a port.
 abbrev pub IsOfListening : Fault → Type 0
 IsOfListening fault.Listen = ⊤
@@ -114,18 +123,30 @@ abbrev pub MayEndListening : Fault → Type 0
 MayEndListening (fault.Open opening.Storage) = ⊤
 MayEndListening other = IsOfListening other
 
--- Holds for the faults of writing the present windows of a file.
+-- Holds for the faults of writing the present windows of a file, or a page about it.
 abbrev pub IsOfShowing : Fault → Type 0
 IsOfShowing (fault.Open refused) = ⊤
 IsOfShowing fault.Write = ⊤
 IsOfShowing fault.NoMemory = ⊤
 IsOfShowing other = ⊥
 
+-- Holds for the faults of copying a file.
+abbrev pub IsOfCopying : Fault → Type 0
+IsOfCopying fault.Read = ⊤
+IsOfCopying fault.Write = ⊤
+IsOfCopying fault.NoMemory = ⊤
+IsOfCopying other = ⊥
+
+-- Holds for the faults of copying a register.
+abbrev pub IsOfBackup : Fault → Type 0
+IsOfBackup (fault.Open refused) = ⊤
+IsOfBackup other = IsOfCopying other
+
 -- Holds for the faults of a subcommand over an open register.
 abbrev pub IsOfSubcommand : Subcommand → Fault → Type 0
 IsOfSubcommand sub.Feed refused = IsOfServing refused
 IsOfSubcommand (sub.Serve port connections limits log) refused = IsOfListening refused
-IsOfSubcommand sub.Bulk refused = IsOfFile refused
+IsOfSubcommand (sub.Bulk strict) refused = IsOfCommands strict refused
 IsOfSubcommand sub.Export refused = IsOfFile refused
 IsOfSubcommand (sub.Audit spid) refused = IsOfFile refused
 
@@ -158,5 +179,23 @@ MayEndOverFile line other = MayEnd line other
 
 -- Holds if executing what the words ask for may end with this fault.
 abbrev pub MayEndAs : Parsed → Fault → Type 0
-MayEndAs (parsed.Windows db) refused = IsOfShowing refused
+MayEndAs (parsed.Windows line) refused = IsOfShowing refused
+MayEndAs (parsed.Check line) refused = IsOfShowing refused
+MayEndAs (parsed.Backup line to) refused = IsOfBackup refused
+MayEndAs (parsed.Report line to number) refused = IsOfShowing refused
 MayEndAs (parsed.Line line) refused = MayEnd line refused
+
+-- The outcome of a run of a file of commands. A refused row is a fault if `strict`.
+abbrev pub outcome_of_commands : (strict : Bool) → Result ℕ BulkFault → (has_refusal : Bool)
+    → Result (Unit {0}) Fault
+outcome_of_commands strict (Err refused) has_refusal = Err (fault.File refused.kind)
+outcome_of_commands strict (Ok lines) has_refusal =
+    if strict && has_refusal then Err fault.RowsRefused else Ok tt
+
+-- Holds if a run of a file of commands ended as its report says: without a fault only if no row was
+-- refused, when `strict`, and for a refused row only if one was.
+abbrev pub JudgesRows : (strict : Bool) → (had has : Option (List ℕ)) → Result (Unit {0}) Fault
+    → Type 0
+JudgesRows true had has (Ok done) = ReportsNoting had has false
+JudgesRows strict had has (Err fault.RowsRefused) = ReportsNoting had has true
+JudgesRows strict had has other = ⊤

@@ -61,6 +61,7 @@ Feeds w trace unwritten (Err (fault.Open opening.Storage)) = ⊥
 Feeds w trace unwritten (Err (fault.Open opening.WindowsDiffer)) = ⊥
 Feeds w trace unwritten (Err (fault.Windows refused)) = ⊥
 Feeds w trace unwritten (Err (fault.File refused)) = ⊥
+Feeds w trace unwritten (Err fault.RowsRefused) = ⊥
 Feeds w trace unwritten (Err fault.Listen) = ⊥
 
 -- The program's outcome when serving ends so.
@@ -79,7 +80,7 @@ outcome_of (Err (serving.Memory k)) = Err fault.NoMemory
 
 -- Holds if feeding in groups of commits ended so, with some content.
 abbrev pub FedInGroups : Windows → IoTrace → Result End FeedFault → Type 0
-FedInGroups w trace ended = (new : Content) × FeedsTo ended 0 (first_state w) new trace
+FedInGroups w trace ended = (new : Content) × FeedsTo ended 0 0 (first_state w) new trace
 
 -- Holds if the input was fed in groups of commits to a new register of these windows, with this
 -- result. If a write failed, what was written is a prefix of what answers the messages that had
@@ -96,6 +97,7 @@ FeedsInGroups w trace (Err (fault.Open opening.Storage)) = ⊥
 FeedsInGroups w trace (Err (fault.Open opening.WindowsDiffer)) = ⊥
 FeedsInGroups w trace (Err (fault.Windows refused)) = ⊥
 FeedsInGroups w trace (Err (fault.File refused)) = ⊥
+FeedsInGroups w trace (Err fault.RowsRefused) = ⊥
 FeedsInGroups w trace (Err fault.Listen) = ⊥
 
 abbrev pub outcome_of_groups : Result End FeedFault → Result (Unit {0}) Fault

@@ -1,5 +1,7 @@
+pub mod Checking
 pub mod CommandLine
 pub mod Feeding
+pub mod Explaining
 pub mod Faults
 pub mod Listening
 pub mod Reporting

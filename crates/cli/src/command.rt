@@ -2,7 +2,7 @@
 ghost use Rattle.std.specs.Prelude.{◌≡◌, IfOk, codes, false};
 ghost use Rattle.clap.specs.Words.{app_of, rule_of, new_app, with_rule, with_subcommand};
 ghost use Rattle.clap.specs.declared.builder.command.Command.TheViews.{out-Command};
-ghost use Rattle.cli.specs.CommandLine.{audit_app, flag_rule, number_rule, option_rule, plain_app, serve_app, npacd_app, with_files, with_limits, with_serving, with_sources, with_version, with_wanted_subcommand, windows_app};
+ghost use Rattle.cli.specs.CommandLine.{audit_app, bulk_app, file_app, flag_rule, number_rule, option_rule, plain_app, report_app, serve_app, npacd_app, with_database, with_files, with_inspection, with_limits, with_serving, with_sources, with_version, with_wanted_subcommand, writing_app};
 
 use clap::builder::ValueParser;
 use clap::{Arg, ArgAction, Command};
@@ -106,6 +106,24 @@ fn with_sources<'a>(
     with_flag(alloc, command, "present-windows", help)
 }
 
+// Adds the options of a database, which is `required` or not. `help` is the help of `--db`.
+fn with_database<'a>(
+    alloc: Global,
+    command: Command<'a>,
+    required: bool,
+    help: &'a str,
+) -> Result<Command<'a>, AllocError>
+    requires { (out-Command command).has_globals ≡ false }
+    ensures { IfOk result (λ c. (app_of c ≡ with_database required (app_of command.entry))
+        × ((out-Command c).has_globals ≡ false)) }
+{
+    let command = with_option(alloc, command, "db", "FILE", help, required)?;
+    let help = "Refuse a database that does not exist";
+    let command = with_flag(alloc, command, "existing", help)?;
+    let help = "Append a line that explains a fault; - is standard error";
+    with_option(alloc, command, "explain", "FILE", help, false)
+}
+
 // Creates a subcommand with the options that each subcommand over a register has.
 fn plain<'a>(
     alloc: Global,
@@ -118,22 +136,10 @@ fn plain<'a>(
 {
     let command = Command::new(alloc, name).about(about);
     let command = with_sources(alloc, command, present)?;
-    let command = with_option(
-        alloc,
-        command,
-        "feed",
-        "FILE",
-        "HTTP messages that are served first, their answers dropped",
-        false,
-    )?;
-    with_option(
-        alloc,
-        command,
-        "db",
-        "FILE",
-        "The database of the register, in place of memory",
-        present,
-    )
+    let help = "HTTP messages that are served first, their answers dropped";
+    let command = with_option(alloc, command, "feed", "FILE", help, false)?;
+    let help = "The database of the register, in place of memory";
+    with_database(alloc, command, present, help)
 }
 
 // Adds an option with a whole number from 1 to `most` to a command.
@@ -213,15 +219,54 @@ fn audit<'a>(alloc: Global, present: bool) -> Result<Command<'a>, AllocError>
     command.arg(spid)
 }
 
-// Creates the subcommand that writes the present windows of a file.
-fn windows<'a>(alloc: Global) -> Result<Command<'a>, AllocError>
-    ensures { IfOk result (λ c. (app_of c ≡ windows_app) × ((out-Command c).has_globals ≡ false)) }
+// Creates the subcommand that runs a file of commands.
+fn bulk<'a>(alloc: Global, present: bool) -> Result<Command<'a>, AllocError>
+    ensures { IfOk result
+        (λ c. (app_of c ≡ bulk_app present) × ((out-Command c).has_globals ≡ false)) }
 {
-    let command = Command::new(alloc, "windows").about(
-        "Write the present windows of a database, as a windows file",
-    );
+    let command = plain(
+        alloc,
+        present,
+        "bulk",
+        "Run a bulk file, and write its report",
+    )?;
+    let help = "End with status 1 if a row is refused";
+    with_flag(alloc, command, "strict", help)
+}
+
+// Creates a subcommand over an existing database, which opens no register.
+fn over_file<'a>(alloc: Global, name: &'a str, about: &'a str) -> Result<Command<'a>, AllocError>
+    ensures { IfOk result
+        (λ c. (app_of c ≡ file_app name.entry.now) × ((out-Command c).has_globals ≡ false)) }
+{
+    let command = Command::new(alloc, name).about(about);
     let help = "The database of the register, which exists";
-    with_option(alloc, command, "db", "FILE", help, true)
+    with_database(alloc, command, true, help)
+}
+
+// Creates a subcommand over an existing database that writes a file too. `help` is the help of `--to`.
+fn writing<'a>(
+    alloc: Global,
+    name: &'a str,
+    about: &'a str,
+    help: &'a str,
+) -> Result<Command<'a>, AllocError>
+    ensures { IfOk result
+        (λ c. (app_of c ≡ writing_app name.entry.now) × ((out-Command c).has_globals ≡ false)) }
+{
+    let command = over_file(alloc, name, about)?;
+    with_option(alloc, command, "to", "FILE", help, true)
+}
+
+// Creates the subcommand that writes a page about a file.
+fn report<'a>(alloc: Global) -> Result<Command<'a>, AllocError>
+    ensures { IfOk result (λ c. (app_of c ≡ report_app) × ((out-Command c).has_globals ≡ false)) }
+{
+    let about = "Write a page about a database: what is stuck, and what ends soon";
+    let help = "The page, which replaces the file";
+    let command = writing(alloc, "report", about, help)?;
+    let help = "Show the life of this number too";
+    with_option(alloc, command, "number", "TN", help, false)
 }
 
 fn with<'a>(command: Command<'a>, part: Command<'a>) -> Result<Command<'a>, AllocError>
@@ -278,11 +323,58 @@ fn with_audit<'a>(
     with(command, part)
 }
 
-fn with_windows<'a>(alloc: Global, command: Command<'a>) -> Result<Command<'a>, AllocError>
-    ensures { IfOk result (λ c. app_of c ≡ with_subcommand (app_of command.entry) windows_app.top) }
+fn with_bulk<'a>(
+    alloc: Global,
+    command: Command<'a>,
+    present: bool,
+) -> Result<Command<'a>, AllocError>
+    ensures { IfOk result (λ c.
+        app_of c ≡ with_subcommand (app_of command.entry) (bulk_app present).top) }
 {
-    let part = windows(alloc)?;
+    let part = bulk(alloc, present)?;
     with(command, part)
+}
+
+fn with_over_file<'a>(
+    alloc: Global,
+    command: Command<'a>,
+    name: &'a str,
+    about: &'a str,
+) -> Result<Command<'a>, AllocError>
+    ensures { IfOk result (λ c.
+        app_of c ≡ with_subcommand (app_of command.entry) (file_app name.entry.now).top) }
+{
+    let part = over_file(alloc, name, about)?;
+    with(command, part)
+}
+
+fn with_backup<'a>(alloc: Global, command: Command<'a>) -> Result<Command<'a>, AllocError>
+    ensures { IfOk result (λ c. app_of c
+        ≡ with_subcommand (app_of command.entry) (writing_app (codes "backup")).top) }
+{
+    let about = "Copy a database, also while a program has it open";
+    let help = "The copy, which does not exist yet";
+    let part = writing(alloc, "backup", about, help)?;
+    with(command, part)
+}
+
+fn with_report<'a>(alloc: Global, command: Command<'a>) -> Result<Command<'a>, AllocError>
+    ensures { IfOk result (λ c. app_of c ≡ with_subcommand (app_of command.entry) report_app.top) }
+{
+    let part = report(alloc)?;
+    with(command, part)
+}
+
+// Adds the subcommands that open no register.
+fn with_inspection<'a>(alloc: Global, command: Command<'a>) -> Result<Command<'a>, AllocError>
+    ensures { IfOk result (λ c. app_of c ≡ with_inspection (app_of command.entry)) }
+{
+    let about = "Write the present windows of a database, as a windows file";
+    let command = with_over_file(alloc, command, "windows", about)?;
+    let about = "Say what a database holds, or why it is refused";
+    let command = with_over_file(alloc, command, "check", about)?;
+    let command = with_backup(alloc, command)?;
+    with_report(alloc, command)
 }
 
 // Adds the subcommands that serve messages.
@@ -311,13 +403,7 @@ fn with_files<'a>(
 ) -> Result<Command<'a>, AllocError>
     ensures { IfOk result (λ c. app_of c ≡ with_files present (app_of command.entry)) }
 {
-    let command = with_plain(
-        alloc,
-        command,
-        present,
-        "bulk",
-        "Run a bulk file, and write its report",
-    )?;
+    let command = with_bulk(alloc, command, present)?;
     let help = "Write everything in force";
     let command = with_plain(alloc, command, present, "export", help)?;
     with_audit(alloc, command, present)
@@ -330,5 +416,5 @@ pub fn npacd<'a>(alloc: Global, present: bool) -> Result<Command<'a>, AllocError
 {
     let command = with_serving(alloc, top(alloc), present)?;
     let command = with_files(alloc, command, present)?;
-    with_windows(alloc, command)
+    with_inspection(alloc, command)
 }

@@ -18,6 +18,8 @@ pub enum Fault {
     Message(MessageFault),
     /// A file of a subcommand could not be read or written to its end.
     File(FaultKind),
+    /// A row of a file of commands was refused.
+    RowsRefused,
     /// The port could not be opened.
     Listen,
     /// A read failed.
@@ -40,6 +42,7 @@ impl Fault {
             Fault::Open(OpenFault::NoMemory) | Fault::NoMemory => "no_memory",
             Fault::Message(fault) => fault.name(),
             Fault::File(kind) => kind.name(),
+            Fault::RowsRefused => "rows_refused",
             Fault::Listen => "listen",
             Fault::Read => "read",
             Fault::Write => "write",
@@ -63,6 +66,7 @@ impl Fault {
             Fault::Windows(_)
             | Fault::Open(OpenFault::WindowsDiffer)
             | Fault::Message(_)
+            | Fault::RowsRefused
             | Fault::File(FaultKind::BadHeader | FaultKind::BadFile | FaultKind::UnknownCarrier) =>
                 1,
         }

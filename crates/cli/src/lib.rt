@@ -4,7 +4,10 @@
 #![tactic(auto)]
 
 mod arguments;
+mod checking;
 mod command;
+mod copying;
+mod explaining;
 mod fault;
 mod listening;
 mod options;
@@ -13,6 +16,7 @@ mod reporting;
 mod running;
 mod showing;
 mod windows_text;
+mod writing_page;
 
 pub use arguments::words_of;
 pub use fault::Fault;

@@ -2,11 +2,12 @@
 ghost use Rattle.std.specs.Prelude.{◌≡◌, IfErr, IfOk, option_map, codes};
 ghost use Rattle.http_messages.specs.Fields.{number_of as number_in};
 ghost use Rattle.clap.specs.Words.{first_of, rows_of, found_of};
-ghost use Rattle.cli.specs.CommandLine.{AreLimits, AreNoLimits, AreNoWindows, AreWindowsIn, IsLineOf, IsNoLineOf, IsNoNumber, IsNoParsedOf, IsNoSubcommand, IsNumberIfAny, IsNumberOr, IsParsedOf, IsSubcommand, number_under, small_number};
+ghost use Rattle.cli.specs.CommandLine.{AreLimits, AreNoLimits, AreNoWindows, AreWindowsIn, IsLineOf, IsOverFile, IsOverNoFile, IsNoLineOf, IsNoNumber, IsNoParsedOf, IsNoSubcommand, IsNoTn, IsTnIfAny, IsNumberIfAny, IsNumberOr, IsParsedOf, IsSubcommand, has_flag, number_under, small_number};
 
-use crate::parse::{CommandLine, Parsed, ServeLimits, Subcommand, WindowsSource};
+use crate::parse::{CommandLine, FileLine, Parsed, ServeLimits, Subcommand, WindowsSource};
 use clap::ArgMatches;
 use http_messages::read_number;
+use numbers::Tn;
 
 // How many connections are served at once, unless the command line says it.
 const AT_ONCE: u16 = 128;
@@ -31,6 +32,16 @@ fn text_of<'a>(matches: &ArgMatches<'a>, id: &str) -> Option<&'a str>
     ensures { option_map (λ s. s.now) result ≡ first_of id.now (rows_of (found_of matches.now)) }
 {
     matches.get_str(id)
+}
+
+// Returns whether a flag is given.
+fn has_flag(matches: &ArgMatches<'_>, id: &str) -> bool
+    ensures { result ≡ has_flag id.now (rows_of (found_of matches.now)) }
+{
+    match text_of(matches, id) {
+        Some(text) => text == "true",
+        None => false,
+    }
 }
 
 // Returns the number below 2^16 that a text has in digits, if it is one.
@@ -125,7 +136,8 @@ fn subcommand_of<'a>(name: &str, matches: &ArgMatches<'a>) -> Result<Subcommand<
         return Ok(Subcommand::Feed);
     }
     if name == "bulk" {
-        return Ok(Subcommand::Bulk);
+        let strict = has_flag(matches, "strict");
+        return Ok(Subcommand::Bulk { strict });
     }
     if name == "export" {
         return Ok(Subcommand::Export);
@@ -173,20 +185,91 @@ fn line_of<'a>(
             windows,
             feed: text_of(matches, "feed"),
             db: text_of(matches, "db"),
+            existing: has_flag(matches, "existing"),
+            explain: text_of(matches, "explain"),
         }),
         Err(_) => Err(NoLine),
     }
 }
 
-// Returns the file of `windows`.
+// Returns the file of a subcommand that opens no register.
+fn over_file<'a>(matches: &ArgMatches<'a>) -> Result<FileLine<'a>, NoLine>
+    ensures given { IfOk result (IsOverFile (rows_of (found_of matches.now))) }
+    ensures none { IfErr result (λ _. IsOverNoFile (rows_of (found_of matches.now))) }
+{
+    match text_of(matches, "db") {
+        Some(db) => Ok(FileLine {
+            db,
+            explain: text_of(matches, "explain"),
+        }),
+        None => Err(NoLine),
+    }
+}
+
+// Returns the line of `windows`.
 fn windows_of<'a>(present: bool, matches: &ArgMatches<'a>) -> Result<Parsed<'a>, NoLine>
     ensures given { IfOk result
         (IsParsedOf present (codes "windows") (rows_of (found_of matches.now))) }
     ensures none { IfErr result (λ _. IsNoParsedOf present (codes "windows")
         (rows_of (found_of matches.now))) }
 {
-    match text_of(matches, "db") {
-        Some(db) => Ok(Parsed::Windows { db }),
+    match over_file(matches) {
+        Ok(line) => Ok(Parsed::Windows(line)),
+        Err(_) => Err(NoLine),
+    }
+}
+
+// Returns the line of `check`.
+fn check_of<'a>(present: bool, matches: &ArgMatches<'a>) -> Result<Parsed<'a>, NoLine>
+    ensures given { IfOk result
+        (IsParsedOf present (codes "check") (rows_of (found_of matches.now))) }
+    ensures none { IfErr result (λ _. IsNoParsedOf present (codes "check")
+        (rows_of (found_of matches.now))) }
+{
+    match over_file(matches) {
+        Ok(line) => Ok(Parsed::Check(line)),
+        Err(_) => Err(NoLine),
+    }
+}
+
+// Returns the telephone number given for `--number`, or `None` if it is not given.
+fn tn_if_any(matches: &ArgMatches<'_>) -> Result<Option<Tn>, NoLine>
+    ensures given { IfOk result (IsTnIfAny (rows_of (found_of matches.now))) }
+    ensures none { IfErr result (λ _. IsNoTn (rows_of (found_of matches.now))) }
+{
+    match text_of(matches, "number") {
+        Some(text) => match Tn::read(text) {
+            Some(tn) => Ok(Some(tn)),
+            None => Err(NoLine),
+        },
+        None => Ok(None),
+    }
+}
+
+// Returns the files and the number of `report`.
+fn report_of<'a>(present: bool, matches: &ArgMatches<'a>) -> Result<Parsed<'a>, NoLine>
+    ensures given { IfOk result
+        (IsParsedOf present (codes "report") (rows_of (found_of matches.now))) }
+    ensures none { IfErr result (λ _. IsNoParsedOf present (codes "report")
+        (rows_of (found_of matches.now))) }
+{
+    let number = tn_if_any(matches)?;
+    match (over_file(matches), text_of(matches, "to")) {
+        (Ok(line), Some(to)) => Ok(Parsed::Report { line, to, number }),
+        _ => Err(NoLine),
+    }
+}
+
+// Returns the line of `backup`.
+fn backup_of<'a>(present: bool, matches: &ArgMatches<'a>) -> Result<Parsed<'a>, NoLine>
+    ensures given { IfOk result
+        (IsParsedOf present (codes "backup") (rows_of (found_of matches.now))) }
+    ensures none { IfErr result (λ _. IsNoParsedOf present (codes "backup")
+        (rows_of (found_of matches.now))) }
+{
+    let line = over_file(matches)?;
+    match text_of(matches, "to") {
+        Some(to) => Ok(Parsed::Backup { line, to }),
         None => Err(NoLine),
     }
 }
@@ -204,6 +287,15 @@ pub fn parsed_of<'a>(
 {
     if name == "windows" {
         return windows_of(present, matches);
+    }
+    if name == "check" {
+        return check_of(present, matches);
+    }
+    if name == "backup" {
+        return backup_of(present, matches);
+    }
+    if name == "report" {
+        return report_of(present, matches);
     }
     match line_of(present, name, matches) {
         Ok(line) => Ok(Parsed::Line(line)),

@@ -11,6 +11,7 @@ use crate::command::npacd;
 use crate::options::parsed_of;
 use clap::Error;
 use clap::error::ErrorKind;
+use numbers::Tn;
 use std::alloc::Global;
 use std::convert::AsStr;
 
@@ -40,7 +41,10 @@ pub enum Subcommand<'a> {
         log: Option<&'a str>,
     },
     /// Runs the bulk file on standard input, and writes its report to standard output.
-    Bulk,
+    Bulk {
+        /// Whether a refused row is a fault.
+        strict: bool,
+    },
     /// Writes everything in force to standard output.
     Export,
     /// Compares the copy on standard input with the register, and writes the findings to standard
@@ -69,15 +73,43 @@ pub struct CommandLine<'a> {
     pub feed: Option<&'a str>,
     /// The path of the database file, or `None` for a register in memory.
     pub db: Option<&'a str>,
+    /// Whether the database file has to exist.
+    pub existing: bool,
+    /// The path of the file to which the explanation of a fault is appended, `-` for standard error,
+    /// or `None` for no explanation.
+    pub explain: Option<&'a str>,
+}
+
+/// A valid command line over an existing file, which opens no register.
+#[derive(Clone, Copy, PartialEq, Eq, Debug)]
+pub struct FileLine<'a> {
+    /// The path of the database file.
+    pub db: &'a str,
+    /// The path of the file to which the explanation of a fault is appended, `-` for standard error,
+    /// or `None` for no explanation.
+    pub explain: Option<&'a str>,
 }
 
 /// What the words of a command line ask for.
 #[derive(Clone, Copy, PartialEq, Eq, Debug)]
 pub enum Parsed<'a> {
     /// Writes the present windows of a database file to standard output.
-    Windows {
-        /// The path of the file.
-        db: &'a str,
+    Windows(FileLine<'a>),
+    /// Writes what a database file holds, or why it is refused, to standard output.
+    Check(FileLine<'a>),
+    /// Copies a database file, also while a program has it open.
+    Backup {
+        line: FileLine<'a>,
+        /// The path of the copy, where nothing is yet.
+        to: &'a str,
+    },
+    /// Writes a page about a database file.
+    Report {
+        line: FileLine<'a>,
+        /// The path of the page.
+        to: &'a str,
+        /// The number whose life is shown, if there is one.
+        number: Option<Tn>,
     },
     /// Executes a subcommand over a register.
     Line(CommandLine<'a>),

@@ -13,23 +13,27 @@ ghost use Rattle.version.specs.Abstraction.{windows_of};
 ghost use Rattle.register.specs.Refinement.{Refines};
 ghost use Rattle.sql_store.specs.Groups.{is_sound};
 ghost use Rattle.cli.specs.Feeding.{Feeds, FeedsInGroups, io_of_feed, outcome_of, outcome_of_groups};
-ghost use Rattle.cli.specs.Faults.{IsOfFeeding, IsOfNewFeeding, IsOfReading, IsOfServing, IsOfShowing, IsOfWindows, MayEnd, MayEndAs, MayEndListening, MayEndOverFile, fault_of_opening};
+ghost use Rattle.cli.specs.Faults.{IsOfCommands, IsOfFeeding, IsOfNewFeeding, IsOfReading, IsOfServing, IsOfShowing, IsOfWindows, JudgesRows, MayEnd, MayEndAs, MayEndListening, MayEndOverFile, fault_of_opening, outcome_of_commands};
 ghost use Rattle.cli.specs.Reporting.{Ends};
 ghost use Rattle.cli.specs.declared.parse.CommandLine.{CommandLine as CommandLineImpl};
 ghost use Rattle.cli.specs.WindowsFile.{DefinesWindows, IsFaultOfBytes};
 
+use crate::checking::check_file;
+use crate::copying::back_up;
+use crate::explaining::explain;
 use crate::fault::Fault;
 use crate::listening::listen;
 use crate::parse::{CommandLine, Parsed, Subcommand, WindowsSource, parse};
 use crate::reporting::{report_outcome, report_usage};
 use crate::showing::{present_set, show_windows};
+use crate::writing_page::write_report;
 use api::{End, NoTicks, Options, Served, serve};
-use bulk::{BulkFault, FaultKind, audit, export, run_file};
+use bulk::{BulkFault, FaultKind, audit, export, run_noting_refusals};
 use connections::{FeedFault, Limits, feed as feed_groups};
 use numbers::Spid;
 use register::{OpenFault, Register};
 use settle::Store;
-use sql_store::{FileFault, SqlStore, StoreAt, UnopenedAt};
+use sql_store::{FileFault, SqlStore, StoreAt, UnopenedAt, find_file};
 use sqlite::{Start, Unknown};
 use std::alloc::Global;
 use std::convert::AsStr;
@@ -340,6 +344,37 @@ fn file_outcome(ran: Result<u64, BulkFault>) -> Result<(), Fault>
     }
 }
 
+// Returns how a run of a file of commands ended. A refused row is a fault if `strict`.
+fn commands_outcome(
+    strict: bool,
+    ran: Result<u64, BulkFault>,
+    has_refusal: bool,
+) -> Result<(), Fault>
+    ensures outcome { result ≡ outcome_of_commands strict ran has_refusal }
+    ensures fault { IfErr result (IsOfCommands strict) }
+{
+    file_outcome(ran)?;
+    if strict && has_refusal {
+        return Err(Fault::RowsRefused);
+    }
+    Ok(())
+}
+
+// Runs a file of commands over a register, and writes its report.
+fn run_commands<S: Store, R: Read, W: Write>(
+    alloc: Global,
+    register: &mut Register<S>,
+    strict: bool,
+    reader: &mut R,
+    writer: &mut W,
+) -> Result<(), Fault>
+    ensures rows { JudgesRows strict (W.contents writer.old) (W.contents writer.new) result }
+    ensures fault { IfErr result (IsOfCommands strict) }
+{
+    let (ran, has_refusal) = run_noting_refusals(alloc, register, reader, writer);
+    commands_outcome(strict, ran, has_refusal)
+}
+
 // Opens the port, and serves its connections. Appends to the file `log`, if there is one, or writes
 // to standard error if it is `-`.
 fn listen_logging<S: Store, W: Write>(
@@ -400,7 +435,7 @@ fn run_on<S: Store, R: Read, W: Write>(
             let limits = Limits::from(limits);
             listen_logging(rt, register, port, connections, limits, log, writer)
         }
-        Subcommand::Bulk => file_outcome(run_file(alloc, register, reader, writer)),
+        Subcommand::Bulk { strict } => run_commands(alloc, register, strict, reader, writer),
         Subcommand::Export => file_outcome(export(alloc, register, writer)),
         Subcommand::Audit { spid } => match Spid::read(spid) {
             Some(carrier) => file_outcome(audit(alloc, register, carrier, reader, writer)),
@@ -432,16 +467,23 @@ fn run_over<S: Store, R: Read, W: Write>(
     }
 }
 
-// Returns the fault for a file that could not be opened, and closes what is open of it.
-pub(crate) fn open_fault(refused: (FileFault, UnopenedAt<Unknown>)) -> Fault
-    ensures { result ≡ fault_of_opening refused.0 }
+// Returns the program's fault for a file that could not be opened.
+pub(crate) fn fault_of_file(fault: FileFault) -> Fault
+    ensures { result ≡ fault_of_opening fault }
 {
-    let (fault, _left) = refused;
     Fault::Open(match fault {
         FileFault::WindowsDiffer => OpenFault::WindowsDiffer,
         FileFault::Storage => OpenFault::Storage,
         FileFault::NoMemory => OpenFault::NoMemory,
     })
+}
+
+// Returns the fault for a file that could not be opened, and closes what is open of it.
+pub(crate) fn open_fault(refused: (FileFault, UnopenedAt<Unknown>)) -> Fault
+    ensures { result ≡ fault_of_opening refused.0 }
+{
+    let (fault, _left) = refused;
+    fault_of_file(fault)
 }
 
 // Opens the file of `--db`, and executes a command line over it. Returns the open store, and how
@@ -480,6 +522,19 @@ pub(crate) fn close(store: StoreAt<Unknown>) -> Result<(), Fault>
     }
 }
 
+// Finds the file of `--db`, if the command line wants it to exist.
+fn find_if_wanted(rt: &HostRuntime, path: &str, line: &CommandLine<'_>) -> Result<(), Fault>
+    ensures { IfErr result (MayEndOverFile line.now) }
+{
+    if !line.existing {
+        return Ok(());
+    }
+    match find_file(rt, path) {
+        Ok(()) => Ok(()),
+        Err(fault) => Err(fault_of_file(fault)),
+    }
+}
+
 // Executes a command line over the file of `--db`, and closes it.
 fn run_at<R: Read, W: Write>(
     rt: &HostRuntime,
@@ -491,6 +546,7 @@ fn run_at<R: Read, W: Write>(
 ) -> Result<(), Fault>
     ensures { IfErr result (MayEndOverFile line.now) }
 {
+    find_if_wanted(rt, path, line)?;
     let (store, outcome) = run_open(rt, path, windows, line, reader, writer)?;
     let closed = close(store);
     outcome?;
@@ -589,7 +645,10 @@ fn run_parsed<R: Read, W: Write>(
     ensures { IfErr result (MayEndAs parsed.now) }
 {
     match parsed {
-        Parsed::Windows { db } => show_windows(rt, db, writer),
+        Parsed::Windows(line) => show_windows(rt, line.db, writer),
+        Parsed::Check(line) => check_file(rt, line.db, writer),
+        Parsed::Backup { line, to } => back_up(rt, line.db, to, writer),
+        Parsed::Report { line, to, number } => write_report(rt, line.db, to, *number),
         Parsed::Line(line) => run_line(rt, line, reader, writer),
     }
 }
@@ -601,7 +660,8 @@ fn run_parsed<R: Read, W: Write>(
 /// - 2 for a mistake in the command line;
 /// - 3 if an allocation, a read or a write failed.
 ///
-/// With 1 and 3, writes `npacd: ` and the fault's name as one line to `errors`, unless that fails.
+/// With 1 and 3, writes `npacd: ` and the fault's name as one line to `errors`, unless that fails,
+/// and then explains the fault where `--explain` says.
 ///
 /// Reads the windows file first, then the file of `--db`, then that of `--feed`, and then executes
 /// the subcommand. Stops at the first fault.
@@ -615,7 +675,12 @@ pub fn run<S: AsStr, R: Read, W: Write, E: Write>(
     ensures { Ends (map S.text words.now) (E.contents errors.old) (E.contents errors.new) result }
 {
     match parse(rt.alloc(), words) {
-        Ok(parsed) => report_outcome(errors, run_parsed(rt, &parsed, reader, writer)),
+        Ok(parsed) => {
+            let outcome = run_parsed(rt, &parsed, reader, writer);
+            let status = report_outcome(errors, outcome);
+            explain(rt, &parsed, outcome);
+            status
+        }
         Err(usage) => report_usage(writer, errors, &usage),
     }
 }

@@ -5,8 +5,9 @@ use Rattle.cli.proofs.running.run.Goals as goal
 
 pub returns-in-Ok : goal.returns-in-Ok
 returns-in-Ok g c =
-    outcome_ends (map g.S.AsStr.text c.args.words.now) _ _ c.report_outcome.result c.in-Ok.parsed
-    c.in-Ok.ensures.line c.run_parsed.result c.run_parsed.ensures c.report_outcome.ensures
+    outcome_ends (map g.S.AsStr.text c.args.words.now) _ _ c.report_outcome-status.result
+    c.in-Ok.parsed c.in-Ok.ensures.line c.run_parsed-outcome.result c.run_parsed-outcome.ensures
+    c.report_outcome-status.ensures
 
 pub returns-in-Err : goal.returns-in-Err
 returns-in-Err g c =
