@@ -50,6 +50,8 @@ mod pool_tests;
 #[cfg(test)]
 mod probing;
 #[cfg(test)]
+mod report_tests;
+#[cfg(test)]
 mod retries;
 #[cfg(test)]
 mod sending;

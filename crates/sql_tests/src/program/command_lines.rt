@@ -43,7 +43,7 @@ const FIRST_AND_CUT: &str = "POST /carriers HTTP/1.1\r\nx-spid: NPAC\r\n\
     x-spid: NPAC\r\ncontent-length: 15\r\n\r\n{\"spid\"";
 
 // Mistakes in the line, found before any file is opened.
-static MISTAKES: [LineCase<'static>; 18] = [
+static MISTAKES: [LineCase<'static>; 24] = [
     ("npacd", "", 2, NO_OUTPUT, None),
     ("npacd listen --windows good.toml", "", 2, NO_OUTPUT, None),
     ("npacd feed", "", 2, NO_OUTPUT, None),
@@ -72,12 +72,30 @@ static MISTAKES: [LineCase<'static>; 18] = [
         Some("error: --windows stands beside --present-windows, or a number is not in digits\n"),
     ),
     ("npacd windows --windows good.toml", "", 2, NO_OUTPUT, None),
+    ("npacd check", "", 2, NO_OUTPUT, None),
+    ("npacd check --windows good.toml", "", 2, NO_OUTPUT, None),
+    (
+        "npacd feed --windows good.toml --strict",
+        FIRST,
+        2,
+        NO_OUTPUT,
+        None,
+    ),
     (
         "npacd windows --db none.db --feed none.http",
         "",
         2,
         NO_OUTPUT,
         None,
+    ),
+    ("npacd backup --db none.db", "", 2, NO_OUTPUT, None),
+    ("npacd report --db none.db", "", 2, NO_OUTPUT, None),
+    (
+        "npacd report --db none.db --to none.html --number 12",
+        "",
+        2,
+        NO_OUTPUT,
+        Some("error: a number is written in digits\n"),
     ),
     (
         "npacd serve --windows none.toml --port 0",
@@ -130,10 +148,13 @@ static MISTAKES: [LineCase<'static>; 18] = [
     ),
 ];
 
-static HELP: [LineCase<'static>; 4] = [
+static HELP: [LineCase<'static>; 7] = [
     ("npacd --help", FIRST, 0, None, NO_OUTPUT),
     ("npacd serve --help", FIRST, 0, None, NO_OUTPUT),
     ("npacd windows --help", FIRST, 0, None, NO_OUTPUT),
+    ("npacd check --help", FIRST, 0, None, NO_OUTPUT),
+    ("npacd backup --help", FIRST, 0, None, NO_OUTPUT),
+    ("npacd report --help", FIRST, 0, None, NO_OUTPUT),
     (
         "npacd --version",
         FIRST,
@@ -294,8 +315,23 @@ const FIRST_SET: &str = "# Set 1\ninitial_concurrence = 60\nfinal_concurrence = 
     conflict_restriction = 30\nconflict_resolution = 120\nconflict_expiration = 1000\n\
     cancellation_initial = 60\ncancellation_final = 60\npending_retention = 500\nbroadcast = 15\n";
 
-// Lines over a file, each after the ones before it. `windows` makes no file.
-static STORED: [LineCase<'static>; 12] = [
+// Lines over a file, each after the ones before it. `windows`, `check` and `--existing` make no
+// file.
+static STORED: [LineCase<'static>; 24] = [
+    (
+        "npacd check --db made.db",
+        "",
+        3,
+        Some("refused there is no such file or folder\n"),
+        Some("npacd: storage\n"),
+    ),
+    (
+        "npacd feed --windows good.toml --db made.db --existing",
+        FIRST,
+        3,
+        NO_OUTPUT,
+        Some("npacd: storage\n"),
+    ),
     (
         "npacd windows --db made.db",
         "",
@@ -337,6 +373,76 @@ static STORED: [LineCase<'static>; 12] = [
         0,
         Some(FIRST_SET),
         NO_OUTPUT,
+    ),
+    (
+        "npacd check --db made.db",
+        "",
+        0,
+        Some("minute 0\nset 1\nnext_id 1\ncarriers 1\ndue none\n"),
+        NO_OUTPUT,
+    ),
+    (
+        "npacd feed --windows good.toml --db made.db --existing --explain why.txt",
+        FIRST,
+        0,
+        Some(TAKEN),
+        NO_OUTPUT,
+    ),
+    (
+        "npacd check --db good.toml --existing",
+        "",
+        3,
+        Some("refused it is no SQLite database\n"),
+        Some("npacd: storage\n"),
+    ),
+    (
+        "npacd check --db . --explain why.txt",
+        "",
+        3,
+        Some("refused it is a folder or a device\n"),
+        Some("npacd: storage\n"),
+    ),
+    (
+        "npacd backup --db made.db --to copy.db",
+        "",
+        0,
+        Some("minute 0\nset 1\nnext_id 1\ncarriers 1\ndue none\n"),
+        NO_OUTPUT,
+    ),
+    (
+        "npacd backup --db made.db --to copy.db",
+        "",
+        3,
+        NO_OUTPUT,
+        Some("npacd: write\n"),
+    ),
+    (
+        "npacd backup --db none.db --to other.db",
+        "",
+        3,
+        NO_OUTPUT,
+        Some("npacd: storage\n"),
+    ),
+    (
+        "npacd report --db made.db --to made.html --number 2025331234",
+        "",
+        0,
+        NO_OUTPUT,
+        NO_OUTPUT,
+    ),
+    (
+        "npacd report --db made.db --to none/made.html",
+        "",
+        3,
+        NO_OUTPUT,
+        Some("npacd: write\n"),
+    ),
+    (
+        "npacd report --db none.db --to made.html",
+        "",
+        3,
+        NO_OUTPUT,
+        Some("npacd: storage\n"),
     ),
     (
         "npacd windows --db good.toml",
@@ -506,6 +612,8 @@ fn are_lines(alloc: Global) -> Option<bool> {
             windows,
             feed,
             db: None,
+            existing: false,
+            explain: None,
         },
     )?;
     let subcommand = Subcommand::Serve {
@@ -521,7 +629,7 @@ fn are_lines(alloc: Global) -> Option<bool> {
         log: None,
     };
     let feed = None;
-    let text = "npacd serve --windows=w --port=1";
+    let text = "npacd serve --windows=w --port=1 --existing --db d --explain -";
     Some(
         all && is_line(
             alloc,
@@ -530,7 +638,9 @@ fn are_lines(alloc: Global) -> Option<bool> {
                 subcommand,
                 windows,
                 feed,
-                db: None,
+                db: Some("d"),
+                existing: true,
+                explain: Some("-"),
             },
         )?,
     )

@@ -80,7 +80,7 @@ static WORDS: [LineCase<'static>; 8] = [
 
 // Lines over memory: from nothing, from what was fed, and from what precedes the end of what was
 // fed.
-static MEMORY_LINES: [LineCase<'static>; 7] = [
+static MEMORY_LINES: [LineCase<'static>; 11] = [
     (
         "npacd bulk --windows good.toml --feed carriers.http",
         CREATES,
@@ -109,6 +109,35 @@ static MEMORY_LINES: [LineCase<'static>; 7] = [
         0,
         Some("row,subject,result,id\n1,2025331234,not_found,\n2,,bad_row,\n"),
         NO_OUTPUT,
+    ),
+    (
+        "npacd bulk --strict --windows good.toml --feed carriers.http",
+        CREATES,
+        1,
+        Some(CREATED),
+        Some("npacd: rows_refused\n"),
+    ),
+    (
+        "npacd bulk --windows good.toml --strict",
+        "caller,action,subject,old,new,due,lrn,cic,flag\nBBBB,Activate,2025331234,,,,,,\n",
+        1,
+        Some("row,subject,result,id\n1,,bad_row,\n"),
+        Some("npacd: rows_refused\n"),
+    ),
+    (
+        "npacd bulk --windows good.toml --strict --feed carriers.http",
+        "caller,action,subject,old,new,due,lrn,cic,flag\n\
+        AAAA,subscriptionVersionNewSP-Create,2025331234,BBBB,AAAA,100,2025440000,,\n",
+        0,
+        Some("row,subject,result,id\n1,2025331234,ok,1\n"),
+        NO_OUTPUT,
+    ),
+    (
+        "npacd bulk --windows good.toml --strict",
+        COPY,
+        1,
+        NO_OUTPUT,
+        Some("npacd: bad_header\n"),
     ),
     (
         "npacd export --windows good.toml",
@@ -448,12 +477,14 @@ static UNREAD: [&str; 3] = [
 ];
 
 // Lines, with their input, whose output cannot be written.
-static UNWRITTEN: [(&str, &str); 6] = [
+static UNWRITTEN: [(&str, &str); 8] = [
     ("npacd --help", ""),
     ("npacd feed --windows good.toml", LAST),
     ("npacd bulk --windows good.toml", ACTIVATES),
     ("npacd export --windows good.toml", ""),
     ("npacd windows --db files.db", ""),
+    ("npacd check --db files.db", ""),
+    ("npacd check --db good.toml", ""),
     (
         "npacd audit --windows good.toml --feed carriers.http --spid AAAA",
         COPY,
