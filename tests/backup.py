@@ -1,0 +1,157 @@
+#!/usr/bin/env python3
+"""Tests copies of a register's file that the built program makes beside the service, with stock SQLite.
+
+    tests/backup.py [N]      (default 10 copies; build first: cd crates/npacd && rt run -- --help)
+
+Four kept connections create versions while the copies are made, so that the log is moved into the file now and then. Each copy has every
+version that was answered before copying began. A copy that is killed leaves no file in its place; when the service is killed, a copy
+has what was answered. No clause of the program knows what a file has, so this is where that is tested. The gate runs it after `rt ci`,
+which leaves the program that it has proved and run.
+"""
+import re
+import shutil
+import socket
+import sqlite3
+import subprocess
+import sys
+import tempfile
+import threading
+import time
+from pathlib import Path
+
+TOP = Path(__file__).resolve().parent.parent
+sys.path.insert(0, str(TOP / "bench"))
+from lib.numbers import next_door, opening
+from lib.program import PROGRAM, command_line, run, serving
+
+CLIENTS = 4
+DUE = 2**31 - 1
+
+
+def heard(stream):
+    """The next response: its first line and its body, empty if the stream ends before its end."""
+    status, length = stream.readline(), 0
+    while (line := stream.readline()) != b"\r\n":
+        if not line:
+            return b"", b""
+        if line.startswith(b"content-length:"):
+            length = int(line.split(b":")[1])
+    body = stream.read(length)
+    return (status, body) if len(body) == length else (b"", b"")
+
+
+class Client(threading.Thread):
+    """A kept connection that creates versions until it is told to stop, or the service ends."""
+
+    def __init__(self, at, place):
+        super().__init__()
+        self.socket = socket.create_connection(("127.0.0.1", at))
+        self.socket.setsockopt(socket.IPPROTO_TCP, socket.TCP_NODELAY, 1)
+        self.place, self.answered, self.stops, self.refused = place, [], False, []
+
+    def run(self):
+        stream = self.socket.makefile("rb")
+        try:
+            while not self.stops:
+                self.socket.sendall(next_door(self.place).old_create(DUE).encode())
+                status, body = heard(stream)
+                if not status:
+                    return
+                found = re.search(rb'"id":(\d+)', body)
+                if status == b"HTTP/1.1 200 OK\r\n" and found:
+                    self.answered.append(int(found[1]))
+                else:
+                    self.refused.append(status)
+                self.place += CLIENTS
+        except OSError:
+            return
+
+
+def backup(file, copy):
+    """The status of a backup, and what it says on standard error."""
+    ran = subprocess.run([PROGRAM, "backup", "--db", file, "--to", copy], capture_output=True, check=False)
+    return ran.returncode, ran.stderr.decode()
+
+
+def ids_in(copy):
+    """The versions of a copy, which stock SQLite finds whole, or `None`."""
+    with tempfile.TemporaryDirectory(dir=copy.parent) as held:
+        stock = shutil.copy(copy, held)
+        database = sqlite3.connect(stock)
+        whole = database.execute("PRAGMA integrity_check").fetchall() == [("ok",)]
+        ids = {row for row, in database.execute("SELECT id FROM version2")}
+        database.close()
+    return ids if whole else None
+
+
+def is_whole(copy, answered):
+    """Whether a copy has these versions, needs no log, and is opened by the program."""
+    ids = ids_in(copy)
+    opened = subprocess.run([PROGRAM, "windows", "--db", copy], stdout=subprocess.DEVNULL, check=False)
+    return ids is not None and answered <= ids and not Path(f"{copy}.part").exists() and opened.returncode == 0
+
+
+def copied(file, copy, clients):
+    """Whether a copy that is made now is whole."""
+    answered = {version for client in clients for version in client.answered[:]}
+    ended = backup(file, copy)
+    return ended == (0, "") and is_whole(copy, answered)
+
+
+def killed(file, copy, clients, seconds):
+    """Whether a copy that is killed is not there, or is whole."""
+    answered = {version for client in clients for version in client.answered[:]}
+    with subprocess.Popen([PROGRAM, "backup", "--db", file, "--to", copy]) as process:
+        time.sleep(seconds)
+        process.kill()
+    return not copy.exists() or is_whole(copy, answered)
+
+
+def beside_a_service(held, count):
+    """What holds of so many copies, every fifth of them killed, and of one when the service is killed."""
+    file, found = held / "register.db", {}
+    run(command_line("feed", "--db", file), "".join(opening()).encode())
+    with serving("--db", str(file)) as (process, at):
+        clients = [Client(at, place) for place in range(CLIENTS)]
+        for client in clients:
+            client.start()
+        for turn in range(count):
+            time.sleep(0.05)
+            copy = held / f"{turn}.db"
+            if turn % 5 == 4:
+                found[f"killed {turn}"] = killed(file, copy, clients, 0.002 * (turn % 25))
+                copy.unlink(missing_ok=True)
+            else:
+                found[f"copy {turn}"] = copied(file, copy, clients)
+                found[f"again {turn}"] = backup(file, copy) == (3, "npacd: write\n")
+                copy.unlink()
+        process.kill()
+        process.wait()
+        for client in clients:
+            client.stops = True
+            client.join()
+        found["after the end"] = copied(file, held / "end.db", clients)
+        found["answered"] = not any(client.refused for client in clients) and all(client.answered for client in clients)
+    return found
+
+
+def at_rest(held):
+    """What holds of files that nobody uses."""
+    nothing, broken = held / "nothing.db", held / "broken.db"
+    broken.write_bytes(b"no database" * 1000)
+    refused = [backup(nothing, held / "a.db"), backup(broken, held / "b.db")]
+    left = [path.name for path in (held / "a.db", held / "b.db", held / "a.db.part", held / "b.db.part") if path.exists()]
+    return {"refused": refused == [(3, "npacd: storage\n")] * 2, "nothing is left": not left}
+
+
+def main(words):
+    count = int(words[0]) if words else 10
+    with tempfile.TemporaryDirectory() as name:
+        found = beside_a_service(Path(name), count) | at_rest(Path(name))
+    wrong = [what for what, holds in found.items() if not holds]
+    print(f"backups: {len(found) - len(wrong)} hold{''.join(f', NOT {what}' for what in wrong)}")
+    return 1 if wrong else 0
+
+
+if __name__ == "__main__":
+    sys.exit(main(sys.argv[1:]))

@@ -1,0 +1,211 @@
+#!/usr/bin/env python3
+"""Tests the words for a refusal: each mistake is made on purpose, with stock SQLite where it is one of a database.
+
+    tests/explained.py      (build first: cd crates/npacd && rt run -- --help)
+
+`npacd check` writes why a file is refused, and --explain appends what a fault is about. No clause knows what lies at a path, so this is
+where the words are tested. The gate runs it after `rt ci`, which leaves the program that it has proved and run.
+"""
+import os
+import shutil
+import sqlite3
+import subprocess
+import sys
+import tempfile
+from pathlib import Path
+
+sys.path.insert(0, str(Path(__file__).resolve().parents[1] / "bench"))
+from lib.messages import message
+from lib.program import PROGRAM, WINDOWS, serving
+from migrated_files import write_file
+from stock_sqlite import MESSAGES, changed
+
+# After this many seconds a command counts as endless.
+LIMIT = 60
+NOBODY = 65534
+
+# What the file of `MESSAGES` holds: nothing is due before minute 115.
+SUMMARY = "minute 100\nset 1\nnext_id 3\ncarriers 2\ndue none\n"
+DUE = SUMMARY.replace("none", "1")
+
+MISSING = "there is no such file or folder"
+MAY_NOT = "this user may not read and write it"
+DAMAGED = "it is damaged, or the log beside it is damaged or another file's"
+IN_USE = "another program has it open"
+
+# Changes by hand, and the words for them.
+CHANGES = {
+    "VACUUM": "its tables have other root pages, as after a VACUUM",
+    "CREATE TABLE more (one INTEGER PRIMARY KEY) STRICT": "the table more is not a register's",
+    "DROP TABLE wait": "the table wait is missing",
+    "ALTER TABLE carrier ADD COLUMN name TEXT": "the column carrier.name is not a register's",
+    "ALTER TABLE lrn RENAME COLUMN spid TO owner": "the column lrn.spid is missing",
+    "DROP INDEX wait_subject": "the index wait_subject is missing",
+    "CREATE INDEX more ON version2 (old)": "the index more is not a register's",
+    "CREATE TRIGGER more AFTER INSERT ON lrn BEGIN SELECT 1; END": "the view, trigger or table more is not a register's",
+    "CREATE VIEW more AS SELECT 1": "the view, trigger or table more is not a register's",
+    "UPDATE carrier SET spid = 'AB1' WHERE spid = 'AAAA'": "the row AB1 of the table carrier cannot be read",
+    "UPDATE version2 SET status = 'gone' WHERE id = 2": "the row 2 of the table version2 cannot be read",
+    "UPDATE wait SET minute = -1 WHERE spid = 'BBBB'": "the row BBBB of the table wait cannot be read",
+    "UPDATE clock2 SET one = 1": "the row 1 of the table clock2 cannot be read",
+    "INSERT INTO clock VALUES (0, 100, 3, 60, 60, 30, 120, 1000, 60, 60, 500, 15)": "the table clock of an earlier format has a row",
+    "DELETE FROM clock2": "the table clock2 has no row",
+    "DELETE FROM window_set": "the table window_set has no row for the present set",
+}
+
+# Windows files that are refused: the fault, and the words for it.
+WINDOWS_FILES = {
+    "a = [": ("syntax", "it is not TOML in UTF-8"),
+    "broadcast = 15\n": ("missing_key", "one of the nine windows is missing"),
+}
+
+# Files of commands: the fault with --strict, and the words for it.
+HEADER = "caller,action,subject,old,new,due,lrn,cic,flag\n"
+COMMANDS = {
+    "subject\n": ("bad_header", "its first row is not the header"),
+    HEADER + "AAAA,Activate,2025331234,,,,,,\n": ("rows_refused", "a row was refused: the report says which"),
+}
+
+
+def run(*words, text="", **more):
+    """Returns the exit status of a command line, its output and its report."""
+    ran = subprocess.run([PROGRAM, *words], input=text, capture_output=True, text=True, timeout=LIMIT, check=False, **more)
+    return ran.returncode, ran.stdout, ran.stderr
+
+
+def is_summary(file, text):
+    return run("check", "--db", file) == (0, text, "")
+
+
+def is_refused(file, words, **more):
+    """Returns whether `check` writes these words, and an export explains its fault with them."""
+    checked = run("check", "--db", file, **more) == (3, f"refused {words}\n", "npacd: storage\n")
+    line = ("export", "--windows", WINDOWS, "--existing", "--db", file, "--explain", "-")
+    report = f"npacd: storage\nnpacd: storage: {file}: {words}\n"
+    return checked and run(*line, **more) == (3, "", report)
+
+
+def is_explained(folder, status, name, about, words, *line, text=""):
+    """Returns whether a command line ends with a fault, and appends its explanation to a file."""
+    why = os.path.join(folder, "why.txt")
+    Path(why).write_text("before\n", encoding="utf-8")
+    ran = run(*line, "--explain", why, text=text)
+    written = Path(why).read_text(encoding="utf-8")
+    return (ran[0], ran[2]) == (status, f"npacd: {name}\n") and written == f"before\nnpacd: {name}: {about}: {words}\n"
+
+
+def new_file(folder):
+    """Makes the file of `MESSAGES`, without a log."""
+    file = os.path.join(folder, "register.db")
+    text = "".join(message(*each) for each in MESSAGES)
+    assert run("feed", "--windows", WINDOWS, "--db", file, text=text)[::2] == (0, "")
+    return file
+
+
+def changes(file, folder):
+    return {change: is_refused(changed(file, folder, change), words) for change, words in CHANGES.items()}
+
+
+def with_log(file, folder):
+    """Returns a copy of the file beside the log of another file."""
+    other, copy = os.path.join(folder, "other.db"), os.path.join(folder, "with-log.db")
+    database = sqlite3.connect(other, isolation_level=None)
+    database.execute("PRAGMA page_size = 4096")
+    database.execute("PRAGMA journal_mode = WAL")
+    database.execute("CREATE TABLE other (one INTEGER PRIMARY KEY) STRICT")
+    shutil.copy(file, copy)
+    shutil.copy(other + "-wal", copy + "-wal")
+    database.close()
+    return copy
+
+
+def beside_others(file, folder):
+    """Tests files that something else is beside, or that are no databases of this program."""
+    linked, journal, logged = (os.path.join(folder, name) for name in ("linked.db", "journal.db", "logged.db"))
+    earlier, plain, cut, empty = (os.path.join(folder, name) for name in ("earlier.db", "plain.db", "cut.db", "empty.db"))
+    for copy in (linked, journal, logged):
+        shutil.copy(file, copy)
+    os.link(linked, linked + "-again")
+    Path(journal + "-journal").write_text("x", encoding="utf-8")
+    os.mkdir(logged + "-wal")
+    write_file(earlier, "SENDING")
+    Path(plain).write_text("this is not a database\n", encoding="utf-8")
+    Path(cut).write_bytes(Path(file).read_bytes()[:6000])
+    Path(empty).touch()
+    return {
+        "a hard link": is_refused(linked, "it has a second name, a hard link"),
+        "a journal": is_refused(journal, "a journal lies beside it: open it with sqlite3 first"),
+        "a folder for a log": is_refused(logged, "its log, with -wal after its name, cannot be opened or made"),
+        # SQLite reads the pages of a log in place of the file's, so that the tables are those of the log.
+        "another's log": is_refused(with_log(file, folder), "the table carrier is missing"),
+        "an earlier format": run("check", "--db", earlier)[1]
+        == "refused it has an earlier format, which a command with --windows migrates\n",
+        "no database": is_refused(plain, "it is no SQLite database"),
+        "half a file": is_refused(cut, DAMAGED),
+        "an empty file": run("check", "--db", empty)[1] == "refused it is empty, or has no tables\n",
+        "a folder": is_refused(folder, "it is a folder or a device"),
+        "no file": is_refused(os.path.join(folder, "none.db"), MISSING) and not os.path.exists(os.path.join(folder, "none.db")),
+        "no folder": is_refused(os.path.join(folder, "none", "none.db"), MISSING),
+    }
+
+
+def is_in_use(file):
+    """Returns whether a file that a service has open is refused for that."""
+    with serving("--db", file):
+        return is_refused(file, IN_USE)
+
+
+def is_forbidden(file):
+    """Returns whether a file that its user may not write is refused for that. Root may write each file: nobody tries it then."""
+    as_nobody = {"user": NOBODY, "group": NOBODY, "extra_groups": []} if os.geteuid() == 0 else {}
+    with tempfile.TemporaryDirectory() as folder:
+        os.chmod(folder, 0o755)
+        copy, program = os.path.join(folder, "register.db"), os.path.join(folder, "npacd")
+        shutil.copy(file, copy)
+        shutil.copy(PROGRAM, program)
+        os.chmod(copy, 0o444)
+        words = [program, "check", "--db", copy]
+        ran = subprocess.run(words, capture_output=True, text=True, timeout=LIMIT, check=False, **as_nobody)
+    return (ran.returncode, ran.stdout, ran.stderr) == (3, f"refused {MAY_NOT}\n", "npacd: storage\n")
+
+
+def explanations(file, folder):
+    """Tests faults of other files, and explanations that cannot be written."""
+    none, wide = os.path.join(folder, "none"), os.path.join(folder, "windows.toml")
+    found = {}
+    for text, (name, words) in WINDOWS_FILES.items():
+        Path(wide).write_text(text, encoding="utf-8")
+        found[name] = is_explained(folder, 1, name, wide, words, "export", "--windows", wide)
+    Path(wide).write_text(Path(WINDOWS).read_text(encoding="utf-8").replace("broadcast = 15", "broadcast = 16"), encoding="utf-8")
+    differ = "its windows are not the present ones of the database"
+    found["windows_differ"] = is_explained(folder, 1, "windows_differ", wide, differ, "export", "--windows", wide, "--db", file)
+    found["no windows"] = is_explained(folder, 3, "read", none, MISSING, "export", "--windows", none)
+    found["no messages"] = is_explained(folder, 3, "read", none, MISSING, "export", "--windows", WINDOWS, "--feed", none)
+    for text, (name, words) in COMMANDS.items():
+        line = ("bulk", "--strict", "--windows", WINDOWS)
+        found[name] = is_explained(folder, 1, name, "standard input", words, *line, text=text)
+    found["unwritten"] = run("export", "--windows", none, "--explain", os.path.join(none, "why")) == (3, "", "npacd: read\n")
+    return found
+
+
+def found_in_all():
+    with tempfile.TemporaryDirectory() as folder:
+        file = new_file(folder)
+        found = {"summary": is_summary(file, SUMMARY)}
+        found["due"] = is_summary(changed(file, folder, "UPDATE version2 SET deadline = 100 WHERE id = 1"), DUE)
+        found |= changes(file, folder) | beside_others(file, folder) | explanations(file, folder)
+        found |= {"in use": is_in_use(file), "no permission": is_forbidden(file)}
+    return found
+
+
+def main():
+    if not os.path.isfile(PROGRAM):
+        sys.exit(f"{PROGRAM} is not there: build it first")
+    found = found_in_all()
+    wrong = [what for what, well in found.items() if not well]
+    print(*wrong, f"refusals, in words: {len(found) - len(wrong)} as expected, {len(wrong)} others", sep="\n")
+    sys.exit(1 if wrong else 0)
+
+
+if __name__ == "__main__":
+    main()
