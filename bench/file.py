@@ -46,9 +46,16 @@ class Peer:
         self.database = sqlite3.connect(file, isolation_level=None)
         self.database.execute("PRAGMA journal_mode = WAL")
         self.database.execute("PRAGMA synchronous = FULL")
+        self.kept = {}
 
     def ask(self, table, which="", *values):
         return self.database.execute(f"SELECT {COLUMNS[table]} FROM {table} {which}", values).fetchall()
+
+    def once(self, table, which="", *values):
+        """What no message of this measure changes is read the first time, as the program reads it."""
+        if table not in self.kept:
+            self.kept[table] = self.ask(table, which, *values)
+        return self.kept[table]
 
     def commit(self, *statements):
         self.database.execute("BEGIN IMMEDIATE")
@@ -58,12 +65,12 @@ class Peer:
 
     def clock(self):
         """What is read of the clock: its row, and the present set of windows."""
-        self.ask("clock2", "WHERE one = ?", 0)
-        self.ask("window_set", "WHERE number = ?", 1)
+        self.once("clock2", "WHERE one = ?", 0)
+        self.once("window_set", "WHERE number = ?", 1)
 
     def settle(self):
         self.clock()
-        self.ask("version2", "WHERE deadline >= 0 AND deadline <= ? ORDER BY deadline LIMIT 1", 0)
+        self.once("version2", "WHERE deadline >= 0 AND deadline <= ? ORDER BY deadline LIMIT 1", 0)
 
     def number(self, subject):
         """What is read of a number and its block."""
@@ -79,8 +86,7 @@ class Peer:
     def create(self, row, is_first):
         self.settle()
         self.clock()
-        for carrier in row[2:4]:
-            self.ask("carrier", "WHERE spid = ?", carrier)
+        self.once("carrier")
         self.number(row[1])
         self.ask("lrn", "WHERE lrn = ?", row[5])
         moved = []
@@ -94,17 +100,16 @@ class Peer:
         self.ask("version2", "WHERE id = ?", row[0])
         self.clock()
         broadcast = (row[0], 1, 0, row[1], "create", row[5], None, 1, 0)
-        waits = [(insert("wait"), (carrier, 0, row[0], 1, row[1])) for (carrier,) in self.ask("carrier")]
+        waits = [(insert("wait"), (carrier, 0, row[0], 1, row[1])) for (carrier,) in self.once("carrier")]
         self.commit(*self.put_version(row), (insert("broadcast"), broadcast), *waits)
 
     def acknowledge(self, carrier, row, is_last):
         self.settle()
-        self.ask("carrier", "WHERE spid = ?", carrier)
+        self.once("carrier")
         self.ask("version2", "WHERE id = ?", row[0])
         self.ask("broadcast", "WHERE id = ? AND attempt = ?", row[0], 1)
         self.ask("wait", "WHERE subject = ? AND spid = ?", row[1], carrier)
         self.ask("wait", "WHERE id = ? AND attempt = ?", row[0], 1)
-        self.ask("carrier")
         taken = [
             ("DELETE FROM broadcast WHERE id = ? AND attempt = ?", (row[0], 1)),
             ("DELETE FROM wait WHERE spid = ? AND minute = ? AND id = ? AND attempt = ?", (carrier, 0, row[0], 1)),
@@ -123,7 +128,7 @@ class Peer:
 
     def query(self, caller, subject):
         self.settle()
-        self.ask("carrier", "WHERE spid = ?", caller)
+        self.once("carrier")
         self.number(subject)
 
 
