@@ -1,6 +1,6 @@
 """Measures the processor time of each crate while the gate proves everything from nothing.
 
-    bench/run gate [WORDS ..]      (default the command rt ci --anew; needs a clean clone)
+    bench/run gate [WORDS ..]      (default the command rt ci; needs a clean clone, and rt ci --anew if the toolchain keeps what passed)
 
 It counts the crate's proof, that of its tests, its must-fail edits and whatever else it starts, by looking at /proc
 twice a second. It prints the time of the whole, on how many processors, and how much of them other work used.
@@ -99,7 +99,7 @@ def show(table, wall, whole):
 
 def main(words):
     began, before = time.monotonic(), busy()
-    gate, seen = subprocess.Popen(words or ["rt", "ci", "--anew"], stdin=subprocess.DEVNULL), {}
+    gate, seen = subprocess.Popen(words or ["rt", "ci"], stdin=subprocess.DEVNULL), {}
     while gate.poll() is None:
         look(gate.pid, seen)
         time.sleep(0.5)
