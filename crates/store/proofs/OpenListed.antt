@@ -20,8 +20,9 @@ use Rattle.settle.specs.Changes.{put_rows, same_broadcast}
 use Rattle.settle.specs.declared.rows.BroadcastKey.{BroadcastKey as BroadcastKeyImpl}
 use Rattle.numbers.proofs.Small.{tied, and_first, and_second, truth}
 use Rattle.store.specs.Maps.{map_of, seen_entries, IsSet}
-use Rattle.store.specs.BroadcastRows.{broadcast_id_of, same_id, if_open, AreOpenByKey}
+use Rattle.store.specs.BroadcastRows.{broadcast_id_of, packed_row_of, same_id, if_open, AreOpenByKey}
 use Rattle.store.specs.declared.keys.BroadcastId.{BroadcastId}
+use Rattle.store.specs.declared.packed_broadcast.PackedBroadcast.{PackedBroadcast}
 use Rattle.store.proofs.Changed.{broadcast_tied, set_broadcast}
 use Rattle.store.proofs.Lists.{entries-map_of}
 use Rattle.store.proofs.Maps.{get-map_of, set_map_of}
@@ -32,8 +33,8 @@ Rows = List (BroadcastKey × BroadcastRow)
 abbrev pub open_rows : List (BroadcastKey × BroadcastRow) → List (BroadcastKey × BroadcastRow)
 open_rows = filter (λ e. e.1.is_open)
 
-abbrev pub rows_in : List (BroadcastId × Broadcast) → List (BroadcastKey × BroadcastRow)
-rows_in = seen_entries broadcast_id_of broadcast_row_of
+abbrev pub rows_in : List (BroadcastId × PackedBroadcast) → List (BroadcastKey × BroadcastRow)
+rows_in = seen_entries broadcast_id_of packed_row_of
 
 -- ---- the open rows of a sorted list
 
@@ -144,19 +145,20 @@ same-swapped : (a b : BroadcastKey) → same_broadcast a b ≡ same_broadcast b 
 same-swapped a b = swapped a.id b.id a.attempt b.attempt
 
 -- Rows of other keys change nothing.
-others-put : (es : List (BroadcastId × Broadcast)) (k : BroadcastKey) (w : Option BroadcastRow)
+others-put : (es : List (BroadcastId × PackedBroadcast)) (k : BroadcastKey)
+    (w : Option BroadcastRow)
     → AllByRecursion (λ y. same_broadcast (broadcast_id_of y) k ≡ false) (keys_of es)
     → put_rows same_broadcast (open_rows (rows_in es)) k w ≡ w
 others-put [] k w others = refl
-others-put (e ∷ es) k w others = by_cases (others-put es k w others.1) e.1.is_open
+others-put (e ∷ es) k w others = by_cases (others-put es k w others.1) (packed_row_of e.1).is_open
   where
     by_cases : put_rows same_broadcast (open_rows (rows_in es)) k w ≡ w → (b : Bool)
         → put_rows same_broadcast (cond b
-        ((broadcast_id_of e.0, broadcast_row_of e.1) ∷ open_rows (rows_in es))
+        ((broadcast_id_of e.0, packed_row_of e.1) ∷ open_rows (rows_in es))
         (open_rows (rows_in es))) k w ≡ w
     by_cases later true =
         ap (λ t. put_rows same_broadcast (open_rows (rows_in es)) k
-        (cond t (Some (broadcast_row_of e.1)) w)) others.0 ∙ later
+        (cond t (Some (packed_row_of e.1)) w)) others.0 ∙ later
     by_cases later false = later
 
 all-others : (x : BroadcastId) (ys : List BroadcastId)
@@ -168,24 +170,24 @@ all-others x (y ∷ ys) all = (
   all-others x ys all.1,
 )
 
-pub open-found : (es : List (BroadcastId × Broadcast)) → IsDistinct same_id (keys_of es)
+pub open-found : (es : List (BroadcastId × PackedBroadcast)) → IsDistinct same_id (keys_of es)
     → (k : BroadcastKey) → put_rows same_broadcast (open_rows (rows_in es)) k None
     ≡ if_open (find broadcast_cmp k (rows_in es))
 open-found [] distinct k = refl
 open-found (e ∷ es) distinct k =
-    split e.1.is_open
+    split (packed_row_of e.1).is_open
     ∙ by_cases (open-found es (IsDistinct-tail same_id e.0 (keys_of es) distinct) k)
     (same_broadcast (broadcast_id_of e.0) k) refl
-    ∙ ap (λ t. if_open (cond t (Some (broadcast_row_of e.1)) (find broadcast_cmp k (rows_in es))))
+    ∙ ap (λ t. if_open (cond t (Some (packed_row_of e.1)) (find broadcast_cmp k (rows_in es))))
     (same-swapped (broadcast_id_of e.0) k ∙ sym (broadcast_tied k (broadcast_id_of e.0)))
   where
     rest : Rows
     rest = open_rows (rows_in es)
 
     split : (b : Bool) → put_rows same_broadcast (cond b
-        ((broadcast_id_of e.0, broadcast_row_of e.1) ∷ rest) rest) k None
+        ((broadcast_id_of e.0, packed_row_of e.1) ∷ rest) rest) k None
         ≡ put_rows same_broadcast rest k (cond b (cond (same_broadcast (broadcast_id_of e.0) k)
-        (Some (broadcast_row_of e.1)) None) None)
+        (Some (packed_row_of e.1)) None) None)
     split true = refl
     split false = refl
 
@@ -203,13 +205,14 @@ open-found (e ∷ es) distinct k =
 
     by_cases : put_rows same_broadcast rest k None ≡ if_open (find broadcast_cmp k (rows_in es))
         → (s : Bool) → same_broadcast (broadcast_id_of e.0) k ≡ s
-        → put_rows same_broadcast rest k (cond e.1.is_open
-        (cond s (Some (broadcast_row_of e.1)) None) None)
-        ≡ if_open (cond s (Some (broadcast_row_of e.1)) (find broadcast_cmp k (rows_in es)))
+        → put_rows same_broadcast rest k (cond (packed_row_of e.1).is_open
+        (cond s (Some (packed_row_of e.1)) None) None)
+        ≡ if_open (cond s (Some (packed_row_of e.1)) (find broadcast_cmp k (rows_in es)))
     by_cases later true t =
-        others-put es k (cond e.1.is_open (Some (broadcast_row_of e.1)) None) (others t)
+        others-put es k (cond (packed_row_of e.1).is_open (Some (packed_row_of e.1)) None)
+        (others t)
     by_cases later false t =
-        ap (put_rows same_broadcast rest k) (either e.1.is_open None) ∙ later
+        ap (put_rows same_broadcast rest k) (either (packed_row_of e.1).is_open None) ∙ later
 
 -- ---- one row of the hash map
 
@@ -225,37 +228,48 @@ broadcast-put old new key row put k =
     old new key (Some row) put)
     ∙ set_broadcast (in_order old) (broadcast_key_of key) (Some (broadcast_row_of row)) k
 
-abbrev pub listed_so_far : List (BroadcastId × Broadcast) → BTreeMap BroadcastKeyImpl Broadcast
+abbrev pub listed_so_far : List (BroadcastId × PackedBroadcast)
+    → BTreeMap BroadcastKeyImpl Broadcast
     → BroadcastKey → Option BroadcastRow
 listed_so_far rest found k =
     put_rows same_broadcast (open_rows (rows_in rest)) k
     (get (in_order found) k)
 
-pub open-step : (e : BroadcastId × Broadcast) (rest : List (BroadcastId × Broadcast))
-    (old new : BTreeMap BroadcastKeyImpl Broadcast) (key : BroadcastKeyImpl)
-    → e.1.is_open ≡ true → broadcast_key_of key ≡ broadcast_id_of e.0
-    → IsSet (on broadcast_key_of broadcast_cmp) old new key (Some e.1) → (k : BroadcastKey)
+pub open-step : (e : BroadcastId × PackedBroadcast) (rest : List (BroadcastId × PackedBroadcast))
+    (row : Broadcast) (old new : BTreeMap BroadcastKeyImpl Broadcast) (key : BroadcastKeyImpl)
+    → broadcast_row_of row ≡ packed_row_of e.1 → row.is_open ≡ true
+    → broadcast_key_of key ≡ broadcast_id_of e.0
+    → IsSet (on broadcast_key_of broadcast_cmp) old new key (Some row) → (k : BroadcastKey)
     → listed_so_far rest new k ≡ listed_so_far (e ∷ rest) old k
-open-step e rest old new key is_open same put k =
-    ap (put_rows same_broadcast (open_rows (rows_in rest)) k) (broadcast-put old new key e.1 put k
-    ∙ (λ i. cond (same_broadcast (same i) k) (Some (broadcast_row_of e.1))
+open-step e rest row old new key unpacked is_open same put k =
+    ap (put_rows same_broadcast (open_rows (rows_in rest)) k) (broadcast-put old new key row put k
+    ∙ (λ i. cond (same_broadcast (same i) k) (Some (unpacked i))
     (get (in_order old) k)))
-    ∙ (λ i. put_rows same_broadcast (cond (sym is_open i)
-    ((broadcast_id_of e.0, broadcast_row_of e.1) ∷ open_rows (rows_in rest))
+    ∙ (λ i. put_rows same_broadcast (cond (sym (opened unpacked is_open) i)
+    ((broadcast_id_of e.0, packed_row_of e.1) ∷ open_rows (rows_in rest))
     (open_rows (rows_in rest))) k
     (get (in_order old) k))
+  where
+    opened : broadcast_row_of row ≡ packed_row_of e.1 → row.is_open ≡ true
+        → (packed_row_of e.1).is_open ≡ true
+    opened is so = ap (λ (r : BroadcastRow). r.is_open) (sym is) ∙ so
 
-pub closed-step : (e : BroadcastId × Broadcast) (rest : List (BroadcastId × Broadcast))
-    (found : BTreeMap BroadcastKeyImpl Broadcast) → e.1.is_open ≡ false → (k : BroadcastKey)
+pub closed-step : (e : BroadcastId × PackedBroadcast) (rest : List (BroadcastId × PackedBroadcast))
+    (row : Broadcast) (found : BTreeMap BroadcastKeyImpl Broadcast)
+    → broadcast_row_of row ≡ packed_row_of e.1 → row.is_open ≡ false → (k : BroadcastKey)
     → listed_so_far rest found k ≡ listed_so_far (e ∷ rest) found k
-closed-step e rest found closed k = λ i. put_rows same_broadcast (cond (sym closed i)
-    ((broadcast_id_of e.0, broadcast_row_of e.1) ∷ open_rows (rows_in rest))
+closed-step e rest row found unpacked closed k =
+    λ i. put_rows same_broadcast (cond (sym shut i)
+    ((broadcast_id_of e.0, packed_row_of e.1) ∷ open_rows (rows_in rest))
     (open_rows (rows_in rest))) k
     (get (in_order found) k)
+  where
+    shut : (packed_row_of e.1).is_open ≡ false
+    shut = ap (λ (r : BroadcastRow). r.is_open) (sym unpacked) ∙ closed
 
 -- ---- all rows of the hash map
 
-pub none-listed : (es all : List (BroadcastId × Broadcast))
+pub none-listed : (es all : List (BroadcastId × PackedBroadcast))
     (found : BTreeMap BroadcastKeyImpl Broadcast) → es ≡ all → found.entries ≡ []
     → (k : BroadcastKey) → listed_so_far es found k
     ≡ put_rows same_broadcast (open_rows (rows_in all)) k None
@@ -265,7 +279,7 @@ none-listed es all found same empty k =
     (ap (λ rows. get (from_entries {R = broadcast_cmp}
     (seen_entries broadcast_key_of broadcast_row_of rows)) k) empty ∙ get-empty broadcast_cmp k)
 
-pub open-are : (es rest : List (BroadcastId × Broadcast))
+pub open-are : (es rest : List (BroadcastId × PackedBroadcast))
     (found : BTreeMap BroadcastKeyImpl Broadcast) → IsDistinct same_id (keys_of es) → rest ≡ []
     → ((k : BroadcastKey) → listed_so_far rest found k
     ≡ put_rows same_broadcast (open_rows (rows_in es)) k None)

@@ -1,29 +1,23 @@
 -- The first downloads of a carrier's queue, as a loop over the order lists them.
-use Rattle.std.proofs.Common.{◌≡◌, ◌≤◌, ◌⊎◌, inl, inr, ℕ, Bool, true, false, cond, List, [], ◌∷◌, ◌++◌, length, Option, Some, None, refl, ap, sym, ◌∙◌, subst}
-use Rattle.std.specs.Prelude.{option_map, is_some, IsSome, Contains}
+use Rattle.std.proofs.Common.{◌≡◌, ◌≤◌, ◌⊎◌, inl, inr, ℕ, Bool, true, false, cond, List, [], ◌∷◌, ◌++◌, length, map, Option, Some, None, refl, ap, sym, ◌∙◌, subst}
+use Rattle.std.specs.Prelude.{option_map, is_some, IsSome, Contains, get_or}
 use Rattle.std.specs.declared.cmp.Ordering.{Ordering}
 use Rattle.std.specs.declared.cmp.Ordering.TheVariants.{Less}
 use Rattle.std.specs.List.{AllByRecursion, filter_map}
 use Rattle.std.specs.List.Sorted.{IsStrictlySortedBy}
 use Rattle.std.specs.Ordering.{on}
 use Rattle.std.specs.Map.{lookup, keys_of}
-use Rattle.std.specs.HashMap as hash
-use Rattle.std.specs.HashMap.{HashMap}
 use Rattle.std.specs.FinMap.{FinMap, get}
 use Rattle.numbers.specs.Subjects.{Subject}
 use Rattle.numbers.specs.declared.spid.Spid.{Spid}
-use Rattle.model.specs.Content.{Content, BroadcastRow, WaitKey, wait_cmp, empty_content, broadcast_key, wait_key}
-use Rattle.delivery.specs.declared.broadcast.Broadcast.{Broadcast}
+use Rattle.model.specs.Content.{Content, BroadcastRow, WaitKey, broadcast_cmp, wait_cmp, empty_content, broadcast_key, wait_key}
 use Rattle.delivery.specs.declared.download.Download.{Download as DownloadImpl}
 use Rattle.delivery.specs.declared.download.DownloadKey.{DownloadKey as DownloadKeyImpl}
-use Rattle.settle.specs.Reads.{AreFirst, IsBehind, IsQueued, IsWaitingDownload, queue_cmp}
-use Rattle.settle.specs.Abstraction.{broadcast_row_of, spid_of}
+use Rattle.settle.specs.Reads.{AreFirst, IsBehind, IsQueued, IsWaitingDownload}
+use Rattle.settle.specs.Abstraction.{spid_of}
 use Rattle.store.specs.WaitRows.{Download, download_cmp, download_of, wait_for}
-use Rattle.store.specs.QueueRows.{queue_key_of, download_at, download_from, broadcast_of, pending_at}
-use Rattle.store.specs.BroadcastRows.{same_id, broadcasts_of}
-use Rattle.store.specs.declared.keys.BroadcastId.{BroadcastId}
-use Rattle.store.proofs.BroadcastRows.{get-broadcast}
-use Rattle.store.proofs.Listed.{Among, contained, all-places, all-listed, listed-sorted, among-listed}
+use Rattle.store.specs.QueueRows.{queue_key_of, Sent, sent_of, sent_from, download_at, pending_at}
+use Rattle.store.proofs.Listed.{Among, contained, all-places, all-mapped, among-mapped, sorted-mapped, all-listed, listed-sorted, among-listed}
 
 -- ---- lists
 
@@ -93,67 +87,49 @@ abbrev pub HasAll : FinMap wait_cmp Subject → (carrier : ℕ) → List (Downlo
 HasAll waits carrier es = (k : WaitKey) → k.carrier ≡ carrier → is_some (get waits k) ≡ true
     → (e : DownloadKeyImpl × Unit {0}) × Among e es × (queue_key_of e.0 ≡ download_of k)
 
-module _ {S : Type 0} (waits : FinMap wait_cmp Subject)
-    (broadcasts : HashMap BroadcastId Broadcast S) (carrier : Spid) (many : ℕ)
-    (part : List (DownloadKeyImpl × Unit {0})) where
+abbrev sent_cmp : Sent → Sent → Ordering
+sent_cmp a b = download_cmp a.key b.key
+
+module _ (waits : FinMap wait_cmp Subject) (broadcasts : FinMap broadcast_cmp BroadcastRow)
+    (carrier : Spid) (many : ℕ) (part : List (DownloadKeyImpl × Unit {0})) where
   abbrev content : Content
   content = record empty_content {
     waits = waits;
-    broadcasts = broadcasts_of broadcasts;
+    broadcasts = broadcasts;
   }
 
-  row-of : (k : DownloadKeyImpl) → get content.broadcasts (broadcast_key k.id k.attempt)
-      ≡ option_map broadcast_row_of (hash.get same_id broadcasts (broadcast_of k))
-  row-of k = get-broadcast broadcasts (broadcast_of k)
+  -- Holds if the download is pending for the carrier, and its broadcast's row says this of it.
+  abbrev IsSent : Sent → Type 0
+  IsSent s = (row : BroadcastRow)
+      × IsQueued content carrier.number s.key.minute s.key.id s.key.attempt row
+      × (s.subject ≡ row.subject) × (s.action ≡ row.action) × (s.routing ≡ row.routing)
 
-  download_at-is : (k : DownloadKeyImpl) (d : DownloadImpl) → download_at broadcasts k ≡ Some d →
-      (b : Broadcast) × (get content.broadcasts (broadcast_key k.id k.attempt)
-      ≡ Some (broadcast_row_of b)) × (download_from k b ≡ d)
-  download_at-is k d e =
-      by_cases (hash.get same_id broadcasts (broadcast_of k)) refl e
+  download_at-is : (k : DownloadKeyImpl) (s : Sent) → download_at broadcasts k ≡ Some s →
+      (row : BroadcastRow) × (get broadcasts (broadcast_key k.id k.attempt) ≡ Some row)
+      × (sent_from k row ≡ s)
+  download_at-is k s e = by_cases (get broadcasts (broadcast_key k.id k.attempt)) refl e
     where
-      by_cases : (o : Option Broadcast) → hash.get same_id broadcasts
-          (broadcast_of k) ≡ o → option_map (download_from k) o ≡ Some d →
-          (b : Broadcast) × (get content.broadcasts (broadcast_key k.id k.attempt)
-          ≡ Some (broadcast_row_of b)) × (download_from k b ≡ d)
-      by_cases None at f = let no : None ≡ Some d = f in cc
-      by_cases (Some b) at f = (
-        b,
-        row-of k ∙ ap (option_map broadcast_row_of) at,
-        (let g : Some (download_from k b) ≡ Some d = f in cc),
-      )
+      by_cases : (o : Option BroadcastRow) → get broadcasts (broadcast_key k.id k.attempt) ≡ o
+          → option_map (sent_from k) o ≡ Some s →
+          (row : BroadcastRow) × (get broadcasts (broadcast_key k.id k.attempt) ≡ Some row)
+          × (sent_from k row ≡ s)
+      by_cases None at f = let no : None ≡ Some s = f in cc
+      by_cases (Some row) at f =
+          (row, at, (let g : Some (sent_from k row) ≡ Some s = f in cc))
 
-  is-download_at : (k : DownloadKeyImpl) (row : BroadcastRow)
-      → get content.broadcasts (broadcast_key k.id k.attempt) ≡ Some row
-      → (b : Broadcast) × (download_at broadcasts k ≡ Some (download_from k b))
-  is-download_at k row e =
-      by_cases (hash.get same_id broadcasts (broadcast_of k))
-      refl (sym (row-of k) ∙ e)
-    where
-      by_cases : (o : Option Broadcast) → hash.get same_id broadcasts
-          (broadcast_of k) ≡ o → option_map broadcast_row_of o ≡ Some row →
-          (b : Broadcast) × (download_at broadcasts k ≡ Some (download_from k b))
-      by_cases None at f = let no : None ≡ Some row = f in cc
-      by_cases (Some b) at f = (b, ap (option_map (download_from k)) at)
-
-  abbrev listed : DownloadKeyImpl → Option DownloadImpl
+  abbrev listed : DownloadKeyImpl → Option Sent
   listed = pending_at waits broadcasts carrier.number
 
   -- A listed key is that of a download pending for the carrier.
-  waits-is : (k : DownloadKeyImpl) (d : DownloadImpl) → listed k ≡ Some d
-      → IsWaitingDownload content carrier.number d
-  waits-is k d is =
+  waits-is : (k : DownloadKeyImpl) (s : Sent) → listed k ≡ Some s → IsSent s
+  waits-is k s is =
       let p = in_part (is_some (get waits (wait_for (queue_key_of k) carrier.number)))
-      (download_at broadcasts k) d is in
-      let t = download_at-is k d p.1 in
-      subst (IsWaitingDownload content carrier.number) t.2 (
-        broadcast_row_of t.0,
-        (p.0, t.1),
-        record { subject = refl; action = refl; routing = refl },
-      )
+      (download_at broadcasts k) s is in
+      let t = download_at-is k s p.1 in
+      subst IsSent t.2 (t.0, (p.0, t.1), refl, refl, refl)
 
-  rise : (x y : DownloadKeyImpl) (a b : DownloadImpl) → listed x ≡ Some a → listed y ≡ Some b
-      → on queue_key_of download_cmp x y ≡ Less → queue_cmp a b ≡ Less
+  rise : (x y : DownloadKeyImpl) (a b : Sent) → listed x ≡ Some a → listed y ≡ Some b
+      → on queue_key_of download_cmp x y ≡ Less → sent_cmp a b ≡ Less
   rise x y a b p q less =
       let px = in_part (is_some (get waits (wait_for (queue_key_of x) carrier.number)))
       (download_at broadcasts x) a p in
@@ -161,31 +137,33 @@ module _ {S : Type 0} (waits : FinMap wait_cmp Subject)
       (download_at broadcasts y) b q in
       let tx = download_at-is x a px.1 in
       let ty = download_at-is y b py.1 in
-      (λ i. queue_cmp (sym tx.2 i) (sym ty.2 i)) ∙ less
+      (λ i. sent_cmp (sym tx.2 i) (sym ty.2 i)) ∙ less
 
   module _ (whole : HasAll waits carrier.number part)
       (ordered : IsStrictlySortedBy (on queue_key_of download_cmp) (keys_of part))
-      (found later : List DownloadImpl)
-      (all : found ++ later ≡ filter_map (λ (e : DownloadKeyImpl × Unit {0}). listed e.0) part)
+      (found : List DownloadImpl) (later : List Sent)
+      (all : map sent_of found ++ later
+      ≡ filter_map (λ (e : DownloadKeyImpl × Unit {0}). listed e.0) part)
     where
-      sorted : IsStrictlySortedBy queue_cmp (found ++ later)
-      sorted = subst (IsStrictlySortedBy queue_cmp) (sym all)
-          (listed-sorted listed (on queue_key_of download_cmp) queue_cmp rise part ordered)
+      sorted : IsStrictlySortedBy sent_cmp (map sent_of found ++ later)
+      sorted = subst (IsStrictlySortedBy sent_cmp) (sym all)
+          (listed-sorted listed (on queue_key_of download_cmp) sent_cmp rise part ordered)
 
       -- A pending download is listed.
       listed-there : (minute id attempt : ℕ) (row : BroadcastRow)
           → IsQueued content carrier.number minute id attempt row →
-          (d : DownloadImpl) × Among d (found ++ later) × ((d.minute.number ≡ minute) × (d.id ≡ id)
-          × (d.attempt ≡ attempt))
+          (s : Sent) × Among s (map sent_of found ++ later) × ((s.key.minute ≡ minute)
+          × (s.key.id ≡ id) × (s.key.attempt ≡ attempt))
       listed-there minute id attempt row is =
           let m = whole (wait_key carrier.number minute id attempt) refl is.0 in
-          let t = is-download_at m.0.0 row ((λ i. get content.broadcasts
-          (broadcast_key ((m.2 i).id) ((m.2 i).attempt))) ∙ is.1) in (
-            download_from m.0.0 t.0,
-            subst (Among (download_from m.0.0 t.0)) (sym all)
-                (among-listed listed part m.0 (download_from m.0.0 t.0) m.1
+          let at : get broadcasts (broadcast_key m.0.0.id m.0.0.attempt) ≡ Some row =
+          (λ i. get broadcasts (broadcast_key ((m.2 i).id) ((m.2 i).attempt))) ∙ is.1 in (
+            sent_from m.0.0 row,
+            subst (Among (sent_from m.0.0 row)) (sym all)
+                (among-listed listed part m.0 (sent_from m.0.0 row) m.1
                 (ap (λ b. cond b (download_at broadcasts m.0.0) None)
-                (ap (λ d. is_some (get waits (wait_for d carrier.number))) m.2 ∙ is.0) ∙ t.1)),
+                (ap (λ d. is_some (get waits (wait_for d carrier.number))) m.2 ∙ is.0)
+                ∙ ap (option_map (sent_from m.0.0)) at)),
             (
               ap (λ (v : Download). v.minute) m.2,
               ap (λ (v : Download). v.id) m.2,
@@ -193,44 +171,61 @@ module _ {S : Type 0} (waits : FinMap wait_cmp Subject)
             ),
           )
 
+      described : (d : DownloadImpl) → IsSent (sent_of d)
+          → IsWaitingDownload content carrier.number d
+      described d is =
+          (is.0, is.1, record { subject = is.2; action = is.3; routing = is.4 })
+
+      all-sent : AllByRecursion (λ d. IsSent (sent_of d)) found
+      all-sent = all-mapped IsSent sent_of found (all-front IsSent (map sent_of found) later
+          (subst (AllByRecursion IsSent) (sym all) (all-listed listed IsSent waits-is part)))
+
       front-are : (later ≡ []) ⊎ (length found ≡ many) → length found ≤ many
           → AreFirst content (spid_of carrier) many found
       front-are ends most = record {
         each = λ minute id attempt row is.
             let m = listed-there minute id attempt row is in
-            place minute id attempt m.0 m.2 (among-parts m.0 found later m.1) ends;
-        only = all-places (IsWaitingDownload content carrier.number) found
-            (all-front (IsWaitingDownload content carrier.number) found later
-            (subst (AllByRecursion (IsWaitingDownload content carrier.number)) (sym all)
-            (all-listed listed (IsWaitingDownload content carrier.number) waits-is part)));
-        rises = sorted-front queue_cmp found later sorted;
+            place minute id attempt m.0 m.2 (among-parts m.0 (map sent_of found) later m.1) ends;
+        only = λ k d inside. described (get_or found k d)
+            (all-places (λ x. IsSent (sent_of x)) found all-sent k d inside);
+        rises = sorted-mapped sent_of sent_cmp found
+            (sorted-front sent_cmp (map sent_of found) later sorted);
         most = most;
       }
         where
-          place : (minute id attempt : ℕ) (d : DownloadImpl)
-              → (d.minute.number ≡ minute) × (d.id ≡ id) × (d.attempt ≡ attempt)
-              → Among d found ⊎ Among d later → (later ≡ [])
+          place : (minute id attempt : ℕ) (s : Sent)
+              → (s.key.minute ≡ minute) × (s.key.id ≡ id) × (s.key.attempt ≡ attempt)
+              → Among s (map sent_of found) ⊎ Among s later → (later ≡ [])
               ⊎ (length found ≡ many) →
               ((x : DownloadImpl) × Contains found x × (x.minute.number ≡ minute) × (x.id ≡ id)
               × (x.attempt ≡ attempt)) ⊎ ((length found ≡ many) × IsBehind minute id attempt found)
-          place minute id attempt d same (inl there) ends =
-              inl (d, contained d found there, same.0, same.1, same.2)
-          place minute id attempt d same (inr there) (inl none) =
-              absurd (no-member d (subst (Among d) none there))
-          place minute id attempt d same (inr there) (inr full) = inr (full, behind)
+          place minute id attempt s same (inl there) ends =
+              let m = among-mapped sent_of s found there in
+              inl (
+                m.0,
+                contained m.0 found m.1,
+                ap (λ (x : Sent). x.key.minute) m.2 ∙ same.0,
+                ap (λ (x : Sent). x.key.id) m.2 ∙ same.1,
+                ap (λ (x : Sent). x.key.attempt) m.2 ∙ same.2,
+              )
+          place minute id attempt s same (inr there) (inl none) =
+              absurd (no-member s (subst (Among s) none there))
+          place minute id attempt s same (inr there) (inr full) = inr (full, behind)
             where
               behind : IsBehind minute id attempt found
               behind = subst (λ m. IsBehind m id attempt found) same.0
-                  (subst (λ i. IsBehind d.minute.number i attempt found) same.1
-                  (subst (λ a. IsBehind d.minute.number d.id a found) same.2
-                  (all-places (λ x. queue_cmp x d ≡ Less) found (sorted-before queue_cmp found later
-                  d sorted there))))
+                  (subst (λ i. IsBehind s.key.minute i attempt found) same.1
+                  (subst (λ a. IsBehind s.key.minute s.key.id a found) same.2
+                  (all-places (λ x. sent_cmp (sent_of x) s ≡ Less) found
+                  (all-mapped (λ x. sent_cmp x s ≡ Less) sent_of found
+                  (sorted-before sent_cmp (map sent_of found) later s sorted there)))))
 
   -- The loop's list is the list of the part.
   pub walked : HasAll waits carrier.number part
       → IsStrictlySortedBy (on queue_key_of download_cmp) (keys_of part)
       → (found : List DownloadImpl) (rest : List (DownloadKeyImpl × Unit {0}))
-      → found ++ filter_map (λ e. listed e.0) rest ≡ filter_map (λ e. listed e.0) part
+      → map sent_of found ++ filter_map (λ e. listed e.0) rest
+      ≡ filter_map (λ e. listed e.0) part
       → (rest ≡ []) ⊎ (length found ≡ many) → length found ≤ many
       → AreFirst content (spid_of carrier) many found
   walked whole ordered found rest so_far ends most =

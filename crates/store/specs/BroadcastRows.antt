@@ -1,5 +1,5 @@
 -- The rows of broadcasts by their keys.
-use Rattle.std.specs.Prelude.{◌≡◌, ◌==◌, ◌&&◌, Bool, List, map, Option, Some, None, cond, option_map}
+use Rattle.std.specs.Prelude.{◌≡◌, ◌==◌, ◌&&◌, Bool, true, false, List, map, Option, Some, None, cond, option_map}
 use Rattle.std.specs.Ordering.{on}
 use Rattle.std.specs.BTreeMap as tree
 use Rattle.std.specs.BTreeMap.{BTreeMap}
@@ -11,7 +11,11 @@ use Rattle.settle.specs.Abstraction.{broadcast_key_of, broadcast_row_of}
 use Rattle.settle.specs.Changes.{delete_rows, put_rows, same_broadcast}
 use Rattle.settle.specs.declared.rows.BroadcastKey.{BroadcastKey as BroadcastKeyImpl}
 use Rattle.store.specs.Maps.{seen_entries}
+use Rattle.store.specs.PackedRows.{subject_in, routing_at}
 use Rattle.store.specs.declared.keys.BroadcastId.{BroadcastId}
+use Rattle.store.specs.declared.packed_broadcast.PackedBroadcast.{PackedBroadcast}
+use Rattle.store.specs.declared.packed_broadcast.Progress.{Progress}
+use Rattle.store.specs.declared.packed_broadcast.Progress.TheVariants.{Unanswered, Answered, ClosedUnanswered, ClosedAnswered}
 
 abbrev pub broadcast_id_of : BroadcastId → BroadcastKey
 broadcast_id_of k = record { id = k.id; attempt = k.attempt }
@@ -20,10 +24,35 @@ broadcast_id_of k = record { id = k.id; attempt = k.attempt }
 abbrev pub same_id : BroadcastId → BroadcastId → Bool
 same_id a b = (a.id == b.id) && (a.attempt == b.attempt)
 
-abbrev pub broadcasts_of : {S : Type 0} → HashMap BroadcastId Broadcast S
+-- Whether a broadcast with this progress is open.
+abbrev pub is_open_in : Progress → Bool
+is_open_in Unanswered = true
+is_open_in Answered = true
+is_open_in ClosedUnanswered = false
+is_open_in ClosedAnswered = false
+
+-- Whether some recipient has acknowledged a broadcast with this progress.
+abbrev pub is_acknowledged_in : Progress → Bool
+is_acknowledged_in Unanswered = false
+is_acknowledged_in Answered = true
+is_acknowledged_in ClosedUnanswered = false
+is_acknowledged_in ClosedAnswered = true
+
+-- The row that is packed.
+abbrev pub packed_row_of : PackedBroadcast → BroadcastRow
+packed_row_of p = record {
+  minute = p.minute.number;
+  subject = subject_in p.block.number p.line;
+  action = p.action;
+  routing = routing_at p.routing;
+  is_open = is_open_in p.progress;
+  any = is_acknowledged_in p.progress;
+}
+
+abbrev pub broadcasts_of : {S : Type 0} → HashMap BroadcastId PackedBroadcast S
     → FinMap broadcast_cmp BroadcastRow
 broadcasts_of m =
-    from_entries {R = broadcast_cmp} (seen_entries broadcast_id_of broadcast_row_of m.entries)
+    from_entries {R = broadcast_cmp} (seen_entries broadcast_id_of packed_row_of m.entries)
 
 -- ---- rows written and deleted
 

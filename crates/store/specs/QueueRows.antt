@@ -3,19 +3,16 @@ use Rattle.std.specs.Prelude.{◌≡◌, ◌==◌, ℕ, true, List, [], ◌∷�
 use Rattle.std.specs.Ordering.{nat_cmp, is_le, eq_by_cmp}
 use Rattle.std.specs.Map.{lookup}
 use Rattle.std.specs.BTreeMap.{BTreeMap}
-use Rattle.std.specs.HashMap as hash
-use Rattle.std.specs.HashMap.{HashMap}
 use Rattle.std.specs.FinMap.{FinMap, get}
 use Rattle.numbers.specs.Subjects.{Subject, subject_key}
-use Rattle.numbers.specs.Abstraction.{key_of}
+use Rattle.numbers.specs.Routings.{Routing}
+use Rattle.numbers.specs.Abstraction.{key_of, routing_of, subject_of}
 use Rattle.numbers.specs.declared.ported.Subject.{Subject as SubjectImpl}
-use Rattle.model.specs.Content.{WaitKey, wait_cmp}
-use Rattle.delivery.specs.declared.broadcast.Broadcast.{Broadcast}
+use Rattle.model.specs.declared.words.Action.{Action}
+use Rattle.model.specs.Content.{BroadcastRow, broadcast_cmp, broadcast_key, WaitKey, wait_cmp}
 use Rattle.delivery.specs.declared.download.Download.{Download as DownloadImpl}
 use Rattle.delivery.specs.declared.download.DownloadKey.{DownloadKey as DownloadKeyImpl}
 use Rattle.store.specs.Maps.{map_of, set}
-use Rattle.store.specs.BroadcastRows.{same_id}
-use Rattle.store.specs.declared.keys.BroadcastId.{BroadcastId}
 use Rattle.store.specs.WaitRows.{Download, download_cmp, download_of, wait_for, Waiting}
 
 -- The key of a broadcast in queue order.
@@ -55,28 +52,37 @@ AreCursors cursors waits = (carrier : ℕ)
 
 -- ---- a carrier's downloads
 
-abbrev pub broadcast_of : DownloadKeyImpl → BroadcastId
-broadcast_of k = record { id = k.id; attempt = k.attempt }
+-- What a carrier is sent of a broadcast, with the broadcast's key.
+pub record Sent : Type 0 where
+  pub key : Download
+  pub subject : Subject
+  pub action : Action
+  pub routing : Option Routing
 
-abbrev pub download_from : DownloadKeyImpl → Broadcast → DownloadImpl
-download_from k b = record {
-  id = k.id;
-  attempt = k.attempt;
-  minute = k.minute;
+abbrev pub sent_of : DownloadImpl → Sent
+sent_of d = record {
+  key = record { minute = d.minute.number; id = d.id; attempt = d.attempt };
+  subject = subject_of d.subject;
+  action = d.action;
+  routing = option_map routing_of d.routing;
+}
+
+abbrev pub sent_from : DownloadKeyImpl → BroadcastRow → Sent
+sent_from k b = record {
+  key = queue_key_of k;
   subject = b.subject;
   action = b.action;
   routing = b.routing;
 }
 
--- The download with what its broadcast says of it, if the broadcast is there.
-abbrev pub download_at : {S : Type 0} → HashMap BroadcastId Broadcast S → DownloadKeyImpl
-    → Option DownloadImpl
+-- What the broadcast's row says of the download, if the row is there.
+abbrev pub download_at : FinMap broadcast_cmp BroadcastRow → DownloadKeyImpl → Option Sent
 download_at broadcasts k =
-    option_map (download_from k) (hash.get same_id broadcasts (broadcast_of k))
+    option_map (sent_from k) (get broadcasts (broadcast_key k.id k.attempt))
 
 -- The same, if the download is pending for the carrier.
-abbrev pub pending_at : {S : Type 0} → FinMap wait_cmp Subject
-    → HashMap BroadcastId Broadcast S → (carrier : ℕ) → DownloadKeyImpl → Option DownloadImpl
+abbrev pub pending_at : FinMap wait_cmp Subject → FinMap broadcast_cmp BroadcastRow → (carrier : ℕ)
+    → DownloadKeyImpl → Option Sent
 pending_at waits broadcasts carrier k =
     cond (is_some (get waits (wait_for (queue_key_of k) carrier))) (download_at broadcasts k) None
 

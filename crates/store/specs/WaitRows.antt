@@ -16,10 +16,12 @@ use Rattle.numbers.specs.declared.spid.Spid.{Spid}
 use Rattle.model.specs.Content.{WaitKey, wait_cmp, wait_key}
 use Rattle.delivery.specs.declared.download.DownloadKey.{DownloadKey as DownloadKeyImpl}
 use Rattle.settle.specs.Abstraction.{spid_of}
-use Rattle.settle.specs.Lists.{items_of}
 use Rattle.store.specs.Lists.{is_subject}
 use Rattle.store.specs.Maps.{seen_entries}
 use Rattle.store.specs.declared.keys.RowKey.{RowKey as RowKeyImpl}
+use Rattle.store.specs.PackedRows.{subject_in}
+use Rattle.store.specs.declared.waiting.Carriers.{Carriers}
+use Rattle.store.specs.declared.waiting.Carriers.TheVariants as carriers
 use Rattle.store.specs.declared.waiting.Waiting.{Waiting as WaitingImpl}
 
 -- A download without its carrier.
@@ -64,8 +66,15 @@ awaited (Some w) carrier = cond (list_any (λ k. carrier == k) w.1) (Some w.0) N
 abbrev pub row_key_of : RowKeyImpl → Download
 row_key_of k = record { minute = k.minute; id = k.id; attempt = k.attempt }
 
+-- The carriers of a row in order.
+abbrev pub spids_of : Carriers → List Spid
+spids_of carriers.Nobody = []
+spids_of (carriers.One own) = own
+spids_of (carriers.Two own) = own
+spids_of (carriers.Many all) = all.value.items
+
 abbrev pub waiting_of : WaitingImpl → Waiting
-waiting_of w = (subject_of w.subject, map spid_of (items_of w.carriers))
+waiting_of w = (subject_in w.block.number w.line, map spid_of (spids_of w.carriers))
 
 abbrev pub rows_of : List (RowKeyImpl × WaitingImpl) → FinMap download_cmp Waiting
 rows_of es = from_entries {R = download_cmp} (seen_entries row_key_of waiting_of es)

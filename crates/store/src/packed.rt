@@ -95,7 +95,8 @@ fn minute_at(number: u64) -> Option<Minute>
     Minute::new(number)
 }
 
-fn packed_routing(routing: Option<Routing>) -> u64
+/// Returns the number of a routing, or that of a missing one.
+pub fn packed_routing(routing: Option<Routing>) -> u64
     ensures { routing_at result ≡ option_map routing_of routing }
 {
     match routing {
@@ -122,7 +123,8 @@ fn cic_at(number: u64) -> Option<Cic>
     }
 }
 
-fn routing_at(number: u64) -> Option<Routing>
+/// Returns the routing of a number, unless the number is that of a missing routing.
+pub fn routing_at(number: u64) -> Option<Routing>
     ensures { option_map routing_of result ≡ routing_at number }
 {
     let lrn = number / CICS;
@@ -136,8 +138,8 @@ fn routing_at(number: u64) -> Option<Routing>
     }
 }
 
-// Returns the block, and the line of a number or `WHOLE_BLOCK`.
-fn packed_subject(subject: Subject) -> (BlockId, u16)
+/// Returns the block of a subject, and the line of a number, or a line that no number has.
+pub fn packed_subject(subject: Subject) -> (BlockId, u16)
     ensures { subject_in result.0.number result.1 ≡ subject_of subject }
 {
     match subject {
@@ -146,7 +148,8 @@ fn packed_subject(subject: Subject) -> (BlockId, u16)
     }
 }
 
-fn subject_in(block: BlockId, line: u16) -> Subject
+/// Returns the subject that was packed.
+pub fn subject_in(block: BlockId, line: u16) -> Subject
     ensures { subject_of result ≡ subject_in block.number line }
 {
     if line < WHOLE_BLOCK {

@@ -15,8 +15,9 @@ ghost use Rattle.store.specs.BroadcastRows.{broadcasts_of};
 ghost use Rattle.store.specs.QueueRows.{queue_key_of, AreCursors, IsCursor};
 
 use crate::keys::{BroadcastId, queue_key};
+use crate::packed_broadcast::PackedBroadcast;
 use crate::waits::Waits;
-use delivery::{Broadcast, Download, DownloadKey};
+use delivery::{Download, DownloadKey};
 use numbers::{Minute, Spid, Subject};
 use settle::{Few, WaitKey};
 use std::alloc::{AllocError, Global};
@@ -182,7 +183,7 @@ impl Queues {
     pub fn front(
         &mut self,
         alloc: Global,
-        broadcasts: &HashMap<BroadcastId, Broadcast>,
+        broadcasts: &HashMap<BroadcastId, PackedBroadcast>,
         carrier: Spid,
         many: usize,
     ) -> Result<Vec<Download>, AllocError>

@@ -4,22 +4,64 @@ ghost use Rattle.std.specs.List.{list_any};
 ghost use Rattle.std.specs.Option.{option_to_list};
 ghost use Rattle.numbers.specs.Abstraction.{subject_of};
 ghost use Rattle.numbers.specs.declared.spid.Spid.{Spid};
-ghost use Rattle.settle.specs.Lists.{items_of};
-ghost use Rattle.store.specs.WaitRows.{waiting_of, awaited, IsFirst, IsAdded, IsWithout};
+ghost use Rattle.store.specs.WaitRows.{spids_of, waiting_of, awaited, IsFirst, IsAdded, IsWithout};
 
-use numbers::{Spid, Subject};
-use settle::Few;
+use crate::packed::{packed_subject, subject_in};
+use numbers::{BlockId, Spid, Subject};
 use std::alloc::{AllocError, Global};
 
 // The number of carriers that a row gets room for with its third one, so that most rows grow once.
 const MANY: usize = 16;
 
-/// A broadcast's subject, and the carriers that still have to acknowledge it. Up to two carriers need
-/// no memory beside the row.
+/// Carriers in the order in which they were added. Up to two need no memory beside the row. More are
+/// boxed, since a broadcast is seldom pending for more of them for long.
+#[derive(Drop)]
+pub enum Carriers {
+    Nobody,
+    One([Spid; 1]),
+    Two([Spid; 2]),
+    Many(Box<Vec<Spid>>),
+}
+
+impl Carriers {
+    // Creates a list of those of `first` and `second` that are `Some`, in this order.
+    fn of(first: Option<Spid>, second: Option<Spid>) -> Carriers
+        ensures { spids_of result ≡ option_to_list first ++ option_to_list second }
+    {
+        match first {
+            None => match second {
+                None => Carriers::Nobody,
+                Some(carrier) => Carriers::One([carrier]),
+            },
+            Some(first) => match second {
+                None => Carriers::One([first]),
+                Some(second) => Carriers::Two([first, second]),
+            },
+        }
+    }
+
+    /// Returns the carriers in order.
+    pub fn as_slice(&self) -> &[Spid]
+        ensures { result.now ≡ spids_of self.now }
+    {
+        match self {
+            Carriers::Nobody => &[],
+            Carriers::One(own) => own.as_slice(),
+            Carriers::Two(own) => own.as_slice(),
+            Carriers::Many(all) => all.as_slice(),
+        }
+    }
+}
+
+/// A broadcast's subject, and the carriers that still have to acknowledge it, in 24 bytes.
+///
+/// The subject is packed into the number of its block and a line. Fields lie in their order, so the
+/// widest is first.
 #[derive(Drop)]
 pub struct Waiting {
-    pub subject: Subject,
-    pub carriers: Few<Spid>,
+    pub carriers: Carriers,
+    block: BlockId,
+    line: u16,
 }
 
 /// Returns whether the carrier is among `carriers`.
@@ -42,29 +84,29 @@ fn other(removed: Spid, carrier: Spid) -> Option<Spid>
 }
 
 // Returns the carriers as a list that needs no memory, if there are at most two.
-fn in_place(carriers: &[Spid]) -> Option<Few<Spid>>
-    ensures { IfSome result (λ few. items_of few ≡ carriers.now) }
+fn in_place(carriers: &[Spid]) -> Option<Carriers>
+    ensures { IfSome result (λ few. spids_of few ≡ carriers.now) }
 {
     match carriers {
-        [] => Some(Few::Empty),
-        [only] => Some(Few::One([*only])),
-        [first, second] => Some(Few::Two([*first, *second])),
+        [] => Some(Carriers::Nobody),
+        [only] => Some(Carriers::One([*only])),
+        [first, second] => Some(Carriers::Two([*first, *second])),
         _ => None,
     }
 }
 
 // Removes a carrier. If at most two stay, frees the memory beside the row.
-fn remove_carrier(carrier: Spid, carriers: &mut Few<Spid>)
-    ensures { items_of carriers.new
-        ≡ filter (λ (k : Spid). not (carrier.number == k.number)) (items_of carriers.old) }
+fn remove_carrier(carrier: Spid, carriers: &mut Carriers)
+    ensures { spids_of carriers.new
+        ≡ filter (λ (k : Spid). not (carrier.number == k.number)) (spids_of carriers.old) }
 {
     match carriers {
-        Few::Empty => {}
-        Few::One(own) => *carriers = Few::of(other(carrier, own[0]), None),
-        Few::Two(own) => {
-            *carriers = Few::of(other(carrier, own[0]), other(carrier, own[1]));
+        Carriers::Nobody => {}
+        Carriers::One(own) => *carriers = Carriers::of(other(carrier, own[0]), None),
+        Carriers::Two(own) => {
+            *carriers = Carriers::of(other(carrier, own[0]), other(carrier, own[1]));
         }
-        Few::Many(all) => {
+        Carriers::Many(all) => {
             all.retain(|each| carrier.number != each.number);
             if let Some(few) = in_place(all.as_slice()) {
                 *carriers = few;
@@ -74,21 +116,23 @@ fn remove_carrier(carrier: Spid, carriers: &mut Few<Spid>)
 }
 
 // Adds a carrier. Changes nothing if an allocation fails.
-fn push_carrier(alloc: Global, carrier: Spid, carriers: &mut Few<Spid>) -> Result<(), AllocError>
-    ensures ok { OnOk result (items_of carriers.new ≡ items_of carriers.old ++ carrier ∷ []) }
-    ensures err { OnErr result (items_of carriers.new ≡ items_of carriers.old) }
+fn push_carrier(alloc: Global, carrier: Spid, carriers: &mut Carriers) -> Result<(), AllocError>
+    ensures ok { OnOk result (spids_of carriers.new ≡ spids_of carriers.old ++ carrier ∷ []) }
+    ensures err { OnErr result (spids_of carriers.new ≡ spids_of carriers.old) }
 {
     match carriers {
-        Few::Two(own) => {
+        Carriers::Nobody => *carriers = Carriers::One([carrier]),
+        Carriers::One(own) => *carriers = Carriers::Two([own[0], carrier]),
+        Carriers::Two(own) => {
             let mut many = Vec::with_capacity(alloc, MANY)?;
             many.push(own[0])?;
             many.push(own[1])?;
             many.push(carrier)?;
-            *carriers = Few::Many(many);
-            Ok(())
+            *carriers = Carriers::Many(Box::new(alloc, many)?);
         }
-        _ => carriers.push(alloc, carrier),
+        Carriers::Many(all) => all.push(carrier)?,
     }
+    Ok(())
 }
 
 impl Waiting {
@@ -96,10 +140,19 @@ impl Waiting {
     pub fn of(carrier: Spid, subject: Subject) -> Waiting
         ensures { IsFirst carrier.number (subject_of subject) (waiting_of result) }
     {
+        let (block, line) = packed_subject(subject);
         Waiting {
-            subject,
-            carriers: Few::One([carrier]),
+            carriers: Carriers::One([carrier]),
+            block,
+            line,
         }
+    }
+
+    /// Returns the broadcast's subject.
+    pub fn subject(&self) -> Subject
+        ensures { subject_of result ≡ (waiting_of self.now).0 }
+    {
+        subject_in(self.block, self.line)
     }
 
     /// Returns the subject if the broadcast is pending for the carrier.
@@ -108,7 +161,7 @@ impl Waiting {
             ≡ awaited (Some (waiting_of self.now)) carrier.number }
     {
         if is_among(carrier, self.carriers.as_slice()) {
-            Some(self.subject)
+            Some(self.subject())
         } else {
             None
         }
@@ -129,7 +182,7 @@ impl Waiting {
             (waiting_of self.new)) }
         ensures refused { OnErr result (waiting_of self.new ≡ waiting_of self.old) }
     {
-        if self.subject != subject {
+        if self.subject() != subject {
             return Err(AllocError);
         }
         let before = self.subject_for(carrier);

@@ -12,14 +12,15 @@ ghost use Rattle.settle.specs.Reads.{AreWaitingSubjects, AreFirst, AreWaitsAbout
 ghost use Rattle.settle.specs.Abstraction.{spid_of, wait_key_of};
 ghost use Rattle.store.specs.Maps.{set};
 ghost use Rattle.store.specs.BroadcastRows.{broadcasts_of};
-ghost use Rattle.store.specs.QueueRows.{queue_key_of, order_of, download_at, pending_at, IsCursor};
+ghost use Rattle.store.specs.QueueRows.{queue_key_of, order_of, sent_of, download_at, pending_at, IsCursor};
 ghost use Rattle.store.specs.About.{about_of, AreKeysAdded, AreKeysKept, AreKeysRemoved};
 ghost use Rattle.store.specs.WaitRows.{row_key_of, download_of, wait_for};
 
 use crate::about::{Broadcasts, add_broadcast, pending_among, rank_of, remove_broadcast};
 use crate::keys::{BroadcastId, RowKey, queue_key};
+use crate::packed_broadcast::PackedBroadcast;
 use crate::waiting::Waiting;
-use delivery::{Broadcast, Download, DownloadKey};
+use delivery::{Download, DownloadKey};
 use numbers::{Spid, Subject};
 use settle::{Few, WaitKey};
 use std::alloc::{AllocError, Global};
@@ -125,13 +126,17 @@ fn remove_keys(
 }
 
 // Returns the download with what its broadcast says of it, if the broadcast is there.
-fn download_at(broadcasts: &HashMap<BroadcastId, Broadcast>, key: DownloadKey) -> Option<Download>
-    ensures { result ≡ download_at broadcasts.now key }
+fn download_at(
+    broadcasts: &HashMap<BroadcastId, PackedBroadcast>,
+    key: DownloadKey,
+) -> Option<Download>
+    ensures { option_map sent_of result ≡ download_at (broadcasts_of broadcasts.now) key }
 {
-    let broadcast = broadcasts.get(&BroadcastId {
+    let row = broadcasts.get(&BroadcastId {
         id: key.id,
         attempt: key.attempt,
     })?;
+    let broadcast = row.unpacked();
     Some(Download {
         id: key.id,
         attempt: key.attempt,
@@ -224,7 +229,7 @@ impl Waits {
         let before = row.subject_for(key.carrier);
         row.take(key.carrier);
         if row.carriers.as_slice().is_empty() {
-            let subject = row.subject;
+            let subject = row.subject();
             let _ = self.rows.remove(&broadcast);
             remove_keys(&mut self.about, &mut self.order, subject, key);
         }
@@ -290,11 +295,12 @@ impl Waits {
     // `broadcasts`.
     fn pending_at(
         &self,
-        broadcasts: &HashMap<BroadcastId, Broadcast>,
+        broadcasts: &HashMap<BroadcastId, PackedBroadcast>,
         key: DownloadKey,
         carrier: Spid,
     ) -> Option<Download>
-        ensures { result ≡ pending_at self.now broadcasts.now carrier.number key }
+        ensures { option_map sent_of result
+            ≡ pending_at self.now (broadcasts_of broadcasts.now) carrier.number key }
     {
         if self.get(wait_key(key, carrier)).is_some() {
             download_at(broadcasts, key)
@@ -308,7 +314,7 @@ impl Waits {
     pub fn front_from(
         &self,
         alloc: Global,
-        broadcasts: &HashMap<BroadcastId, Broadcast>,
+        broadcasts: &HashMap<BroadcastId, PackedBroadcast>,
         start: DownloadKey,
         carrier: Spid,
         many: usize,

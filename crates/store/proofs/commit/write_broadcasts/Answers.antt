@@ -7,6 +7,7 @@ use Rattle.settle.specs.Abstraction.{broadcast_key_of, broadcast_row_of}
 use Rattle.settle.proofs.Rest.{rest_at}
 use Rattle.store.specs.Maps.{seen_entries}
 use Rattle.std.specs.HashMap as hash
+use Rattle.std.specs.FinMap.{get}
 use Rattle.store.specs.BroadcastRows.{broadcasts_of, same_id, AreBroadcastsPut}
 use Rattle.store.specs.declared.keys.BroadcastId.{BroadcastId}
 use Rattle.store.proofs.BroadcastRows.{broadcast-set}
@@ -19,8 +20,9 @@ loop-key-preserved c =
     let inside = c.loop-key-test.true in
     let kept = c.insert.ensures.spare in
     let put_one : (q : BroadcastId) → hash.get same_id c.insert.new.self q
-    ≡ cond (same_id c.of.result q) (Some e.1) (hash.get same_id c.loop-key.table q) = search rules
-    in
+    ≡ cond (same_id c.of.result q) (Some c.of-in-loop-key.result) (hash.get same_id c.loop-key.table
+    q) =
+    search rules in
     record {
       written = λ last put. c.loop-key.invariant.written last
           (subst (λ (es : List (BroadcastKey × Broadcast)). AreBroadcastsPut es
@@ -30,7 +32,9 @@ loop-key-preserved c =
           ∙ ap (put_rows same_broadcast (seen_entries broadcast_key_of broadcast_row_of
           (drop (c.loop-key.key-index + 1) c.args.broadcasts.now)) k)
           (broadcast-set c.loop-key.table c.insert.new.self c.of.result (broadcast_key_of e.0)
-          (Some e.1) c.of.ensures put_one k)));
+          (Some c.of-in-loop-key.result) c.of.ensures put_one k
+          ∙ ap (λ row. cond (same_broadcast (broadcast_key_of e.0) k) (Some row)
+          (get (broadcasts_of c.loop-key.table) k)) c.of-in-loop-key.ensures)));
       room = omega (arith, room, kept);
     }
 

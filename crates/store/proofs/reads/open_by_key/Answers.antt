@@ -1,5 +1,5 @@
 use Rattle.std.proofs.Common.{rules, ◌≡◌, [], ◌∷◌, ap, sym, ◌∙◌}
-use Rattle.store.proofs.OpenListed.{listed_so_far, none-listed, open-step, open-are}
+use Rattle.store.proofs.OpenListed.{listed_so_far, none-listed, open-step, closed-step, open-are}
 use Rattle.store.proofs.reads.open_by_key.Goals as goal
 
 pub loop-id-init : goal.loop-id-init
@@ -9,11 +9,19 @@ loop-id-init c =
 
 pub loop-id-preserved-then-broadcast : goal.loop-id-preserved-then-broadcast
 loop-id-preserved-then-broadcast c k =
-    let next : c.loop-id.id-iterator ≡ (c.in-Some.id.now, c.in-Some.broadcast.now)
-    ∷ c.next.new.self = search rules in
-    open-step (c.in-Some.id.now, c.in-Some.broadcast.now) c.next.new.self c.loop-id.ordered
-    c.insert.new.self c.key.result c.if-broadcast.true c.key.ensures
-    c.in_ok-insert.ensures.updates.0 k
+    let next : c.loop-id.id-iterator ≡ (c.in-Some.id.now, c.in-Some.row.now) ∷ c.next.new.self =
+    search rules in
+    open-step (c.in-Some.id.now, c.in-Some.row.now) c.next.new.self c.unpacked-broadcast.result
+    c.loop-id.ordered c.insert.new.self c.key.result c.unpacked-broadcast.ensures
+    c.if-broadcast.true c.key.ensures c.in_ok-insert.ensures.updates.0 k
+    ∙ ap (λ es. listed_so_far es c.loop-id.ordered k) (sym next) ∙ c.loop-id.invariant k
+
+pub loop-id-preserved : goal.loop-id-preserved
+loop-id-preserved c k =
+    let next : c.loop-id.id-iterator ≡ (c.in-Some.id.now, c.in-Some.row.now) ∷ c.next.new.self =
+    search rules in
+    closed-step (c.in-Some.id.now, c.in-Some.row.now) c.next.new.self c.unpacked-broadcast.result
+    c.loop-id.ordered c.unpacked-broadcast.ensures c.if-broadcast.false k
     ∙ ap (λ es. listed_so_far es c.loop-id.ordered k) (sym next) ∙ c.loop-id.invariant k
 
 pub returns : goal.returns

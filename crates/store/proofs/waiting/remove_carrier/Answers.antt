@@ -1,22 +1,30 @@
-use Rattle.std.proofs.Common.{rules, sym, ◌∙◌, ap}
+use Rattle.std.proofs.Common.{rules, ◌≡◌, sym, ◌∙◌, ap}
 use Rattle.std.specs.Prelude.{◌==◌, not, filter}
+use Rattle.std.specs.Global.{Vec}
 use Rattle.std.proofs.lemmas.Fn.{filter_same}
 use Rattle.numbers.specs.declared.spid.Spid.{Spid}
-use Rattle.settle.specs.Lists.{items_of}
-use Rattle.settle.specs.declared.few.Few.{Few}
+use Rattle.store.specs.WaitRows.{spids_of}
+use Rattle.store.specs.declared.waiting.Carriers.{Carriers}
 use Rattle.store.proofs.waiting.remove_carrier.Goals as goal
 
 pub returns-in-Some : goal.returns-in-Some
 returns-in-Some c =
-    c.in-Some.ensures ∙ c.as_slice.ensures.value
+    let seen : c.as_slice.result.now ≡ c.retain.new.self.items = search rules in
+    c.in-Some.ensures ∙ seen
     ∙ filter_same _ (λ (k : Spid). not (c.args.carrier.number == k.number)) _
-    (λ x r f' k. search rules) c.in-Many.all.items c.retain.new.self.items c.retain.ensures.filtered
-    ∙ sym (ap (λ (few : Few Spid). filter (λ (k : Spid). not (c.args.carrier.number == k.number))
-    (items_of few)) c.in-Many.is)
+    (λ x r f' k. search rules) c.deref_mut.result.now.items c.retain.new.self.items
+    c.retain.ensures.filtered
+    ∙ ap (λ (all : Vec Spid). filter (λ (k : Spid). not (c.args.carrier.number == k.number))
+    all.items) c.deref_mut.ensures.value
+    ∙ sym (ap (λ (few : Carriers). filter (λ (k : Spid). not (c.args.carrier.number == k.number))
+    (spids_of few)) c.in-Many.is)
 
 pub returns-in_default : goal.returns-in_default
 returns-in_default c =
     filter_same _ (λ (k : Spid). not (c.args.carrier.number == k.number)) _
-    (λ x r f' k. search rules) c.in-Many.all.items c.retain.new.self.items c.retain.ensures.filtered
-    ∙ sym (ap (λ (few : Few Spid). filter (λ (k : Spid). not (c.args.carrier.number == k.number))
-    (items_of few)) c.in-Many.is)
+    (λ x r f' k. search rules) c.deref_mut.result.now.items c.retain.new.self.items
+    c.retain.ensures.filtered
+    ∙ ap (λ (all : Vec Spid). filter (λ (k : Spid). not (c.args.carrier.number == k.number))
+    all.items) c.deref_mut.ensures.value
+    ∙ sym (ap (λ (few : Carriers). filter (λ (k : Spid). not (c.args.carrier.number == k.number))
+    (spids_of few)) c.in-Many.is)

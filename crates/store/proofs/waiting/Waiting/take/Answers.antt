@@ -1,10 +1,10 @@
-use Rattle.numbers.specs.Abstraction.{subject_of}
-use Rattle.settle.specs.Lists.{items_of}
+use Rattle.store.specs.PackedRows.{subject_in}
+use Rattle.store.specs.WaitRows.{spids_of}
 use Rattle.store.proofs.OneRow.{without}
 use Rattle.store.proofs.waiting.Waiting.take.Goals as goal
 
 pub returns : goal.returns
 returns c =
-    without c.args.carrier.number (items_of c.args.self.now.carriers)
-    (items_of c.remove_carrier.new.carriers)
-    (subject_of c.args.self.now.subject) c.remove_carrier.ensures
+    without c.args.carrier.number (spids_of c.args.self.now.carriers)
+    (spids_of c.remove_carrier.new.carriers)
+    (subject_in c.args.self.now.block.number c.args.self.now.line) c.remove_carrier.ensures

@@ -4,8 +4,7 @@ use Rattle.std.specs.List.{list_any}
 use Rattle.std.specs.FinMap.{get}
 use Rattle.numbers.specs.declared.spid.Spid.{Spid}
 use Rattle.settle.specs.Abstraction.{wait_key_of}
-use Rattle.settle.specs.Lists.{items_of}
-use Rattle.store.specs.WaitRows.{download_of, wait_for}
+use Rattle.store.specs.WaitRows.{download_of, wait_for, spids_of}
 use Rattle.store.proofs.OneRow.{any-seen}
 use Rattle.store.proofs.WaitsKept.{wait-at}
 use Rattle.store.proofs.waits.Waits.carriers_of.Goals as goal
@@ -30,5 +29,5 @@ returns-in-Some c = λ carrier.
     (wait_for (download_of (wait_key_of c.args.key)) carrier) (Some c.in-Some.row.now)
     c.broadcast_of.ensures (search rules))
     ∙ is_there _ _
-    ∙ any-seen carrier (items_of c.in-Some.row.now.carriers)
+    ∙ any-seen carrier (spids_of c.in-Some.row.now.carriers)
     ∙ sym (ap (list_any (λ (k : Spid). carrier == k.number)) c.as_slice.ensures)

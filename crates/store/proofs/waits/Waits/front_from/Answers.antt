@@ -2,6 +2,7 @@ use Rattle.std.proofs.Common.{rules, ◌≡◌, inl, inr, [], length}
 use Rattle.std.specs.Ordering.{on}
 use Rattle.std.specs.BTreeMap.Range.{entries_between}
 use Rattle.std.specs.declared.ops.Bound.TheVariants.{Included, Unbounded}
+use Rattle.store.specs.BroadcastRows.{broadcasts_of}
 use Rattle.store.specs.QueueRows.{queue_key_of}
 use Rattle.store.specs.WaitRows.{download_cmp, rows_of}
 use Rattle.store.proofs.QueueListed.{walked}
@@ -16,7 +17,7 @@ returns-then-len-many c =
     let is = part-is c.self.inside.order c.args.start c.into_iter-key-iterator.result part
     (rows_of c.self.inside.rows.entries) c.args.carrier.number c.args.self.now c.self.invariant.1
     c.self.view_is c.range-key-items.ensures.ordered c.requires in
-    walked c.args.self.now c.args.broadcasts.now c.args.carrier c.args.many
+    walked c.args.self.now (broadcasts_of c.args.broadcasts.now) c.args.carrier c.args.many
     c.into_iter-key-iterator.result is.0 is.1 c.loop-key.found.items c.loop-key.key-iterator
     c.loop-key.invariant.0 (inr full) c.loop-key.invariant.1
 
@@ -28,6 +29,6 @@ returns c =
     let is = part-is c.self.inside.order c.args.start c.into_iter-key-iterator.result part
     (rows_of c.self.inside.rows.entries) c.args.carrier.number c.args.self.now c.self.invariant.1
     c.self.view_is c.range-key-items.ensures.ordered c.requires in
-    walked c.args.self.now c.args.broadcasts.now c.args.carrier c.args.many
+    walked c.args.self.now (broadcasts_of c.args.broadcasts.now) c.args.carrier c.args.many
     c.into_iter-key-iterator.result is.0 is.1 c.loop-key.found.items c.loop-key.key-iterator
     c.loop-key.invariant.0 (inl end) c.loop-key.invariant.1

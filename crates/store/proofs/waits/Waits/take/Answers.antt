@@ -3,11 +3,10 @@ use Rattle.std.specs.FinMap.{FinMap, get}
 use Rattle.numbers.specs.Subjects.{Subject}
 use Rattle.model.specs.Content.{wait_cmp}
 use Rattle.settle.specs.Abstraction.{spid_of, wait_key_of}
-use Rattle.settle.specs.Lists.{items_of}
 use Rattle.store.specs.Maps.{set}
 use Rattle.store.specs.About.{IsKey, about_of}
 use Rattle.store.specs.QueueRows.{HasKeysOf, order_of}
-use Rattle.store.specs.WaitRows.{download_of, waiting_of, rows_of, waits_of}
+use Rattle.store.specs.WaitRows.{download_of, spids_of, waiting_of, rows_of, waits_of}
 use Rattle.store.proofs.QueueOrder.{keys-stay, keys-changed}
 use Rattle.store.proofs.RowsChanged.{Agrees, agrees-kept, agrees-gone}
 use Rattle.store.proofs.WaitsKept.{row-at, wait-at, row-written, row-taken, without-waits, gone-waits, not-there}
@@ -44,7 +43,7 @@ invariant_of-self-then-is_empty c =
           (search rules))
           (subst (λ s. IsKey (about_of c.self.inside.about.entries)
           (about_of c.remove_keys.new.about.entries) s (download_of (wait_key_of c.args.key)) false)
-          c.take.ensures.same c.remove_keys.ensures.0),
+          (c.subject-subject.ensures ∙ c.take.ensures.same) c.remove_keys.ensures.0),
       keys-changed (rows_of c.self.inside.rows.entries) (order_of c.self.inside.order)
           c.self.invariant.1 (download_of (wait_key_of c.args.key))
           (rows_of c.remove.new.self.entries) (order_of c.remove_keys.new.order) None None gone
@@ -65,8 +64,8 @@ returns-then-is_empty-clause-taken c =
     (c.get_mut.follows.lender c.take.new.self).entries c.remove.new.self.entries
     c.broadcast_of-broadcast.result (wait_key_of c.args.key) c.take.new.self
     c.broadcast_of-broadcast.ensures (search rules) c.remove.ensures.updates.0 in
-    let nobody : items_of c.take.new.self.carriers ≡ [] =
-    no_members (items_of c.take.new.self.carriers) (search rules) in
+    let nobody : spids_of c.take.new.self.carriers ≡ [] =
+    no_members (spids_of c.take.new.self.carriers) (search rules) in
     gone-waits (rows_of c.self.inside.rows.entries) (rows_of c.remove.new.self.entries)
     (wait_key_of c.args.key) (waiting_of c.in-Some.row.now) (waiting_of c.take.new.self)
     (row-at c.self.inside.rows.entries c.broadcast_of-broadcast.result (wait_key_of c.args.key)
