@@ -1,0 +1,4 @@
+pub mod Sound
+pub mod Flaws
+pub mod Seen
+pub mod Words
