@@ -11,6 +11,7 @@ use Rattle.settle.specs.StoreContract.{BeginsGroup, BeginsNoGroup, EndsGroup, En
 use Rattle.settle.specs.declared.store.StoreFault.{StoreFault}
 use Rattle.settle.specs.declared.store_model.StoreModel.{Ghosts}
 use Rattle.api.specs.Serving.{RefinesReachable}
+use Rattle.connections.specs.Crashes.{LeavesContent}
 use Rattle.connections.specs.Rows.{RowsFollow}
 
 after_both : (st : State) (first then : List Input)
@@ -29,6 +30,7 @@ pub rows_stay : {S : Type 0} (store : Ghosts S) (s : S) → RowsFollow store s s
 rows_stay store s = record {
   usable = λ usable. usable;
   honest = λ honest. honest;
+  begins = λ m inside. inside;
   rises = le_refl (store.failed s);
   state = λ usable st refines. ([], refines);
 }
@@ -38,10 +40,19 @@ pub rows_then : {S : Type 0} (store : Ghosts S) (old mid new : S) → RowsFollow
 rows_then store old mid new before after = record {
   usable = λ usable. before.usable (after.usable usable);
   honest = λ honest. before.honest (after.honest honest);
+  begins = λ m inside. before.begins m (after.begins m inside);
   rises = le_trans before.rises after.rises;
   state = λ usable st refines. follows_then st (store.content mid) (store.content new)
       (before.state (after.usable usable) st refines) (after.state usable);
 }
+
+-- No group is left open, so a crash leaves the content.
+pub rows_last : {S : Type 0} (store : Ghosts S) (old new : S)
+    → ((s : S) (m : Content) → store.IsUsable s → (¬ HasGroup store s) → store.IsCrashState s m
+    → m ≡ store.content s)
+    → RowsFollow store old new → LeavesContent store old new
+rows_last store old new law follows = λ usable outside m left.
+    law new m usable (λ (at, inside). outside (at, follows.begins at inside)) left
 
 -- A look-up changes no row.
 pub rows_looked : {S A : Type 0} (store : Ghosts S) (old new : S) (result : Result A StoreFault)
@@ -49,6 +60,7 @@ pub rows_looked : {S A : Type 0} (store : Ghosts S) (old new : S) (result : Resu
 rows_looked store old new result looks = record {
   usable = λ usable. (looks.read_only.same usable).0;
   honest = looks.read_only.honest;
+  begins = looks.read_only.begins;
   rises = looks.read_only.rises;
   state = λ usable st refines.
       ([], subst (λ (c : Content). Refines c st) (sym (looks.read_only.same usable).1) refines);
@@ -84,6 +96,7 @@ module _ {S : Type 0} (store : Ghosts S) (old begun ran ended : S)
   rows_grouped result ends = record {
     usable = λ usable. (was result ends.content usable).0;
     honest = λ honest. begins.honest (runs.honest (ends.leaves.honest honest));
+    begins = λ m inside. absurd (ends.leaves.ended (m, inside));
     rises = le_trans begins.rises (le_trans runs.rises ends.leaves.rises);
     state = λ usable. (was result ends.content usable).1;
   }

@@ -2,11 +2,11 @@
 --
 -- Feeding begins in the state `st`, with `from` failures counted. No minute is supplied, and
 -- `POST /clock` is served. `left` is a content that a crash may leave.
-use Rattle.std.specs.Prelude.{◌⊎◌, ◌≤◌, ℕ, List, [], Option, Some, None, IfSome, true}
+use Rattle.std.specs.Prelude.{◌≡◌, ◌⊎◌, ◌≤◌, ℕ, List, [], Option, Some, None, IfSome, true}
 use Rattle.model.specs.Content.{Content}
 use Rattle.model.specs.State.{State}
 use Rattle.register.specs.Refinement.{Refines}
-use Rattle.settle.specs.StoreContract.{AddsOnlyCrashStates}
+use Rattle.settle.specs.StoreContract.{AddsOnlyCrashStates, HasGroup}
 use Rattle.settle.specs.declared.store_model.StoreModel.{Ghosts}
 use Rattle.http_messages.specs.Parsing.{ParsesAs, WholeMessage}
 use Rattle.http_messages.specs.declared.message.Request.{Request}
@@ -58,3 +58,12 @@ abbrev pub LeavesFirstMessages : {S : Type 0} → Ghosts S → (old new : S)
 LeavesFirstMessages store old new input = AddsOnlyCrashStates store old new
     (λ m. store.IsUsable old × ((st : State) → Refines (store.content old) st
     → IfSome input (λ bytes. LeavesFirst (store.failed old) st bytes m)))
+
+-- Holds if a crash after the call leaves the content of a usable store, and nothing else. Such a
+-- store has an honest device. If a group had begun before the call, nothing is said.
+--
+-- `FeedsTo` says what this content is: the state after all messages that were executed. Those that
+-- were answered are among them. So nothing that was answered is lost.
+abbrev pub LeavesContent : {S : Type 0} → Ghosts S → (old new : S) → Type 0
+LeavesContent store old new = store.IsUsable new → (¬ HasGroup store old) → (m : Content)
+    → store.IsCrashState new m → m ≡ store.content new

@@ -7,7 +7,7 @@ ghost use Rattle.model.specs.State.{State};
 ghost use Rattle.register.specs.Refinement.{Refines};
 ghost use Rattle.settle.specs.StoreContract.{BeginsNoGroup, EndsNoGroup};
 ghost use Rattle.connections.specs.Connections.{connection_of, new_connection};
-ghost use Rattle.connections.specs.Crashes.{LeavesFirstMessages, LeavesFirstOf};
+ghost use Rattle.connections.specs.Crashes.{LeavesContent, LeavesFirstMessages, LeavesFirstOf};
 ghost use Rattle.connections.specs.Feeding.{FeedsTo, GoesOn, IsSent, ReadsSome, Receives, io_of};
 ghost use Rattle.connections.specs.Rows.{RowsFollow};
 
@@ -210,6 +210,8 @@ pub fn feed<S: Store, R: Read, W: Write>(
     // A crash leaves what it could leave before, or what the first messages lead to.
     ensures left { LeavesFirstMessages S.StoreModel register.old.store register.new.store
         (R.remaining reader.old) }
+    // What was answered lasts: a crash leaves the content that `feeds` speaks of.
+    ensures lasts { LeavesContent S.StoreModel register.old.store register.new.store }
 {
     let Ok(mut feeder) = Feeder::new(alloc) else {
         return Err(FeedFault::NoMemory);

@@ -2,6 +2,7 @@
 ghost use Rattle.std.specs.Prelude.{◌≡◌, ◌≢◌, ◌≤◌, Err};
 ghost use Rattle.settle.specs.Reads.{HasDeviceFailed};
 ghost use Rattle.settle.specs.StoreContract.{BeginsNoGroup, EndsNoGroup};
+ghost use Rattle.connections.specs.Crashes.{LeavesContent};
 ghost use Rattle.connections.specs.Rows.{RowsFollow};
 
 use crate::acceptor::Acceptor;
@@ -561,8 +562,8 @@ pub struct Service {
 /// Writes a line to `log` for each connection that has ended, and for each turn of a connection in
 /// which the device failed. A line that cannot be written is lost.
 ///
-/// The content afterwards refines a state that the machine can reach. Not proved: what is read from
-/// and written to the sockets, and when; what is written to the log.
+/// The content afterwards refines a state that the machine can reach, and a crash leaves it. Not
+/// proved: what is read from and written to the sockets, and when; what is written to the log.
 ///
 /// # Errors
 ///
@@ -579,6 +580,8 @@ pub fn serve_many<N: Net + Clock, S: Store, T: Ticks, L: Write>(
     log: &mut L,
 ) -> Result<(), ServerFault>
     ensures follows { RowsFollow S.StoreModel register.old.store register.new.store }
+    // A crash afterwards leaves the content, so all that was executed.
+    ensures lasts { LeavesContent S.StoreModel register.old.store register.new.store }
     ensures untouched { result ≡ Err ServerFault.NoMemory → register.new ≡ register.old }
     ensures storage { result ≡ Err ServerFault.Storage
         → HasDeviceFailed (S.failed register.old.store) (S.failed register.new.store) }

@@ -6,7 +6,7 @@ use Rattle.connections.specs.Rows.{RowsFollow}
 use Rattle.connections.specs.Connections.{ConnectionModel, connection_of}
 use Rattle.connections.proofs.FedEnds.{Fed, at_break, at_end, fed_nothing, moved, not_begun, not_received, not_sent, received, sent, unsent_received, unsent_sent, went}
 use Rattle.connections.proofs.LeftFed.{left_fed}
-use Rattle.connections.proofs.RowsLemmas.{rows_stay, rows_then}
+use Rattle.connections.proofs.RowsLemmas.{rows_last, rows_stay, rows_then}
 use Rattle.connections.proofs.feeding.feed.Goals as goal
 use Rattle.connections.proofs.feeding.feed.Goals.{then-wants_input+in-Ok-receive, in-Open-2+in-Ok-send}
 
@@ -171,3 +171,30 @@ returns-in-Err-send-clause-left g c =
     (g.W.Write.contents c.loop.writer) (connection_of c.loop.feeder.connection)
     c.execute.ensures.follows.honest c.loop.invariant.follows.usable c.loop.invariant.fed
     c.loop.invariant.left c.execute.ensures.left
+
+pub returns-in_default-clause-lasts : goal.returns-in_default-clause-lasts
+returns-in_default-clause-lasts g c =
+    rows_last g.S.StoreModel c.args.register.now.store c.args.register.now.store
+    g.met.S.Store.leaves_content (rows_stay g.S.StoreModel c.args.register.now.store)
+
+pub returns-in-Ended-clause-lasts : goal.returns-in-Ended-clause-lasts
+returns-in-Ended-clause-lasts g c =
+    rows_last g.S.StoreModel c.args.register.now.store c.loop.register.store
+    g.met.S.Store.leaves_content c.loop.invariant.follows
+
+pub returns-clause-lasts : goal.returns-clause-lasts
+returns-clause-lasts g c =
+    rows_last g.S.StoreModel c.args.register.now.store c.loop.register.store
+    g.met.S.Store.leaves_content c.loop.invariant.follows
+
+pub returns-in-Err-clause-lasts : goal.returns-in-Err-clause-lasts
+returns-in-Err-clause-lasts g c =
+    rows_last g.S.StoreModel c.args.register.now.store c.loop.register.store
+    g.met.S.Store.leaves_content c.loop.invariant.follows
+
+pub returns-in-Err-send-clause-lasts : goal.returns-in-Err-send-clause-lasts
+returns-in-Err-send-clause-lasts g c =
+    rows_last g.S.StoreModel c.args.register.now.store c.execute.new.register.store
+    g.met.S.Store.leaves_content (rows_then g.S.StoreModel c.args.register.now.store
+    c.loop.register.store
+    c.execute.new.register.store c.loop.invariant.follows c.execute.ensures.follows)
