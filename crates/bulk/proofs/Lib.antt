@@ -20,3 +20,5 @@ pub mod Wishes
 mod Examples
 mod AuditExamples
 mod Noted
+mod Mistaken
+mod CopyMistaken

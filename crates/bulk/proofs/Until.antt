@@ -1,5 +1,5 @@
 -- Runs that end with `storage` or `no_memory`: only their lines are known.
-use Rattle.std.proofs.Common.{◌≡◌, ℕ, List, [], ◌++◌, Option, Result, Ok, Err, inl, inr, refl, ap, sym, subst, ◌∙◌, arith, append_assoc, length-append}
+use Rattle.std.proofs.Common.{ℕ, List, [], ◌++◌, Option, Result, Ok, Err, inl, inr, refl, ap, sym, subst, ◌∙◌, arith, append_assoc, length-append}
 use Rattle.std.specs.Prelude.{◌⊎◌}
 use Rattle.std.specs.List.{concat}
 use Rattle.std.specs.Io.KnownBytes.{Appends}
@@ -8,7 +8,7 @@ use Rattle.model.specs.Content.{Content}
 use Rattle.model.specs.State.{State}
 use Rattle.bulk.specs.Faults.{IsUnavailableKind}
 use Rattle.bulk.specs.Report.{Task, lines_of, state_after}
-use Rattle.bulk.specs.Running.{DoesAll, RunsUntil, SendsFirst}
+use Rattle.bulk.specs.Running.{DoesAll, RunsUntil}
 use Rattle.bulk.specs.declared.fault.BulkFault.{BulkFault}
 use Rattle.bulk.proofs.Runs.{texts-append}
 

@@ -13,3 +13,5 @@ pub mod Audits
 pub mod Sides
 pub mod Comparing
 pub mod Noting
+pub mod Mistakes
+pub mod CopyMistakes

@@ -17,6 +17,7 @@ use crate::finding::SubjectFinding;
 use crate::line::LineBuffer;
 use crate::rows::open;
 use crate::sides::{add_in_force, add_waiting, copy_sides, findings_in};
+use crate::watching::{RowWatcher, Unwatched};
 use crate::writing::send_file;
 use delivery::RoutedRow;
 use numbers::{Spid, Subject};
@@ -64,10 +65,11 @@ fn side_for<S: Store>(register: &mut Register<S>, carrier: Spid) -> Result<Regis
 }
 
 // Returns the findings on a copy with these entries, ordered by subject.
-fn compare(
+fn compare<N: RowWatcher>(
     alloc: Global,
     side: &RegisterSide,
     entries: &[RoutedRow],
+    watcher: &mut N,
 ) -> Result<Vec<SubjectFinding>, FaultKind>
     ensures compared { IfOk result (λ findings. AreDistinct (subjects_in entries.now)
         × AreCompared side.now.in_force.items side.now.waiting.items entries.now
@@ -76,7 +78,7 @@ fn compare(
     ensures kinds { IfErr result
         (λ kind. (kind ≡ FaultKind.BadFile) ⊎ (kind ≡ FaultKind.NoMemory)) }
 {
-    let mut all = copy_sides(alloc, entries)?;
+    let mut all = copy_sides(alloc, entries, watcher)?;
     add_in_force(&mut all, &side.in_force)?;
     add_waiting(&mut all, &side.waiting)?;
     let findings = findings_in(alloc, &all)?;
@@ -84,10 +86,11 @@ fn compare(
 }
 
 // Returns the findings on the copy that `reader` supplies.
-fn compare_file<R: Read + Drop>(
+fn compare_file<R: Read + Drop, N: RowWatcher>(
     alloc: Global,
     side: &RegisterSide,
     reader: R,
+    watcher: &mut N,
 ) -> Result<Vec<SubjectFinding>, FaultKind>
     ensures compared { IfOk result (λ findings. IfSome (R.remaining reader) (λ bytes. ComparesFile
         side.now.in_force.items side.now.waiting.items bytes findings.items)) }
@@ -95,8 +98,47 @@ fn compare_file<R: Read + Drop>(
     ensures kinds { IfErr result (λ kind. kind ≢ FaultKind.Storage) }
 {
     let mut reader = open(alloc, reader);
-    let entries = read_copy(alloc, &mut reader)?;
-    compare(alloc, side, &entries)
+    let entries = read_copy(alloc, &mut reader, watcher)?;
+    compare(alloc, side, &entries, watcher)
+}
+
+/// Like `audit`. Notes each row that is read or written with the watcher, and again if it is bad.
+pub fn audit_watched<S: Store, R: Read + Drop, W: Write, N: RowWatcher>(
+    alloc: Global,
+    register: &mut Register<S>,
+    carrier: Spid,
+    reader: R,
+    writer: &mut W,
+    watcher: &mut N,
+) -> Result<u64, BulkFault>
+    ensures audits { S.IsUsable register.new.store → (st : State)
+        → Refines (S.content register.old.store) st
+        → IfSome (R.remaining reader) (λ bytes. Audits st carrier.number bytes
+        (W.contents writer.old) (W.contents writer.new) result) }
+    ensures kept { S.IsUsable register.new.store → (st : State)
+        → Refines (S.content register.old.store) st → Refines (S.content register.new.store) st }
+    // Whether or not the store is usable, before or afterwards.
+    ensures unwritten { IsUnwritten result (W.contents writer.old) (W.contents writer.new) }
+    ensures preserves { PreservesStore S.StoreModel register.old.store register.new.store
+        (IsAvailable result) (ReportsStorage (S.IsUsable register.new.store)
+        (S.content register.old.store) (FailsWith FaultKind.Storage result)) }
+{
+    let (mut line, side) = match (LineBuffer::new(alloc), side_for(register, carrier)) {
+        (Ok(line), Ok(side)) => (line, side),
+        (Err(_), _) => return Err(BulkFault::at_start(FaultKind::NoMemory)),
+        (_, Err(kind)) => return Err(BulkFault::at_start(kind)),
+    };
+    let findings = match compare_file(alloc, &side, reader, watcher) {
+        Ok(findings) => findings,
+        Err(kind) => return Err(BulkFault::at_start(kind)),
+    };
+    match send_file(&mut line, HEADER, &findings, writer, watcher) {
+        Ok(rows) => Ok(rows),
+        Err(rows) => Err(BulkFault {
+            kind: FaultKind::Write,
+            rows,
+        }),
+    }
 }
 
 /// Compares a carrier's copy, a file in the format of an export, with the register. Writes the
@@ -130,20 +172,5 @@ pub fn audit<S: Store, R: Read + Drop, W: Write>(
         (IsAvailable result) (ReportsStorage (S.IsUsable register.new.store)
         (S.content register.old.store) (FailsWith FaultKind.Storage result)) }
 {
-    let (mut line, side) = match (LineBuffer::new(alloc), side_for(register, carrier)) {
-        (Ok(line), Ok(side)) => (line, side),
-        (Err(_), _) => return Err(BulkFault::at_start(FaultKind::NoMemory)),
-        (_, Err(kind)) => return Err(BulkFault::at_start(kind)),
-    };
-    let findings = match compare_file(alloc, &side, reader) {
-        Ok(findings) => findings,
-        Err(kind) => return Err(BulkFault::at_start(kind)),
-    };
-    match send_file(&mut line, HEADER, &findings, writer) {
-        Ok(rows) => Ok(rows),
-        Err(rows) => Err(BulkFault {
-            kind: FaultKind::Write,
-            rows,
-        }),
-    }
+    audit_watched(alloc, register, carrier, reader, writer, &mut Unwatched)
 }

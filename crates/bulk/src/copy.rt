@@ -10,9 +10,11 @@ ghost use Rattle.bulk.specs.Audits.{AreEntries, HasNoEntry, IsEntry, IsNoEntry, 
 ghost use Rattle.bulk.specs.Faults.{IsUnread};
 ghost use Rattle.bulk.specs.Rows.{Row, HasRows, IsPlain};
 
+use crate::copy_mistake::{copy_header_mistake_in, entry_mistake_in};
 use crate::fault::FaultKind;
 use crate::fields::{is_text, lrn_in, optional_cic_in, text_in, tn_in};
 use crate::rows::{first_row, next_row};
+use crate::watching::{RowWatcher, note_mistake};
 use csv::{ByteRecord, Reader};
 use delivery::RoutedRow;
 use numbers::{BlockId, Routing, Subject};
@@ -20,14 +22,14 @@ use std::alloc::Global;
 use std::io::Read;
 
 /// The number of fields of a row.
-const FIELD_COUNT: usize = 3;
+pub const FIELD_COUNT: usize = 3;
 
 /// The fields of a row.
 #[derive(Clone, Copy, Debug)]
-struct EntryFields<'a> {
-    subject: &'a [u8],
-    lrn: &'a [u8],
-    cic: &'a [u8],
+pub struct EntryFields<'a> {
+    pub subject: &'a [u8],
+    pub lrn: &'a [u8],
+    pub cic: &'a [u8],
 }
 
 fn has_entry_count(row: &ByteRecord) -> bool
@@ -36,9 +38,9 @@ fn has_entry_count(row: &ByteRecord) -> bool
     row.len() == FIELD_COUNT
 }
 
-// Returns the fields of a row with three fields.
+/// Returns the fields of a row with three fields.
 #[tactic(auto, using(crate::proofs::FieldLemmas::missing_field))]
-fn entry_fields(row: &ByteRecord) -> Option<EntryFields<'_>>
+pub fn entry_fields(row: &ByteRecord) -> Option<EntryFields<'_>>
     ensures some { IfSome result (λ fields.
         fields_of row.now ≡ fields.subject.now ∷ fields.lrn.now ∷ fields.cic.now ∷ []) }
     ensures none { IfNone result (length (fields_of row.now) ≢ 3) }
@@ -60,7 +62,8 @@ fn block_in(field: &[u8]) -> Option<BlockId>
     BlockId::read(text_in(field)?)
 }
 
-fn subject_in(field: &[u8]) -> Option<Subject>
+/// Returns the number or the block in a field.
+pub fn subject_in(field: &[u8]) -> Option<Subject>
     ensures some { IfSome result (λ subject. field.now ≡ subject_text (subject_of subject)) }
     ensures none { IfNone result ((subject : SubjectImpl)
         → field.now ≢ subject_text (subject_of subject)) }
@@ -105,7 +108,11 @@ pub fn is_copy_header(row: &ByteRecord) -> bool
 }
 
 // Reads the header of a copy.
-fn read_copy_header<R: Read>(alloc: Global, reader: &mut Reader<R>) -> Result<(), FaultKind>
+fn read_copy_header<R: Read, N: RowWatcher>(
+    alloc: Global,
+    reader: &mut Reader<R>,
+    watcher: &mut N,
+) -> Result<(), FaultKind>
     requires { IsPlain reader.old }
     ensures plain { OnOk result (IsPlain reader.new) }
     ensures header { OnOk result ((rows : List Row) → HasRows R.remaining reader.old rows
@@ -120,15 +127,33 @@ fn read_copy_header<R: Read>(alloc: Global, reader: &mut Reader<R>) -> Result<()
     if is_copy_header(&row) {
         Ok(())
     } else {
+        note_mistake(watcher, 0, &row, copy_header_mistake_in(&row));
         Err(FaultKind::BadHeader)
     }
+}
+
+// Returns the entry that a row encodes, and notes the row with the watcher.
+fn watched_entry<N: RowWatcher>(number: u64, row: &ByteRecord, watcher: &mut N) -> Option<RoutedRow>
+    ensures some { IfSome result (IsEntry (fields_of row.now)) }
+    ensures none { IfNone result (IsNoEntry (fields_of row.now)) }
+{
+    watcher.row(number);
+    let entry = entry_in(row);
+    if entry.is_none() {
+        note_mistake(watcher, number, row, entry_mistake_in(row));
+    }
+    entry
 }
 
 // The most rows of a copy.
 const MOST_ROWS: u64 = 1 << 50;
 
 // Reads the rows after the header.
-fn read_entries<R: Read>(alloc: Global, reader: &mut Reader<R>) -> Result<Vec<RoutedRow>, FaultKind>
+fn read_entries<R: Read, N: RowWatcher>(
+    alloc: Global,
+    reader: &mut Reader<R>,
+    watcher: &mut N,
+) -> Result<Vec<RoutedRow>, FaultKind>
     requires { IsPlain reader.old }
     ensures entries { IfOk result (λ entries. (rows : List Row)
         → HasRows R.remaining reader.old rows → AreEntries rows entries.items) }
@@ -137,10 +162,10 @@ fn read_entries<R: Read>(alloc: Global, reader: &mut Reader<R>) -> Result<Vec<Ro
         ⊎ IsUnread kind) }
 {
     let mut entries = Vec::new(alloc);
-    let mut row = ByteRecord::new(alloc);
-    for _row in 0..MOST_ROWS {
-        match next_row(reader, &mut row) {
-            Ok(true) => match entry_in(&row) {
+    let mut raw = ByteRecord::new(alloc);
+    for row in 1..MOST_ROWS {
+        match next_row(reader, &mut raw) {
+            Ok(true) => match watched_entry(row, &raw, watcher) {
                 Some(entry) => match entries.push(entry) {
                     Ok(()) => {}
                     Err(_) => return Err(FaultKind::NoMemory),
@@ -155,16 +180,17 @@ fn read_entries<R: Read>(alloc: Global, reader: &mut Reader<R>) -> Result<Vec<Ro
 }
 
 /// Reads a copy: the header `subject,lrn,cic`, then the routing of each subject, in any order. Does
-/// not detect duplicate subjects.
+/// not detect duplicate subjects. Notes each row with the watcher, and again if it is bad.
 ///
 /// # Errors
 ///
 /// - `BadHeader` if the first row is not the header.
 /// - `BadFile` if another row is not an entry.
 /// - `Read` if the reader fails, `NoMemory` if an allocation fails.
-pub fn read_copy<R: Read>(
+pub fn read_copy<R: Read, N: RowWatcher>(
     alloc: Global,
     reader: &mut Reader<R>,
+    watcher: &mut N,
 ) -> Result<Vec<RoutedRow>, FaultKind>
     requires { IsPlain reader.old }
     ensures copy { IfOk result (λ entries. (rows : List Row)
@@ -174,6 +200,6 @@ pub fn read_copy<R: Read>(
         → HasRows R.remaining reader.old rows → IsNotRead kind rows) }
     ensures kinds { IfErr result (λ kind. kind ≢ FaultKind.Storage) }
 {
-    read_copy_header(alloc, reader)?;
-    read_entries(alloc, reader)
+    read_copy_header(alloc, reader, watcher)?;
+    read_entries(alloc, reader, watcher)
 }

@@ -25,7 +25,7 @@ use numbers::{Cic, Lrn, Minute, Routing, Spid, Tn};
 use version::{Creator, VersionCommand};
 
 /// The number of fields of a row.
-const FIELD_COUNT: usize = 9;
+pub const FIELD_COUNT: usize = 9;
 
 /// The nine fields of a row.
 #[derive(Clone, Copy, Debug)]
@@ -48,9 +48,9 @@ fn has_field_count(row: &ByteRecord) -> bool
 }
 
 impl Fields<'_> {
-    // Returns the fields of a row with nine fields.
+    /// Returns the fields of a row with nine fields.
     #[tactic(auto, using(crate::proofs::FieldLemmas::missing_field))]
-    fn of(row: &ByteRecord) -> Option<Fields<'_>>
+    pub fn of(row: &ByteRecord) -> Option<Fields<'_>>
         ensures some { IfSome result (λ fields. fields_of row.now ≡ all_fields fields) }
         ensures none { IfNone result (length (fields_of row.now) ≢ 9) }
     {
@@ -79,7 +79,8 @@ pub fn text_in(field: &[u8]) -> Option<&str>
     str::from_utf8(field).ok()
 }
 
-fn spid_in(field: &[u8]) -> Option<Spid>
+/// Returns the SPID in a field.
+pub fn spid_in(field: &[u8]) -> Option<Spid>
     ensures some { IfSome result (λ spid. field.now ≡ spid_text spid.number) }
     ensures none { IfNone result ((n : ℕ) → IsSpid n → field.now ≢ spid_text n) }
 {
@@ -109,7 +110,8 @@ fn cic_in(field: &[u8]) -> Option<Cic>
     Cic::read(text_in(field)?)
 }
 
-fn minute_in(field: &[u8]) -> Option<Minute>
+/// Returns the minute in a field.
+pub fn minute_in(field: &[u8]) -> Option<Minute>
     ensures some { IfSome result (λ minute. field.now ≡ minute_text minute.number) }
     ensures none { IfNone result ((n : ℕ) → IsMinute n → field.now ≢ minute_text n) }
 {
@@ -131,7 +133,8 @@ fn first_named(field: &[u8]) -> Option<ActionName>
         .find(|action| is_named(field, *action))
 }
 
-fn action_in(field: &[u8]) -> Option<ActionName>
+/// Returns the action that a field names.
+pub fn action_in(field: &[u8]) -> Option<ActionName>
     ensures some { IfSome result (λ action. field.now ≡ action_name action) }
     ensures none { IfNone result ((action : ActionNameImpl) → field.now ≢ action_name action) }
 {
@@ -162,7 +165,8 @@ fn range_in(field: &[u8]) -> Option<Numbers>
     Numbers::new(tn_in(first)?, tn_in(last)?)
 }
 
-fn numbers_in(field: &[u8]) -> Option<Numbers>
+/// Returns the numbers that a field names: one, or a range.
+pub fn numbers_in(field: &[u8]) -> Option<Numbers>
     ensures some { IfSome result (Names field.now) }
     ensures none { IfNone result ((numbers : NumbersImpl) → ¬ (Names field.now numbers)) }
 {
@@ -172,7 +176,8 @@ fn numbers_in(field: &[u8]) -> Option<Numbers>
     }
 }
 
-fn flag_in(field: &[u8]) -> Option<bool>
+/// Returns the flag in a field.
+pub fn flag_in(field: &[u8]) -> Option<bool>
     ensures some { IfSome result (λ flag. field.now ≡ flag_text flag) }
     ensures none { IfNone result ((flag : Bool) → field.now ≢ flag_text flag) }
 {
@@ -196,7 +201,8 @@ pub fn optional_cic_in(field: &[u8]) -> Option<Option<Cic>>
     Some(Some(cic_in(field)?))
 }
 
-fn optional_minute_in(field: &[u8]) -> Option<Option<Minute>>
+/// Returns the minute in a field, or `None` inside if the field is empty.
+pub fn optional_minute_in(field: &[u8]) -> Option<Option<Minute>>
     ensures some { IfSome result (λ minute. field.now ≡ optional_minute minute) }
     ensures none { IfNone result ((minute : Option MinuteImpl)
         → field.now ≢ optional_minute minute) }

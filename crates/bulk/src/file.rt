@@ -12,8 +12,10 @@ ghost use Rattle.bulk.specs.Running.{RefinesReachable, LacksHeader, Reports, Rep
 use crate::fault::{BulkFault, FaultKind};
 use crate::fields::is_header;
 use crate::line::LineBuffer;
+use crate::mistake::header_mistake_in;
 use crate::rows::{first_row, open};
 use crate::running::run_rows;
+use crate::watching::{RowWatcher, Unwatched, note_mistake};
 use csv::Reader;
 use register::Register;
 use settle::Store;
@@ -24,7 +26,11 @@ use std::io::{Read, Write};
 const HEADER: &str = "row,subject,result,id";
 
 // Reads the header of a bulk file.
-fn read_header<R: Read>(alloc: Global, reader: &mut Reader<R>) -> Result<(), FaultKind>
+fn read_header<R: Read, N: RowWatcher>(
+    alloc: Global,
+    reader: &mut Reader<R>,
+    watcher: &mut N,
+) -> Result<(), FaultKind>
     requires { IsPlain reader.old }
     ensures plain { OnOk result (IsPlain reader.new) }
     ensures header { OnOk result ((rows : List Row) → HasRows R.remaining reader.old rows
@@ -38,17 +44,19 @@ fn read_header<R: Read>(alloc: Global, reader: &mut Reader<R>) -> Result<(), Fau
     if is_header(&row) {
         Ok(())
     } else {
+        note_mistake(watcher, 0, &row, header_mistake_in(&row));
         Err(FaultKind::BadHeader)
     }
 }
 
 // Runs the rows after the header, and writes the report.
-fn report_rows<S: Store, R: Read, W: Write>(
+fn report_rows<S: Store, R: Read, W: Write, N: RowWatcher>(
     alloc: Global,
     register: &mut Register<S>,
     line: &mut LineBuffer,
     reader: &mut Reader<R>,
     writer: &mut W,
+    watcher: &mut N,
 ) -> Result<u64, BulkFault>
     requires { IsPlain reader.old }
     ensures reports { S.IsUsable register.new.store → (st : State)
@@ -71,8 +79,49 @@ fn report_rows<S: Store, R: Read, W: Write>(
 {
     line.set_first(HEADER);
     match line.send(writer) {
-        Ok(()) => run_rows(alloc, register, line, reader, writer),
+        Ok(()) => run_rows(alloc, register, line, reader, writer, watcher),
         Err(kind) => Err(BulkFault::at_start(kind)),
+    }
+}
+
+/// Like `run_noting_refusals`. Notes each row with the watcher, and again if it is bad.
+pub fn run_watched<S: Store, R: Read + Drop, W: Write, N: RowWatcher>(
+    alloc: Global,
+    register: &mut Register<S>,
+    reader: R,
+    writer: &mut W,
+    watcher: &mut N,
+) -> (Result<u64, BulkFault>, bool)
+    ensures runs { S.IsUsable register.new.store → (st : State)
+        → Refines (S.content register.old.store) st
+        → IfSome (R.remaining reader) (λ bytes. RunsFile st bytes (S.content register.new.store)
+        (W.contents writer.old) (W.contents writer.new) result.0) }
+    // If the store shuts over an honest device: the lines up to then are those of a run.
+    ensures until { S.IsUsable register.old.store → S.HasHonestDevice register.new.store
+        → S.IsUsable register.new.store
+        ⊎ ((st : State) → Refines (S.content register.old.store) st
+        → IfSome (R.remaining reader) (λ bytes. RunsFileUntil st bytes (W.contents writer.old)
+        (W.contents writer.new) result.0)) }
+    ensures state { S.IsUsable register.new.store → (st : State)
+        → Refines (S.content register.old.store) st
+        → RefinesReachable st (S.content register.new.store) }
+    ensures noted { OnOk result.0 (ReportsNoting (W.contents writer.old) (W.contents writer.new)
+        result.1) }
+    ensures preserves { PreservesStore S.StoreModel register.old.store register.new.store
+        (IsAvailable result.0) (ReportsStorage (S.IsUsable register.new.store)
+        (S.content register.old.store) (FailsWith FaultKind.Storage result.0)) }
+{
+    let mut line = match LineBuffer::new(alloc) {
+        Ok(line) => line,
+        Err(_) => return (Err(BulkFault::at_start(FaultKind::NoMemory)), false),
+    };
+    let mut reader = open(alloc, reader);
+    match read_header(alloc, &mut reader, watcher) {
+        Ok(()) => {
+            let ran = report_rows(alloc, register, &mut line, &mut reader, writer, watcher);
+            (ran, line.has_refusal)
+        }
+        Err(kind) => (Err(BulkFault::at_start(kind)), false),
     }
 }
 
@@ -102,18 +151,7 @@ pub fn run_noting_refusals<S: Store, R: Read + Drop, W: Write>(
         (IsAvailable result.0) (ReportsStorage (S.IsUsable register.new.store)
         (S.content register.old.store) (FailsWith FaultKind.Storage result.0)) }
 {
-    let mut line = match LineBuffer::new(alloc) {
-        Ok(line) => line,
-        Err(_) => return (Err(BulkFault::at_start(FaultKind::NoMemory)), false),
-    };
-    let mut reader = open(alloc, reader);
-    match read_header(alloc, &mut reader) {
-        Ok(()) => {
-            let ran = report_rows(alloc, register, &mut line, &mut reader, writer);
-            (ran, line.has_refusal)
-        }
-        Err(kind) => (Err(BulkFault::at_start(kind)), false),
-    }
+    run_watched(alloc, register, reader, writer, &mut Unwatched)
 }
 
 /// Runs a bulk file and writes its report: the header `row,subject,result,id`, then a line for each

@@ -18,8 +18,10 @@ use crate::fault::{BulkFault, FaultKind};
 use crate::fields::read_request;
 use crate::line::LineBuffer;
 use crate::making::execute;
+use crate::mistake::mistake_in;
 use crate::request::BulkRequest;
 use crate::rows::next_row;
+use crate::watching::{RowWatcher, note_mistake};
 use csv::{ByteRecord, Reader};
 use numbers::Tn;
 use register::Register;
@@ -109,10 +111,11 @@ fn run_request<S: Store, W: Write>(
 }
 
 // Runs a row, which has a request or is bad.
-fn run_row<S: Store, W: Write>(
+fn run_row<S: Store, W: Write, N: RowWatcher>(
     register: &mut Register<S>,
     line: &mut LineBuffer,
     writer: &mut W,
+    watcher: &mut N,
     row: u64,
     raw: &ByteRecord,
     count: u64,
@@ -137,6 +140,7 @@ fn run_row<S: Store, W: Write>(
     match read_request(raw) {
         Some(request) => run_request(register, line, writer, row, &request, count),
         None => {
+            note_mistake(watcher, row, raw, mistake_in(raw));
             line.set_bad(row);
             send_line(line, writer, count)
         }
@@ -146,13 +150,14 @@ fn run_row<S: Store, W: Write>(
 // The most rows of a file, so that the count of their lines cannot overflow.
 const MOST_ROWS: u64 = 1 << 50;
 
-/// Runs all rows that `reader` supplies.
-pub fn run_rows<S: Store, R: Read, W: Write>(
+/// Runs all rows that `reader` supplies. Notes each with the watcher before it runs.
+pub fn run_rows<S: Store, R: Read, W: Write, N: RowWatcher>(
     alloc: Global,
     register: &mut Register<S>,
     line: &mut LineBuffer,
     reader: &mut Reader<R>,
     writer: &mut W,
+    watcher: &mut N,
 ) -> Result<u64, BulkFault>
     requires { IsPlain reader.old }
     ensures runs { S.IsUsable register.new.store → (st : State)
@@ -177,10 +182,13 @@ pub fn run_rows<S: Store, R: Read, W: Write>(
     let mut count = 0;
     for row in 1..MOST_ROWS {
         match next_row(reader, &mut raw) {
-            Ok(true) => match run_row(register, line, writer, row, &raw, count) {
-                Ok(done) => count = done,
-                Err(fault) => return Err(fault),
-            },
+            Ok(true) => {
+                watcher.row(row);
+                match run_row(register, line, writer, watcher, row, &raw, count) {
+                    Ok(done) => count = done,
+                    Err(fault) => return Err(fault),
+                }
+            }
             Ok(false) => return Ok(count),
             Err(kind) => return Err(BulkFault { kind, rows: count }),
         }

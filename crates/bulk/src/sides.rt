@@ -12,6 +12,7 @@ ghost use Rattle.bulk.specs.Sides.{found_in, found_of, routed_after, sides_at, w
 
 use crate::fault::FaultKind;
 use crate::finding::{Finding, SubjectFinding};
+use crate::watching::RowWatcher;
 use delivery::RoutedRow;
 use numbers::{Routing, Subject};
 use std::alloc::{AllocError, Global};
@@ -130,10 +131,12 @@ pub fn add_waiting(
     Ok(())
 }
 
-/// Creates sides from the entries of a copy. Fails with `BadFile` if a subject occurs twice.
-pub fn copy_sides(
+/// Creates sides from the entries of a copy. Fails with `BadFile` if a subject occurs twice, and
+/// notes the subject with the watcher.
+pub fn copy_sides<N: RowWatcher>(
     alloc: Global,
     entries: &[RoutedRow],
+    watcher: &mut N,
 ) -> Result<BTreeMap<Subject, Sides>, FaultKind>
     ensures added { IfOk result (λ all. (s : SubjectImpl) → sides_at all s
         ≡ record { in_force = None; copied = routed_after entries.now s None; is_waiting = false }) }
@@ -146,6 +149,7 @@ pub fn copy_sides(
     for entry in entries {
         let mut sides = sides_of(&all, entry.subject);
         if sides.copied.is_some() {
+            watcher.duplicate(entry.subject);
             return Err(FaultKind::BadFile);
         }
         sides.copied = Some(entry.routing);

@@ -4,6 +4,7 @@ ghost use Rattle.std.specs.Io.KnownBytes.{Appends};
 ghost use Rattle.bulk.specs.Files.{AreSent, EndsWithin, IsSentPart, file_text};
 
 use crate::line::LineBuffer;
+use crate::watching::RowWatcher;
 use std::io::Write;
 
 /// An item with a line of its own in a file.
@@ -16,10 +17,11 @@ pub trait InLine {
 }
 
 // Sends the lines of these rows. Returns their number, or on failure how many were sent in full.
-fn send_rows<L: InLine, W: Write>(
+fn send_rows<L: InLine, W: Write, N: RowWatcher>(
     line: &mut LineBuffer,
     rows: &[L],
     writer: &mut W,
+    watcher: &mut N,
 ) -> Result<u64, u64>
     ensures ok { IfOk result (λ count. (count ≡ length rows.now)
         × AreSent (W.contents writer.old) (W.contents writer.new) (map L.text rows.now)) }
@@ -34,17 +36,19 @@ fn send_rows<L: InLine, W: Write>(
             Err(_) => return Err(count),
         }
         count += 1;
+        watcher.row(count);
     }
     Ok(count)
 }
 
 /// Sends a header and then the lines of these rows, each flushed before the next. Returns the
-/// number of rows, or on failure how many were sent in full.
-pub fn send_file<L: InLine, W: Write>(
+/// number of rows, or on failure how many were sent in full. Notes each row with the watcher.
+pub fn send_file<L: InLine, W: Write, N: RowWatcher>(
     line: &mut LineBuffer,
     header: &str,
     rows: &[L],
     writer: &mut W,
+    watcher: &mut N,
 ) -> Result<u64, u64>
     requires { length header.now ≤ 127 }
     ensures ok { IfOk result (λ count. (count ≡ length rows.now)
@@ -55,7 +59,7 @@ pub fn send_file<L: InLine, W: Write>(
 {
     line.set_first(header);
     match line.send(writer) {
-        Ok(()) => send_rows(line, rows, writer),
+        Ok(()) => send_rows(line, rows, writer, watcher),
         Err(_) => Err(0),
     }
 }

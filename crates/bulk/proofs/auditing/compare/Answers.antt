@@ -6,7 +6,7 @@ use Rattle.bulk.proofs.Compared.{are_compared}
 use Rattle.bulk.proofs.auditing.compare.Goals as goal
 
 pub returns-clause-compared : goal.returns-clause-compared
-returns-clause-compared c =
+returns-clause-compared g c =
     let findings = c.in_ok-findings.findings.items in
     let compared =
     are_compared c.deref.result.now c.args.entries.now c.deref-2.result.now findings c.in_ok-all.all

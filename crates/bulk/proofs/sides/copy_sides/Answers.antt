@@ -9,7 +9,7 @@ use Rattle.bulk.proofs.Sided.{copied_turn, entry_taken}
 use Rattle.bulk.proofs.sides.copy_sides.Goals as goal
 
 pub loop-entry-preserved : goal.loop-entry-preserved
-loop-entry-preserved c =
+loop-entry-preserved g c =
     let set : (t : Subject) → sides_at c.set_sides.new.all t
     ≡ (if subject_eq (subject_of c.entry-item.result.subject) (subject_of t)
     then (record (sides_at c.loop-entry.all c.entry-item.result.subject) {

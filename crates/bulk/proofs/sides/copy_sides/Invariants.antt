@@ -6,7 +6,7 @@ use Rattle.bulk.proofs.sides.copy_sides.Given as goal
 
 -- Adding the entries left to the sides so far gives what adding all entries to no sides gives.
 abbrev pub invariant-loop-entry : goal.invariant-loop-entry
-invariant-loop-entry l = record {
+invariant-loop-entry g l = record {
   added : (s : Subject) → with_copied (drop l.entry-index l.entries) s (sides_at l.all s)
       ≡ with_copied l.entries s no_sides;
   taken : Taken l.entries (drop l.entry-index l.entries) l.all;

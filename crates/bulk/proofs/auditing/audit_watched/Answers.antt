@@ -1,7 +1,7 @@
 use Rattle.std.proofs.Common.{refl}
 use Rattle.bulk.specs.Findings.{audit_header}
 use Rattle.bulk.proofs.Compared.{all_audited, part_audited}
-use Rattle.bulk.proofs.auditing.audit.Goals as goal
+use Rattle.bulk.proofs.auditing.audit_watched.Goals as goal
 
 pub returns-in-Ok-send_file-clause-audits : goal.returns-in-Ok-send_file-clause-audits
 unfolding audit_header

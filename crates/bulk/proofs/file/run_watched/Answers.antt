@@ -4,7 +4,7 @@ use Rattle.bulk.specs.Running.{RunsFile, RunsFileUntil}
 use Rattle.bulk.proofs.Exists.{rows_of_text}
 use Rattle.bulk.proofs.Filed.{known, file_run, file_until, nothing_run, why_not}
 use Rattle.bulk.proofs.Until.{or_then}
-use Rattle.bulk.proofs.file.run_noting_refusals.Goals as goal
+use Rattle.bulk.proofs.file.run_watched.Goals as goal
 
 pub returns-in-Ok-read_header-clause-runs : goal.returns-in-Ok-read_header-clause-runs
 returns-in-Ok-read_header-clause-runs g c = λ u st s.

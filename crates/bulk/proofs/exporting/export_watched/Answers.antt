@@ -3,7 +3,7 @@ use Rattle.delivery.specs.Mirrors.{in_force_of}
 use Rattle.model.specs.State.{all_in_force}
 use Rattle.bulk.specs.Exports.{export_header}
 use Rattle.bulk.proofs.Exported.{all_exported, part_exported}
-use Rattle.bulk.proofs.exporting.export.Goals as goal
+use Rattle.bulk.proofs.exporting.export_watched.Goals as goal
 
 pub returns-in-Ok-clause-exports : goal.returns-in-Ok-clause-exports
 unfolding export_header
