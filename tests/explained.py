@@ -20,13 +20,17 @@ from lib.program import PROGRAM, WINDOWS, serving
 from migrated_files import write_file
 from stock_sqlite import MESSAGES, changed
 
+# The stories, as bytes: byte 30 is between connections, and byte 29 begins a file of commands in place of one.
+STORIES = Path(__file__).resolve().parents[1] / "crates/stories/data"
+BREAK, FILE = b"\x1e", b"\x1d"
+
 # After this many seconds a command counts as endless.
 LIMIT = 60
 NOBODY = 65534
 
 # What the file of `MESSAGES` holds: nothing is due before minute 115.
-SUMMARY = "minute 100\nset 1\nnext_id 3\ncarriers 2\ndue none\n"
-DUE = SUMMARY.replace("none", "1")
+SUMMARY = "minute 100\nset 1\nnext_id 3\ncarriers 2\ndue none\nrows sound\n"
+DUE = SUMMARY.replace("100", "115").replace("none", "1")
 
 MISSING = "there is no such file or folder"
 MAY_NOT = "this user may not read and write it"
@@ -53,6 +57,31 @@ CHANGES = {
     "DELETE FROM window_set": "the table window_set has no row for the present set",
 }
 
+# Changes by hand that leave rows which can be read, and the words for their first flaw. Version 1 has sent a modify, which is pending,
+# and version 2 a create, each at minute 100. That a subject has two versions in force or two open, the file's schema excludes.
+FLAWS = {
+    "DELETE FROM version2 WHERE id = 2": "version 2 is missing",
+    "UPDATE version2 SET id = 0, holds = -1 WHERE id = 2": "version 0 has an id that none has yet",
+    "UPDATE clock2 SET next_id = 2": "version 2 has an id that none has yet",
+    "UPDATE version2 SET held = 2 WHERE id = 1": "version 1 holds a set of windows that is missing",
+    "UPDATE version2 SET since = 101 WHERE id = 1": "version 1 entered its status after the minute",
+    "UPDATE version2 SET deadline = 114 WHERE id = 1": "version 1 has another deadline than by its windows",
+    "UPDATE version2 SET deadline = NULL WHERE id = 1": "version 1 has another deadline than by its windows",
+    "UPDATE version2 SET holds = -2 WHERE id = 1": "version 1 has a wrong value in holds",
+    "UPDATE version2 SET opens = 2025331234 WHERE id = 1": "version 1 has a wrong value in opens",
+    "UPDATE version2 SET opens = -3 WHERE id = 2": "version 2 has a wrong value in opens",
+    "DELETE FROM broadcast WHERE id = 1": "version 1 is sending without its broadcast",
+    "UPDATE broadcast SET open = 0 WHERE id = 1": "version 1 is sending without its broadcast",
+    "UPDATE broadcast SET minute = 99 WHERE id = 1": "version 1 is sending without its broadcast",
+    "UPDATE broadcast SET action = 'create' WHERE id = 1": "version 1 is sending without its broadcast",
+    "UPDATE broadcast SET subject = 2025331235 WHERE id = 1": "version 1 is sending without its broadcast",
+    "UPDATE version2 SET subject = 2025337, status = 'old', sends = 'none', deadline = NULL, opens = -3 WHERE id = 2":
+        "version 2 is not under its block",
+    "UPDATE wait SET minute = 99 WHERE spid = 'AAAA' AND id = 1": "attempt 2 of version 1 is pending for AAAA, but was not sent so",
+    "UPDATE wait SET attempt = 3 WHERE spid = 'AAAA' AND id = 1": "attempt 3 of version 1 is pending for AAAA, but was not sent so",
+    "UPDATE wait SET subject = 2025331235 WHERE spid = 'BBBB' AND id = 1": "attempt 2 of version 1 is pending for BBBB, but was not sent so",
+}
+
 # Windows files that are refused: the fault, and the words for it.
 WINDOWS_FILES = {
     "a = [": ("syntax", "it is not TOML in UTF-8"),
@@ -75,6 +104,12 @@ def run(*words, text="", **more):
 
 def is_summary(file, text):
     return run("check", "--db", file) == (0, text, "")
+
+
+def is_flawed(file, words):
+    """Returns whether `check` writes what the file holds, and then this flaw."""
+    status, text, report = run("check", "--db", file)
+    return (status, report) == (3, "npacd: storage\n") and text.startswith("minute 100\n") and text.endswith(f"\nrows {words}\n")
 
 
 def is_refused(file, words, **more):
@@ -104,6 +139,30 @@ def new_file(folder):
 
 def changes(file, folder):
     return {change: is_refused(changed(file, folder, change), words) for change, words in CHANGES.items()}
+
+
+def flaws(file, folder):
+    return {change: is_flawed(changed(file, folder, change), words) for change, words in FLAWS.items()}
+
+
+def is_short(story):
+    """Returns whether a story has less than 100,000 bytes, and is no windows file."""
+    return story.suffix != ".toml" and story.stat().st_size < 100_000
+
+
+def is_played_soundly(story, folder):
+    """Returns whether the rows are sound that a story leaves in a new file. Its files of commands are left out."""
+    file = os.path.join(folder, f"{story.name}.db")
+    for text in story.read_bytes().split(BREAK):
+        if not text.startswith(FILE):
+            words = [PROGRAM, "feed", "--windows", WINDOWS, "--db", file]
+            subprocess.run(words, input=text, capture_output=True, timeout=LIMIT, check=False)
+    status, text, report = run("check", "--db", file)
+    return (status, report) == (0, "") and text.endswith("\nrows sound\n")
+
+
+def played(folder):
+    return {f"story {story.name}": is_played_soundly(story, folder) for story in sorted(STORIES.iterdir()) if is_short(story)}
 
 
 def with_log(file, folder):
@@ -193,6 +252,7 @@ def found_in_all():
         file = new_file(folder)
         found = {"summary": is_summary(file, SUMMARY)}
         found["due"] = is_summary(changed(file, folder, "UPDATE version2 SET deadline = 100 WHERE id = 1"), DUE)
+        found |= flaws(file, folder) | played(folder)
         found |= changes(file, folder) | beside_others(file, folder) | explanations(file, folder)
         found |= {"in use": is_in_use(file), "no permission": is_forbidden(file)}
     return found
@@ -203,7 +263,7 @@ def main():
         sys.exit(f"{PROGRAM} is not there: build it first")
     found = found_in_all()
     wrong = [what for what, well in found.items() if not well]
-    print(*wrong, f"refusals, in words: {len(found) - len(wrong)} as expected, {len(wrong)} others", sep="\n")
+    print(*wrong, f"refusals and flaws, in words: {len(found) - len(wrong)} as expected, {len(wrong)} others", sep="\n")
     sys.exit(1 if wrong else 0)
 
 

@@ -7,6 +7,9 @@ use Rattle.settle.specs.Reads.{IsLeastDue}
 use Rattle.settle.specs.declared.rows.NumberedRow.{NumberedRow}
 use Rattle.diagnosis.specs.Words.{cause_words}
 use Rattle.diagnosis.specs.declared.cause.Cause.{Cause}
+use Rattle.invariants.specs.Flaws.{JudgesRows}
+use Rattle.invariants.specs.Words.{flaw_words}
+use Rattle.invariants.specs.declared.flaw.Flaw.{Flaw}
 use Rattle.cli.specs.declared.checking.Summary.{Summary}
 
 -- Holds if this is the least due version's id at the minute, or `None` if no version is due.
@@ -45,3 +48,15 @@ pub record ShowsSummary (content : Content) (had has : Option (List ℕ)) : Type
 -- The line for a refused file.
 abbrev pub refusal_line : Cause → List ℕ
 refusal_line cause = codes "refused " ++ (cause_words cause ++ 10 ∷ [])
+
+-- The line about the rows.
+abbrev pub rows_line : Option Flaw → List ℕ
+rows_line None = codes "rows sound\n"
+rows_line (Some flaw) = codes "rows " ++ (flaw_words flaw ++ 10 ∷ [])
+
+-- Holds if it was written that the rows keep the invariants, and they do, or which flaw they have,
+-- and they have it.
+pub record ShowsRows (content : Content) (had has : Option (List ℕ))
+    (flaw : Option Flaw) : Type 0 where
+  pub judges : JudgesRows content flaw
+  pub written : Appends had has (rows_line flaw)

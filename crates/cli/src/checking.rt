@@ -1,13 +1,14 @@
 //! Writes what a file holds, or why it is refused.
 ghost use Rattle.std.specs.Prelude.{◌≡◌, IfErr, IfOk, OnOk, string_bytes};
 ghost use Rattle.std.specs.Io.KnownBytes.{Appends};
-ghost use Rattle.cli.specs.Checking.{IsSummary, ShowsSummary, due_line, refusal_line, summary_text};
+ghost use Rattle.cli.specs.Checking.{IsSummary, ShowsRows, ShowsSummary, due_line, refusal_line, rows_line, summary_text};
 ghost use Rattle.cli.specs.Faults.{IsOfShowing};
 
 use crate::fault::Fault;
 use crate::running::{close, open_fault};
 use diagnosis::{Cause, cause_at};
 use http_messages::send_all;
+use invariants::{Flaw, find_flaw};
 use numbers::Minute;
 use register::OpenFault;
 use settle::Store;
@@ -132,15 +133,70 @@ fn show_refusal<W: Write>(alloc: Global, cause: &Cause, writer: &mut W) -> Resul
     }
 }
 
+// Returns the line about the rows: that they keep the invariants, or their first flaw.
+fn rows_line(alloc: Global, flaw: Option<Flaw>) -> Result<String, AllocError>
+    ensures { IfOk result (λ line. string_bytes line ≡ rows_line flaw) }
+{
+    let Some(flaw) = flaw else {
+        return format!(in alloc; "rows sound\n");
+    };
+    let words = flaw.words(alloc)?;
+    let words = words.as_str();
+    format!(in alloc; "rows {words}\n")
+}
+
+// Writes whether the rows of a store keep the invariants. Returns their first flaw, if they have
+// one.
+fn show_rows<S: Store, W: Write>(
+    alloc: Global,
+    store: &mut S,
+    writer: &mut W,
+) -> Result<Option<Flaw>, Fault>
+    ensures shows { S.IsUsable store.new → IfOk result
+        (ShowsRows (S.content store.old) (W.contents writer.old) (W.contents writer.new)) }
+    ensures same { S.IsUsable store.new → S.content store.new ≡ S.content store.old }
+    ensures fault { IfErr result IsOfShowing }
+{
+    let flaw = match find_flaw(alloc, store) {
+        Ok(flaw) => flaw,
+        Err(fault) => return Err(Fault::Open(OpenFault::from(fault))),
+    };
+    let Ok(line) = rows_line(alloc, flaw) else {
+        return Err(Fault::NoMemory);
+    };
+    match send_all(writer, line.as_bytes(), true) {
+        Ok(()) => Ok(flaw),
+        Err(_) => Err(Fault::Write),
+    }
+}
+
+// Opens the file at `path`, writes its summary and whether its rows keep the invariants, and closes
+// it. Returns the first flaw of the rows, if they have one.
+fn inspect<W: Write>(rt: &HostRuntime, path: &str, writer: &mut W) -> Result<Option<Flaw>, Fault>
+    ensures { IfErr result IsOfShowing }
+{
+    let alloc = rt.alloc();
+    let mut store = SqlStore::existing_at(rt, path, Unknown).map_err(open_fault)?;
+    let shown = show_summary(alloc, &mut store, writer);
+    let judged = match shown {
+        Ok(()) => show_rows(alloc, &mut store, writer),
+        Err(fault) => Err(fault),
+    };
+    let closed = close(store);
+    let flaw = judged?;
+    closed?;
+    Ok(flaw)
+}
+
 /// Writes what the register in the file at `path` holds: its minute, the number of its present set
 /// of windows, the id of its next version, the number of its carriers, and the id of the first
-/// version that is due at its minute. If the file is refused, writes why. Creates no file but the
-/// log of an existing one, and changes no row.
+/// version that is due at its minute; and then whether its rows keep the invariants. If the file is
+/// refused, writes why. Creates no file but the log of an existing one, and changes no row.
 ///
 /// # Errors
 ///
 /// - `Open(Storage)` if there is no file, the file has an earlier format or no clock's row, or as
-///   for `SqlStore::existing_at`.
+///   for `SqlStore::existing_at`; or after all lines, if the rows have a flaw.
 /// - `Open(NoMemory)` or `NoMemory` if an allocation fails.
 /// - `Write` if the writer fails. A prefix may be written.
 pub(crate) fn check_file<W: Write>(
@@ -150,9 +206,14 @@ pub(crate) fn check_file<W: Write>(
 ) -> Result<(), Fault>
     ensures { IfErr result IsOfShowing }
 {
-    let outcome = summarize(rt, path, writer);
-    if outcome == Err(Fault::Open(OpenFault::Storage)) {
-        show_refusal(rt.alloc(), &cause_at(rt, path), writer)?;
+    match inspect(rt, path, writer) {
+        Ok(None) => Ok(()),
+        Ok(Some(_)) => Err(Fault::Open(OpenFault::Storage)),
+        Err(fault) => {
+            if fault == Fault::Open(OpenFault::Storage) {
+                show_refusal(rt.alloc(), &cause_at(rt, path), writer)?;
+            }
+            Err(fault)
+        }
     }
-    outcome
 }

@@ -378,7 +378,7 @@ static STORED: [LineCase<'static>; 24] = [
         "npacd check --db made.db",
         "",
         0,
-        Some("minute 0\nset 1\nnext_id 1\ncarriers 1\ndue none\n"),
+        Some("minute 0\nset 1\nnext_id 1\ncarriers 1\ndue none\nrows sound\n"),
         NO_OUTPUT,
     ),
     (
