@@ -251,7 +251,7 @@ def found_in_all():
     with tempfile.TemporaryDirectory() as folder:
         file = new_file(folder)
         found = {"summary": is_summary(file, SUMMARY)}
-        found["due"] = is_summary(changed(file, folder, "UPDATE version2 SET deadline = 100 WHERE id = 1"), DUE)
+        found["due"] = is_summary(changed(file, folder, "UPDATE clock2 SET now = 115"), DUE)
         found |= flaws(file, folder) | played(folder)
         found |= changes(file, folder) | beside_others(file, folder) | explanations(file, folder)
         found |= {"in use": is_in_use(file), "no permission": is_forbidden(file)}
