@@ -6,7 +6,7 @@ ghost use Rattle.invariants.specs.Words.{download_words, flaw_words};
 use numbers::Spid;
 use std::alloc::{AllocError, Global};
 
-/// What the rows of a file have that those of no register have. A number alone is a version's id.
+/// What the rows of a file have that those of no register have. A bare number is a version's id.
 #[derive(Clone, Copy, Debug, PartialEq, Eq)]
 pub enum Flaw {
     /// No row has this id, which was given to a version.
