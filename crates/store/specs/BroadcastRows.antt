@@ -12,6 +12,7 @@ use Rattle.settle.specs.Changes.{delete_rows, put_rows, same_broadcast}
 use Rattle.settle.specs.declared.rows.BroadcastKey.{BroadcastKey as BroadcastKeyImpl}
 use Rattle.store.specs.Maps.{seen_entries}
 use Rattle.store.specs.PackedRows.{subject_in, routing_at}
+use Rattle.store.specs.ShortNumbers.{short_of}
 use Rattle.store.specs.declared.keys.BroadcastId.{BroadcastId}
 use Rattle.store.specs.declared.packed_broadcast.PackedBroadcast.{PackedBroadcast}
 use Rattle.store.specs.declared.packed_broadcast.Progress.{Progress}
@@ -41,10 +42,10 @@ is_acknowledged_in ClosedAnswered = true
 -- The row that is packed.
 abbrev pub packed_row_of : PackedBroadcast → BroadcastRow
 packed_row_of p = record {
-  minute = p.minute.number;
+  minute = short_of p.minute.number;
   subject = subject_in p.block.number p.line;
   action = p.action;
-  routing = routing_at p.routing;
+  routing = routing_at (short_of p.routing);
   is_open = is_open_in p.progress;
   any = is_acknowledged_in p.progress;
 }

@@ -9,6 +9,7 @@ use Rattle.model.specs.declared.words.Side.TheVariants.{OldProvider, NewProvider
 use Rattle.store.specs.declared.packed.Kind.{Kind}
 use Rattle.store.specs.declared.packed.Kind.TheVariants.{Pending as KindPending, Conflict as KindConflict, CancelledByOld, CancelledByNew, SendingCreate, SendingDelete, SendingModify, Active as KindActive, PartialFailure as KindPartialFailure, Failed as KindFailed, DisconnectPending as KindDisconnectPending, Old as KindOld, Canceled as KindCanceled}
 use Rattle.store.specs.declared.packed.PackedRow.TheInside.{Inside}
+use Rattle.store.specs.ShortNumbers.{short_of, wide_of}
 
 -- The minute of a number, unless the number is that of a missing minute.
 abbrev pub minute_at : ℕ → Option ℕ
@@ -58,17 +59,17 @@ row_in p = record {
   subject = subject_in p.block.number p.line;
   old_provider = p.old_provider.number;
   new_provider = p.new_provider.number;
-  due = p.due.number;
-  routing = routing_at p.routing;
-  old_at = minute_at p.old_at;
-  new_at = minute_at p.new_at;
-  status = status_at p.kind p.detail;
-  since = p.since.number;
+  due = short_of p.due.number;
+  routing = routing_at (short_of p.routing);
+  old_at = minute_at (short_of p.old_at);
+  new_at = minute_at (short_of p.new_at);
+  status = status_at p.kind (short_of p.detail);
+  since = short_of p.since.number;
   held = p.held;
-  attempt = p.attempt;
+  attempt = wide_of p.attempt;
   spent = p.is_conflict_spent;
   protective = p.is_protective;
-  deadline = minute_at p.deadline;
+  deadline = minute_at (short_of p.deadline);
   holds = subject_if p.is_in_force (subject_in p.block.number p.line);
   opens = subject_if p.is_open (subject_in p.block.number p.line);
 }

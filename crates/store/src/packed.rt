@@ -1,13 +1,16 @@
 //! The rows of versions, packed.
 //!
-//! A packed row takes 88 bytes, a `VersionRow` 152. Fields lie in their order, so the widest are
-//! first. A missing minute, code or routing is a number beyond all others.
+//! A packed row takes 72 bytes, a `VersionRow` 152. Fields lie in their order, so the widest are
+//! first. None has eight bytes at once, so that the tag of an `Option` takes four only. A missing
+//! minute, code or routing is a number beyond all others.
 ghost use Rattle.std.specs.Prelude.{◌≡◌, option_map};
 ghost use Rattle.numbers.specs.Abstraction.{minute_of, routing_of, subject_of};
 ghost use Rattle.model.specs.Abstraction.{status_of};
 ghost use Rattle.numbers.specs.declared.cic.Cic.{Cic};
 ghost use Rattle.store.specs.PackedRows.{cic_at, minute_at, routing_at, status_at, subject_in};
+ghost use Rattle.store.specs.ShortNumbers.{short_of};
 
+use crate::short::{Short, ShortMinute, Wide};
 use model::{Side, Status};
 use numbers::{BlockId, Cic, Line, Lrn, Minute, Routing, Spid, Subject};
 use settle::VersionRow;
@@ -50,18 +53,18 @@ pub enum Kind {
 /// A version's row, packed.
 #[derive(Drop)]
 pub struct PackedRow {
-    due: Minute,
-    since: Minute,
-    old_at: u64,
-    new_at: u64,
-    deadline: u64,
-    attempt: u64,
-    routing: u64,
-    // The routing or the minute that is part of the status.
-    detail: u64,
+    attempt: Wide,
     old_provider: Spid,
     new_provider: Spid,
     block: BlockId,
+    due: ShortMinute,
+    since: ShortMinute,
+    old_at: Short,
+    new_at: Short,
+    deadline: Short,
+    routing: Short,
+    // The routing or the minute that is part of the status.
+    detail: Short,
     line: u16,
     held: u16,
     kind: Kind,
@@ -80,34 +83,34 @@ impl Model for PackedRow {
     ghost view = { row_in };
 }
 
-fn packed_minute(minute: Option<Minute>) -> u64
-    ensures { minute_at result ≡ option_map minute_of minute }
+fn packed_minute(minute: Option<Minute>) -> Short
+    ensures { minute_at (short_of result) ≡ option_map minute_of minute }
 {
     match minute {
-        None => NO_MINUTE,
-        Some(minute) => minute.number,
+        None => Short::of(NO_MINUTE),
+        Some(minute) => Short::of(minute.number),
     }
 }
 
-fn minute_at(number: u64) -> Option<Minute>
-    ensures { option_map minute_of result ≡ minute_at number }
+fn minute_at(number: Short) -> Option<Minute>
+    ensures { option_map minute_of result ≡ minute_at (short_of number) }
 {
-    Minute::new(number)
+    Minute::new(number.number())
 }
 
 /// Returns the number of a routing, or that of a missing one.
-pub fn packed_routing(routing: Option<Routing>) -> u64
-    ensures { routing_at result ≡ option_map routing_of routing }
+pub fn packed_routing(routing: Option<Routing>) -> Short
+    ensures { routing_at (short_of result) ≡ option_map routing_of routing }
 {
     match routing {
-        None => NO_ROUTING,
-        Some(Routing { lrn, cic: None }) => lrn.number * CICS + NO_CIC,
+        None => Short::of(NO_ROUTING),
+        Some(Routing { lrn, cic: None }) => Short::of(lrn.number * CICS + NO_CIC),
         Some(
             Routing {
                 lrn,
                 cic: Some(cic),
             },
-        ) => lrn.number * CICS + u64::from(cic.number),
+        ) => Short::of(lrn.number * CICS + u64::from(cic.number)),
     }
 }
 
@@ -124,9 +127,10 @@ fn cic_at(number: u64) -> Option<Cic>
 }
 
 /// Returns the routing of a number, unless the number is that of a missing routing.
-pub fn routing_at(number: u64) -> Option<Routing>
-    ensures { option_map routing_of result ≡ routing_at number }
+pub fn routing_at(number: Short) -> Option<Routing>
+    ensures { option_map routing_of result ≡ routing_at (short_of number) }
 {
+    let number = number.number();
     let lrn = number / CICS;
     if lrn < 10_000_000_000 {
         Some(Routing {
@@ -160,31 +164,31 @@ pub fn subject_in(block: BlockId, line: u16) -> Subject
 }
 
 // Returns the kind of a status, and the routing or the minute that is part of it.
-fn packed_status(status: Status) -> (Kind, u64)
-    ensures { status_at result.0 result.1 ≡ status_of status }
+fn packed_status(status: Status) -> (Kind, Short)
+    ensures { status_at result.0 (short_of result.1) ≡ status_of status }
 {
     match status {
-        Status::Pending => (Kind::Pending, 0),
-        Status::Conflict => (Kind::Conflict, 0),
-        Status::CancelPending(Side::OldProvider) => (Kind::CancelledByOld, 0),
-        Status::CancelPending(Side::NewProvider) => (Kind::CancelledByNew, 0),
-        Status::SendingCreate => (Kind::SendingCreate, 0),
-        Status::SendingDelete => (Kind::SendingDelete, 0),
+        Status::Pending => (Kind::Pending, Short::ZERO),
+        Status::Conflict => (Kind::Conflict, Short::ZERO),
+        Status::CancelPending(Side::OldProvider) => (Kind::CancelledByOld, Short::ZERO),
+        Status::CancelPending(Side::NewProvider) => (Kind::CancelledByNew, Short::ZERO),
+        Status::SendingCreate => (Kind::SendingCreate, Short::ZERO),
+        Status::SendingDelete => (Kind::SendingDelete, Short::ZERO),
         Status::SendingModify { cic, lrn } => (
             Kind::SendingModify,
             packed_routing(Some(Routing { lrn, cic })),
         ),
-        Status::Active => (Kind::Active, 0),
-        Status::PartialFailure => (Kind::PartialFailure, 0),
-        Status::Failed => (Kind::Failed, 0),
-        Status::DisconnectPending(minute) => (Kind::DisconnectPending, minute.number),
-        Status::Old => (Kind::Old, 0),
-        Status::Canceled => (Kind::Canceled, 0),
+        Status::Active => (Kind::Active, Short::ZERO),
+        Status::PartialFailure => (Kind::PartialFailure, Short::ZERO),
+        Status::Failed => (Kind::Failed, Short::ZERO),
+        Status::DisconnectPending(minute) => { (Kind::DisconnectPending, Short::of(minute.number)) }
+        Status::Old => (Kind::Old, Short::ZERO),
+        Status::Canceled => (Kind::Canceled, Short::ZERO),
     }
 }
 
-fn status_at(kind: Kind, detail: u64) -> Status
-    ensures { status_of result ≡ status_at kind detail }
+fn status_at(kind: Kind, detail: Short) -> Status
+    ensures { status_of result ≡ status_at kind (short_of detail) }
 {
     match kind {
         Kind::Pending => Status::Pending,
@@ -218,17 +222,17 @@ impl PackedRow {
         let (block, line) = packed_subject(version.subject);
         let (kind, detail) = packed_status(version.status);
         PackedRow {
-            due: version.due,
-            since: version.since,
-            old_at: packed_minute(version.old_at),
-            new_at: packed_minute(version.new_at),
-            deadline: packed_minute(row.deadline),
-            attempt: version.attempt,
-            routing: packed_routing(version.routing),
-            detail,
+            attempt: Wide::of(version.attempt),
             old_provider: version.old_provider,
             new_provider: version.new_provider,
             block,
+            due: ShortMinute::of(version.due),
+            since: ShortMinute::of(version.since),
+            old_at: packed_minute(version.old_at),
+            new_at: packed_minute(version.new_at),
+            deadline: packed_minute(row.deadline),
+            routing: packed_routing(version.routing),
+            detail,
             line,
             held: version.held,
             kind,
@@ -248,13 +252,13 @@ impl PackedRow {
                 subject: self.subject(),
                 old_provider: self.old_provider,
                 new_provider: self.new_provider,
-                due: self.due,
+                due: self.due.minute(),
                 routing: self.routing(),
                 old_at: minute_at(self.old_at),
                 new_at: minute_at(self.new_at),
                 status: status_at(self.kind, self.detail),
-                since: self.since,
-                attempt: self.attempt,
+                since: self.since.minute(),
+                attempt: self.attempt.number(),
                 held: self.held,
                 is_conflict_spent: self.is_conflict_spent,
                 is_protective: self.is_protective,

@@ -1,14 +1,15 @@
 //! The rows of broadcasts, packed.
 //!
-//! A packed row takes 24 bytes, a `Broadcast` 64. Fields lie in their order, so the widest are first.
+//! A packed row takes 20 bytes, a `Broadcast` 64. Fields lie in their order, so the widest are first.
 ghost use Rattle.std.specs.Prelude.{◌≡◌};
 ghost use Rattle.settle.specs.Abstraction.{broadcast_row_of};
 ghost use Rattle.store.specs.BroadcastRows.{is_open_in, is_acknowledged_in, packed_row_of};
 
 use crate::packed::{packed_routing, packed_subject, routing_at, subject_in};
+use crate::short::{Short, ShortMinute};
 use delivery::Broadcast;
 use model::Action;
-use numbers::{BlockId, Minute};
+use numbers::BlockId;
 
 /// Whether a broadcast is open, and whether some recipient has acknowledged it.
 #[derive(Clone, Copy)]
@@ -54,9 +55,9 @@ impl Progress {
 /// A broadcast's row, packed.
 #[derive(Clone, Copy)]
 pub struct PackedBroadcast {
-    minute: Minute,
-    routing: u64,
     block: BlockId,
+    minute: ShortMinute,
+    routing: Short,
     line: u16,
     action: Action,
     progress: Progress,
@@ -69,9 +70,9 @@ impl PackedBroadcast {
     {
         let (block, line) = packed_subject(row.subject);
         PackedBroadcast {
-            minute: row.minute,
-            routing: packed_routing(row.routing),
             block,
+            minute: ShortMinute::of(row.minute),
+            routing: packed_routing(row.routing),
             line,
             action: row.action,
             progress: Progress::of(row.is_open, row.is_acknowledged),
@@ -83,7 +84,7 @@ impl PackedBroadcast {
         ensures { broadcast_row_of result ≡ packed_row_of self.now }
     {
         Broadcast {
-            minute: self.minute,
+            minute: self.minute.minute(),
             subject: subject_in(self.block, self.line),
             action: self.action,
             routing: routing_at(self.routing),
