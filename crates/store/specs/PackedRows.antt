@@ -9,7 +9,7 @@ use Rattle.model.specs.declared.words.Side.TheVariants.{OldProvider, NewProvider
 use Rattle.store.specs.declared.packed.Kind.{Kind}
 use Rattle.store.specs.declared.packed.Kind.TheVariants.{Pending as KindPending, Conflict as KindConflict, CancelledByOld, CancelledByNew, SendingCreate, SendingDelete, SendingModify, Active as KindActive, PartialFailure as KindPartialFailure, Failed as KindFailed, DisconnectPending as KindDisconnectPending, Old as KindOld, Canceled as KindCanceled}
 use Rattle.store.specs.declared.packed.PackedRow.TheInside.{Inside}
-use Rattle.store.specs.ShortNumbers.{short_of, wide_of}
+use Rattle.store.specs.ShortNumbers.{short_of, wide_of, is_odd}
 
 -- The minute of a number, unless the number is that of a missing minute.
 abbrev pub minute_at : ℕ → Option ℕ
@@ -67,9 +67,9 @@ row_in p = record {
   since = short_of p.since.number;
   held = p.held;
   attempt = wide_of p.attempt;
-  spent = p.is_conflict_spent;
-  protective = p.is_protective;
+  spent = is_odd p.truths.number;
+  protective = is_odd (p.truths.number / 2);
   deadline = minute_at (short_of p.deadline);
-  holds = subject_if p.is_in_force (subject_in p.block.number p.line);
-  opens = subject_if p.is_open (subject_in p.block.number p.line);
+  holds = subject_if (is_odd (p.truths.number / 4)) (subject_in p.block.number p.line);
+  opens = subject_if (is_odd (p.truths.number / 8)) (subject_in p.block.number p.line);
 }

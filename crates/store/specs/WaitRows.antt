@@ -20,9 +20,8 @@ use Rattle.store.specs.Lists.{is_subject}
 use Rattle.store.specs.Maps.{seen_entries}
 use Rattle.store.specs.declared.keys.RowKey.{RowKey as RowKeyImpl}
 use Rattle.store.specs.PackedRows.{subject_in}
-use Rattle.store.specs.declared.waiting.Carriers.{Carriers}
-use Rattle.store.specs.declared.waiting.Carriers.TheVariants as carriers
 use Rattle.store.specs.declared.waiting.Waiting.{Waiting as WaitingImpl}
+use Rattle.store.specs.declared.waiting.Waiting.TheVariants as row
 
 -- A download without its carrier.
 pub record Download : Type 0 where
@@ -66,15 +65,22 @@ awaited (Some w) carrier = cond (list_any (λ k. carrier == k) w.1) (Some w.0) N
 abbrev pub row_key_of : RowKeyImpl → Download
 row_key_of k = record { minute = k.minute; id = k.id; attempt = k.attempt }
 
+-- The subject of a row.
+abbrev pub subject_of_row : WaitingImpl → Subject
+subject_of_row (row.Nobody line block) = subject_in block.number line
+subject_of_row (row.One line block own) = subject_in block.number line
+subject_of_row (row.Two line block own) = subject_in block.number line
+subject_of_row (row.Many line block all) = subject_in block.number line
+
 -- The carriers of a row in order.
-abbrev pub spids_of : Carriers → List Spid
-spids_of carriers.Nobody = []
-spids_of (carriers.One own) = own
-spids_of (carriers.Two own) = own
-spids_of (carriers.Many all) = all.value.items
+abbrev pub spids_of : WaitingImpl → List Spid
+spids_of (row.Nobody line block) = []
+spids_of (row.One line block own) = own
+spids_of (row.Two line block own) = own
+spids_of (row.Many line block all) = all.value.items
 
 abbrev pub waiting_of : WaitingImpl → Waiting
-waiting_of w = (subject_in w.block.number w.line, map spid_of (spids_of w.carriers))
+waiting_of w = (subject_of_row w, map spid_of (spids_of w))
 
 abbrev pub rows_of : List (RowKeyImpl × WaitingImpl) → FinMap download_cmp Waiting
 rows_of es = from_entries {R = download_cmp} (seen_entries row_key_of waiting_of es)

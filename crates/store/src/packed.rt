@@ -1,6 +1,6 @@
 //! The rows of versions, packed.
 //!
-//! A packed row takes 72 bytes, a `VersionRow` 152. Fields lie in their order, so the widest are
+//! A packed row takes 68 bytes, a `VersionRow` 152. Fields lie in their order, so the widest are
 //! first. None has eight bytes at once, so that the tag of an `Option` takes four only. A missing
 //! minute, code or routing is a number beyond all others.
 ghost use Rattle.std.specs.Prelude.{◌≡◌, option_map};
@@ -10,7 +10,7 @@ ghost use Rattle.numbers.specs.declared.cic.Cic.{Cic};
 ghost use Rattle.store.specs.PackedRows.{cic_at, minute_at, routing_at, status_at, subject_in};
 ghost use Rattle.store.specs.ShortNumbers.{short_of};
 
-use crate::short::{Short, ShortMinute, Wide};
+use crate::short::{Short, ShortMinute, Truths, Wide};
 use model::{Side, Status};
 use numbers::{BlockId, Cic, Line, Lrn, Minute, Routing, Spid, Subject};
 use settle::VersionRow;
@@ -68,10 +68,8 @@ pub struct PackedRow {
     line: u16,
     held: u16,
     kind: Kind,
-    is_conflict_spent: bool,
-    is_protective: bool,
-    is_in_force: bool,
-    is_open: bool,
+    // Whether its conflict is spent, whether it is protective, in force, and open.
+    truths: Truths,
 }
 
 impl Model for PackedRow {
@@ -236,10 +234,12 @@ impl PackedRow {
             line,
             held: version.held,
             kind,
-            is_conflict_spent: version.is_conflict_spent,
-            is_protective: version.is_protective,
-            is_in_force: row.is_in_force,
-            is_open: row.is_open,
+            truths: Truths::of(
+                version.is_conflict_spent,
+                version.is_protective,
+                row.is_in_force,
+                row.is_open,
+            ),
         }
     }
 
@@ -260,12 +260,12 @@ impl PackedRow {
                 since: self.since.minute(),
                 attempt: self.attempt.number(),
                 held: self.held,
-                is_conflict_spent: self.is_conflict_spent,
-                is_protective: self.is_protective,
+                is_conflict_spent: self.truths.first(),
+                is_protective: self.truths.second(),
             },
             deadline: self.deadline(),
-            is_in_force: self.is_in_force,
-            is_open: self.is_open,
+            is_in_force: self.truths.third(),
+            is_open: self.truths.fourth(),
         }
     }
 
@@ -279,14 +279,14 @@ impl PackedRow {
     pub fn holds(&self) -> Option<Subject>
         ensures { option_map subject_of result ≡ self.now.holds }
     {
-        self.is_in_force.then_some(self.subject())
+        self.truths.third().then_some(self.subject())
     }
 
     /// Returns the subject if the version is open.
     pub fn opens(&self) -> Option<Subject>
         ensures { option_map subject_of result ≡ self.now.opens }
     {
-        self.is_open.then_some(self.subject())
+        self.truths.fourth().then_some(self.subject())
     }
 
     /// Returns the routing.

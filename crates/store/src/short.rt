@@ -1,8 +1,8 @@
-//! Numbers in as few bytes as they need, and with no more than four bytes at once.
-ghost use Rattle.std.specs.Prelude.{◌≡◌, ◌<◌, ◌^◌};
+//! Numbers and truths in as few bytes as they need, and with no more than four bytes at once.
+ghost use Rattle.std.specs.Prelude.{◌≡◌, ◌<◌, ◌^◌, ◌/◌, cond};
 ghost use Rattle.numbers.specs.Abstraction.{minute_of};
 ghost use Rattle.numbers.specs.Digits.{IsMinute};
-ghost use Rattle.store.specs.ShortNumbers.{short_of, wide_of};
+ghost use Rattle.store.specs.ShortNumbers.{short_of, wide_of, is_odd};
 
 use numbers::Minute;
 
@@ -92,5 +92,59 @@ impl Wide {
         ensures { result ≡ wide_of self }
     {
         u64::from(self.low) + 4_294_967_296 * u64::from(self.high)
+    }
+}
+
+fn bit(truth: bool) -> u8
+    ensures { result ≡ cond truth 1 0 }
+{
+    if truth { 1 } else { 0 }
+}
+
+/// Four truths, in one byte.
+#[derive(Clone, Copy)]
+pub struct Truths {
+    number: u8,
+}
+
+impl Truths {
+    /// Packs four truths.
+    pub fn of(first: bool, second: bool, third: bool, fourth: bool) -> Truths
+        ensures first { is_odd result.number ≡ first }
+        ensures second { is_odd (result.number / 2) ≡ second }
+        ensures third { is_odd (result.number / 4) ≡ third }
+        ensures fourth { is_odd (result.number / 8) ≡ fourth }
+    {
+        Truths {
+            number: bit(first) + 2 * bit(second) + 4 * bit(third) + 8 * bit(fourth),
+        }
+    }
+
+    /// Returns the first truth.
+    pub fn first(self) -> bool
+        ensures { result ≡ is_odd self.number }
+    {
+        self.number % 2 == 1
+    }
+
+    /// Returns the second truth.
+    pub fn second(self) -> bool
+        ensures { result ≡ is_odd (self.number / 2) }
+    {
+        self.number / 2 % 2 == 1
+    }
+
+    /// Returns the third truth.
+    pub fn third(self) -> bool
+        ensures { result ≡ is_odd (self.number / 4) }
+    {
+        self.number / 4 % 2 == 1
+    }
+
+    /// Returns the fourth truth.
+    pub fn fourth(self) -> bool
+        ensures { result ≡ is_odd (self.number / 8) }
+    {
+        self.number / 8 % 2 == 1
     }
 }

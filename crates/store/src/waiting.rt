@@ -1,10 +1,11 @@
-//! The carriers for which one broadcast is pending.
+//! The subject of one broadcast, and the carriers for which it is pending.
 ghost use Rattle.std.specs.Prelude.{◌≡◌, ◌==◌, ◌++◌, ◌∷◌, [], Some, IfOk, IfSome, OnOk, OnErr, not, filter, option_map};
 ghost use Rattle.std.specs.List.{list_any};
 ghost use Rattle.std.specs.Option.{option_to_list};
 ghost use Rattle.numbers.specs.Abstraction.{subject_of};
 ghost use Rattle.numbers.specs.declared.spid.Spid.{Spid};
-ghost use Rattle.store.specs.WaitRows.{spids_of, waiting_of, awaited, IsFirst, IsAdded, IsWithout};
+ghost use Rattle.store.specs.PackedRows.{subject_in};
+ghost use Rattle.store.specs.WaitRows.{subject_of_row, spids_of, waiting_of, awaited, IsFirst, IsAdded, IsWithout};
 
 use crate::packed::{packed_subject, subject_in};
 use numbers::{BlockId, Spid, Subject};
@@ -13,55 +14,18 @@ use std::alloc::{AllocError, Global};
 // The number of carriers that a row gets room for with its third one, so that most rows grow once.
 const MANY: usize = 16;
 
-/// Carriers in the order in which they were added. Up to two need no memory beside the row. More are
-/// boxed, since a broadcast is seldom pending for more of them for long.
-#[derive(Drop)]
-pub enum Carriers {
-    Nobody,
-    One([Spid; 1]),
-    Two([Spid; 2]),
-    Many(Box<Vec<Spid>>),
-}
-
-impl Carriers {
-    // Creates a list of those of `first` and `second` that are `Some`, in this order.
-    fn of(first: Option<Spid>, second: Option<Spid>) -> Carriers
-        ensures { spids_of result ≡ option_to_list first ++ option_to_list second }
-    {
-        match first {
-            None => match second {
-                None => Carriers::Nobody,
-                Some(carrier) => Carriers::One([carrier]),
-            },
-            Some(first) => match second {
-                None => Carriers::One([first]),
-                Some(second) => Carriers::Two([first, second]),
-            },
-        }
-    }
-
-    /// Returns the carriers in order.
-    pub fn as_slice(&self) -> &[Spid]
-        ensures { result.now ≡ spids_of self.now }
-    {
-        match self {
-            Carriers::Nobody => &[],
-            Carriers::One(own) => own.as_slice(),
-            Carriers::Two(own) => own.as_slice(),
-            Carriers::Many(all) => all.as_slice(),
-        }
-    }
-}
-
-/// A broadcast's subject, and the carriers that still have to acknowledge it, in 24 bytes.
+/// A broadcast's subject, and the carriers that still have to acknowledge it in the order in which
+/// they were added, in 16 bytes.
 ///
-/// The subject is packed into the number of its block and a line. Fields lie in their order, so the
-/// widest is first.
+/// Up to two carriers need no memory beside the row. More are boxed, since a broadcast is seldom
+/// pending for more of them for long. The subject is packed into a line and the number of its block.
+/// Fields lie in their order, so the line is beside the variant's tag.
 #[derive(Drop)]
-pub struct Waiting {
-    pub carriers: Carriers,
-    block: BlockId,
-    line: u16,
+pub enum Waiting {
+    Nobody(u16, BlockId),
+    One(u16, BlockId, [Spid; 1]),
+    Two(u16, BlockId, [Spid; 2]),
+    Many(u16, BlockId, Box<Vec<Spid>>),
 }
 
 /// Returns whether the carrier is among `carriers`.
@@ -83,54 +47,78 @@ fn other(removed: Spid, carrier: Spid) -> Option<Spid>
     }
 }
 
-// Returns the carriers as a list that needs no memory, if there are at most two.
-fn in_place(carriers: &[Spid]) -> Option<Carriers>
-    ensures { IfSome result (λ few. spids_of few ≡ carriers.now) }
+// Returns the carriers, if there are at most two.
+fn at_most_two(carriers: &[Spid]) -> Option<(Option<Spid>, Option<Spid>)>
+    ensures { IfSome result (λ few. option_to_list few.0 ++ option_to_list few.1 ≡ carriers.now) }
 {
     match carriers {
-        [] => Some(Carriers::Nobody),
-        [only] => Some(Carriers::One([*only])),
-        [first, second] => Some(Carriers::Two([*first, *second])),
+        [] => Some((None, None)),
+        [only] => Some((Some(*only), None)),
+        [first, second] => Some((Some(*first), Some(*second))),
         _ => None,
     }
 }
 
-// Removes a carrier. If at most two stay, frees the memory beside the row.
-fn remove_carrier(carrier: Spid, carriers: &mut Carriers)
-    ensures { spids_of carriers.new
-        ≡ filter (λ (k : Spid). not (carrier.number == k.number)) (spids_of carriers.old) }
+// Creates the row of a packed subject with those of `first` and `second` that are `Some`, in this
+// order.
+fn with_few(line: u16, block: BlockId, first: Option<Spid>, second: Option<Spid>) -> Waiting
+    ensures subject { subject_of_row result ≡ subject_in block.number line }
+    ensures carriers { spids_of result ≡ option_to_list first ++ option_to_list second }
 {
-    match carriers {
-        Carriers::Nobody => {}
-        Carriers::One(own) => *carriers = Carriers::of(other(carrier, own[0]), None),
-        Carriers::Two(own) => {
-            *carriers = Carriers::of(other(carrier, own[0]), other(carrier, own[1]));
+    match first {
+        None => match second {
+            None => Waiting::Nobody(line, block),
+            Some(carrier) => Waiting::One(line, block, [carrier]),
+        },
+        Some(first) => match second {
+            None => Waiting::One(line, block, [first]),
+            Some(second) => Waiting::Two(line, block, [first, second]),
+        },
+    }
+}
+
+// Removes a carrier. If at most two stay, frees the memory beside the row.
+fn remove_carrier(carrier: Spid, row: &mut Waiting)
+    ensures subject { subject_of_row row.new ≡ subject_of_row row.old }
+    ensures carriers { spids_of row.new
+        ≡ filter (λ (k : Spid). not (carrier.number == k.number)) (spids_of row.old) }
+{
+    let (line, block) = row.place();
+    match row {
+        Waiting::Nobody(_, _) => {}
+        Waiting::One(_, _, own) => {
+            *row = with_few(line, block, other(carrier, own[0]), None);
         }
-        Carriers::Many(all) => {
+        Waiting::Two(_, _, own) => {
+            *row = with_few(line, block, other(carrier, own[0]), other(carrier, own[1]));
+        }
+        Waiting::Many(_, _, all) => {
             all.retain(|each| carrier.number != each.number);
-            if let Some(few) = in_place(all.as_slice()) {
-                *carriers = few;
+            if let Some((first, second)) = at_most_two(all.as_slice()) {
+                *row = with_few(line, block, first, second);
             }
         }
     }
 }
 
 // Adds a carrier. Changes nothing if an allocation fails.
-fn push_carrier(alloc: Global, carrier: Spid, carriers: &mut Carriers) -> Result<(), AllocError>
-    ensures ok { OnOk result (spids_of carriers.new ≡ spids_of carriers.old ++ carrier ∷ []) }
-    ensures err { OnErr result (spids_of carriers.new ≡ spids_of carriers.old) }
+fn push_carrier(alloc: Global, carrier: Spid, row: &mut Waiting) -> Result<(), AllocError>
+    ensures subject { subject_of_row row.new ≡ subject_of_row row.old }
+    ensures ok { OnOk result (spids_of row.new ≡ spids_of row.old ++ carrier ∷ []) }
+    ensures err { OnErr result (spids_of row.new ≡ spids_of row.old) }
 {
-    match carriers {
-        Carriers::Nobody => *carriers = Carriers::One([carrier]),
-        Carriers::One(own) => *carriers = Carriers::Two([own[0], carrier]),
-        Carriers::Two(own) => {
+    let (line, block) = row.place();
+    match row {
+        Waiting::Nobody(_, _) => *row = Waiting::One(line, block, [carrier]),
+        Waiting::One(_, _, own) => *row = Waiting::Two(line, block, [own[0], carrier]),
+        Waiting::Two(_, _, own) => {
             let mut many = Vec::with_capacity(alloc, MANY)?;
             many.push(own[0])?;
             many.push(own[1])?;
             many.push(carrier)?;
-            *carriers = Carriers::Many(Box::new(alloc, many)?);
+            *row = Waiting::Many(line, block, Box::new(alloc, many)?);
         }
-        Carriers::Many(all) => all.push(carrier)?,
+        Waiting::Many(_, _, all) => all.push(carrier)?,
     }
     Ok(())
 }
@@ -141,18 +129,39 @@ impl Waiting {
         ensures { IsFirst carrier.number (subject_of subject) (waiting_of result) }
     {
         let (block, line) = packed_subject(subject);
-        Waiting {
-            carriers: Carriers::One([carrier]),
-            block,
-            line,
+        Waiting::One(line, block, [carrier])
+    }
+
+    // Returns the packed subject.
+    fn place(&self) -> (u16, BlockId)
+        ensures { subject_in result.1.number result.0 ≡ subject_of_row self.now }
+    {
+        match self {
+            Waiting::Nobody(line, block)
+            | Waiting::One(line, block, _)
+            | Waiting::Two(line, block, _)
+            | Waiting::Many(line, block, _) => (*line, *block),
+        }
+    }
+
+    /// Returns the carriers in order.
+    pub fn carriers(&self) -> &[Spid]
+        ensures { result.now ≡ spids_of self.now }
+    {
+        match self {
+            Waiting::Nobody(_, _) => &[],
+            Waiting::One(_, _, own) => own.as_slice(),
+            Waiting::Two(_, _, own) => own.as_slice(),
+            Waiting::Many(_, _, all) => all.as_slice(),
         }
     }
 
     /// Returns the broadcast's subject.
     pub fn subject(&self) -> Subject
-        ensures { subject_of result ≡ (waiting_of self.now).0 }
+        ensures { subject_of result ≡ subject_of_row self.now }
     {
-        subject_in(self.block, self.line)
+        let (line, block) = self.place();
+        subject_in(block, line)
     }
 
     /// Returns the subject if the broadcast is pending for the carrier.
@@ -160,7 +169,7 @@ impl Waiting {
         ensures { option_map subject_of result
             ≡ awaited (Some (waiting_of self.now)) carrier.number }
     {
-        if is_among(carrier, self.carriers.as_slice()) {
+        if is_among(carrier, self.carriers()) {
             Some(self.subject())
         } else {
             None
@@ -187,7 +196,7 @@ impl Waiting {
         }
         let before = self.subject_for(carrier);
         if before.is_none() {
-            push_carrier(alloc, carrier, &mut self.carriers)?;
+            push_carrier(alloc, carrier, self)?;
         }
         Ok(before)
     }
@@ -196,6 +205,6 @@ impl Waiting {
     pub fn take(&mut self, carrier: Spid)
         ensures { IsWithout carrier.number (waiting_of self.old) (waiting_of self.new) }
     {
-        remove_carrier(carrier, &mut self.carriers);
+        remove_carrier(carrier, self);
     }
 }

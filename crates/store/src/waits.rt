@@ -187,7 +187,7 @@ impl Waits {
     {
         match self.rows.get(&broadcast_of(key)) {
             None => &[],
-            Some(row) => row.carriers.as_slice(),
+            Some(row) => row.carriers(),
         }
     }
 
@@ -228,7 +228,7 @@ impl Waits {
         };
         let before = row.subject_for(key.carrier);
         row.take(key.carrier);
-        if row.carriers.as_slice().is_empty() {
+        if row.carriers().is_empty() {
             let subject = row.subject();
             let _ = self.rows.remove(&broadcast);
             remove_keys(&mut self.about, &mut self.order, subject, key);

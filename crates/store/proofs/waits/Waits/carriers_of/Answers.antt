@@ -29,5 +29,5 @@ returns-in-Some c = λ carrier.
     (wait_for (download_of (wait_key_of c.args.key)) carrier) (Some c.in-Some.row.now)
     c.broadcast_of.ensures (search rules))
     ∙ is_there _ _
-    ∙ any-seen carrier (spids_of c.in-Some.row.now.carriers)
-    ∙ sym (ap (list_any (λ (k : Spid). carrier == k.number)) c.as_slice.ensures)
+    ∙ any-seen carrier (spids_of c.in-Some.row.now)
+    ∙ sym (ap (list_any (λ (k : Spid). carrier == k.number)) c.carriers.ensures)

@@ -64,8 +64,8 @@ returns-then-is_empty-clause-taken c =
     (c.get_mut.follows.lender c.take.new.self).entries c.remove.new.self.entries
     c.broadcast_of-broadcast.result (wait_key_of c.args.key) c.take.new.self
     c.broadcast_of-broadcast.ensures (search rules) c.remove.ensures.updates.0 in
-    let nobody : spids_of c.take.new.self.carriers ≡ [] =
-    no_members (spids_of c.take.new.self.carriers) (search rules) in
+    let nobody : spids_of c.take.new.self ≡ [] =
+    no_members (spids_of c.take.new.self) (search rules) in
     gone-waits (rows_of c.self.inside.rows.entries) (rows_of c.remove.new.self.entries)
     (wait_key_of c.args.key) (waiting_of c.in-Some.row.now) (waiting_of c.take.new.self)
     (row-at c.self.inside.rows.entries c.broadcast_of-broadcast.result (wait_key_of c.args.key)
