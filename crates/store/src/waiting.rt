@@ -18,8 +18,8 @@ const MANY: usize = 16;
 /// they were added, in 16 bytes.
 ///
 /// Up to two carriers need no memory beside the row. More are boxed, since a broadcast is seldom
-/// pending for more of them for long. The subject is packed into a line and the number of its block.
-/// Fields lie in their order, so the line is beside the variant's tag.
+/// pending for more of them for long. The subject is packed into a line and the number of its
+/// block. Fields lie in their order, so the line is beside the variant's tag.
 #[derive(Drop)]
 pub enum Waiting {
     Nobody(u16, BlockId),

@@ -20,6 +20,9 @@ returns-in_ok-push_carrier-clause-added c =
     (equal_number (key_of c.subject.result) (key_of c.args.subject) keys) in
     subst (λ (w : Waiting). IsAdded c.args.carrier.number (subject_of c.args.subject)
     (own, map spid_of (spids_of c.args.self.now)) w)
-    (λ i. (sym c.push_carrier.ensures.subject i, map spid_of (sym c.in_ok-push_carrier.ensures.ok i)))
+    (λ i. (
+      sym c.push_carrier.ensures.subject i,
+      map spid_of (sym c.in_ok-push_carrier.ensures.ok i),
+    ))
     (added (subject_of c.args.subject) c.args.carrier.number (spids_of c.args.self.now)
     c.args.carrier own refl same)
