@@ -1,44 +1,82 @@
 """Compares how fast two builds of the program serve, in turns in one run.
 
-    bench/run serve-before BEFORE [N [FOLDER]]      (default 20000; BEFORE is an earlier program; in memory, or over new files in FOLDER;
-                                                     needs the built program)
+    bench/run serve-before BEFORE [SECONDS [FOLDER]]      (default 2; BEFORE is an earlier program; in memory, or over new files in
+                                                           FOLDER; needs the built program and wrk)
 
-Each does in three rounds what `serve` measures: N queries on one connection; twenty at a time on one; a connection for each of N / 10.
-The present program then has 16 and 128 kept connections, one query at a time on each. The best round of each counts.
+In each of five rounds both answer queries for so many seconds: of wrk on one connection that it keeps, of a client that
+sends twenty at a time, and of one with a connection for each. Then wrk asks the present program on 16 and 128
+connections. The median of the rounds counts, and the longest wait of all.
 """
+import statistics
+import subprocess
+import tempfile
 import time
 
 from lib.measure import folder
 from lib.program import PROGRAM, serving
+from clients import BODY
 from serve import FED, on_kept, on_short
 
-ROUNDS = 3
+ROUNDS = 5
+
+WRK = f"""
+wrk.method = "POST"
+wrk.body = '{BODY}'
+wrk.headers["x-spid"] = "AAAA"
+function done(summary, latency, requests)
+  local errors = summary.errors
+  local others = errors.connect + errors.read + errors.write + errors.status + errors.timeout
+  io.stderr:write(string.format("%d %d %d %d", summary.requests, summary.duration, others, latency.max))
+end
+"""
 
 
-def rate(program, within, many, work):
-    """The messages a second that a program answers."""
+def by_wrk(port, connections, seconds):
+    """The messages a second of wrk's connections, and the longest wait in milliseconds."""
+    with tempfile.NamedTemporaryFile("w", suffix=".lua") as script:
+        script.write(WRK)
+        script.flush()
+        words = ["wrk", "-t1", f"-c{connections}", f"-d{seconds}s", "-s", script.name, f"http://127.0.0.1:{port}/query"]
+        said = subprocess.run(words, capture_output=True, text=True, check=True).stderr
+    count, duration, others, longest = map(int, said.split())
+    assert not others, said
+    return 1e6 * count / duration, longest / 1000
+
+
+def repeated(work, many, seconds):
+    """The messages a second of a work that sends so many, again and again."""
+    begun, count = time.monotonic(), 0
+    while time.monotonic() < begun + seconds:
+        work(many)
+        count += many
+    return count / (time.monotonic() - begun)
+
+
+def rate(program, within, work):
+    """What a work measures of a program that serves."""
     with folder(within) as held:
         words = ("--db", str(held / "register.db")) if within else ()
         with serving(*FED, *words, program=program) as (_, port):
-            begun = time.monotonic()
-            work(port)
-            return many / (time.monotonic() - begun)
+            return work(port)
 
 
 def main(words):
-    before, many = words[0], int(words[1]) if len(words) > 1 else 20_000
+    before, seconds = words[0], int(words[1]) if len(words) > 1 else 2
     within = words[2] if len(words) > 2 else None
     works = {
-        "one kept": (many, lambda port: on_kept(port, many, 1, 1)),
-        "twenty at a time": (many, lambda port: on_kept(port, many, 1, 20)),
-        "a connection for each": (many // 10, lambda port: on_short(port, many // 10)),
+        "one kept": lambda port: by_wrk(port, 1, seconds)[0],
+        "twenty at a time": lambda port: repeated(lambda many: on_kept(port, many, 1, 20), 2000, seconds),
+        "a connection for each": lambda port: repeated(lambda many: on_short(port, many), 100, seconds),
     }
     kept = 0
-    for name, (count, work) in works.items():
-        pairs = [[rate(program, within, count, work) for program in (before, PROGRAM)] for _ in range(ROUNDS)]
-        old, new = (max(rates) for rates in zip(*pairs))
+    for name, work in works.items():
+        pairs = [[rate(program, within, work) for program in (before, PROGRAM)] for _ in range(ROUNDS)]
+        old, new = map(statistics.median, zip(*pairs))
+        share = statistics.median(now / then for then, now in pairs)
         kept = kept or old
-        print(f"{name}: {old:,.0f} messages a second before, {new:,.0f} now, {new / old:.2f} times", flush=True)
+        print(f"{name}: {old:,.0f} messages a second before, {new:,.0f} now, {share:.2f} times", flush=True)
     for connections in (16, 128):
-        new = max(rate(PROGRAM, within, many, lambda port: on_kept(port, many, connections, 1)) for _ in range(ROUNDS))
-        print(f"{connections} kept: {new:,.0f} messages a second now, {new / kept:.2f} times one kept before", flush=True)
+        found = [rate(PROGRAM, within, lambda port: by_wrk(port, connections, seconds)) for _ in range(ROUNDS)]
+        new, longest = statistics.median(it for it, _ in found), max(it for _, it in found)
+        share = new / kept
+        print(f"{connections} kept: {new:,.0f} messages a second now, {share:.2f} times one kept before, longest wait {longest:.1f} ms", flush=True)
