@@ -1,0 +1,7 @@
+mod Puts
+mod Adding
+mod Rising
+mod Filled
+mod Preserving
+mod Routed
+mod Clock
