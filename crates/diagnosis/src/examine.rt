@@ -64,8 +64,13 @@ fn model(alloc: Global) -> Result<Connection<MemStore>, Reason> {
     }
 }
 
-// Returns why the schema of a database is refused, if it is.
-fn cause_of_schema(alloc: Global, schema: &Schema) -> Result<Option<Cause>, Error> {
+// Returns why the schema of a database is refused, if it is. Tables in other places are refused
+// unless they may have moved.
+fn cause_of_schema(
+    alloc: Global,
+    schema: &Schema,
+    may_have_moved: bool,
+) -> Result<Option<Cause>, Error> {
     let model = match model(alloc) {
         Ok(model) => model,
         Err(reason) => return Ok(Some(Cause::Plain(reason))),
@@ -73,15 +78,19 @@ fn cause_of_schema(alloc: Global, schema: &Schema) -> Result<Option<Cause>, Erro
     if let Some(cause) = schema_cause(alloc, schema, model.schema())? {
         return Ok(Some(cause));
     }
-    if have_moved(schema, model.schema()) {
+    if !may_have_moved && have_moved(schema, model.schema()) {
         return Ok(Some(Cause::Plain(Reason::Moved)));
     }
     Ok(None)
 }
 
 // Returns why an open database is refused.
-fn cause_within<S: Alter>(alloc: Global, conn: &mut Connection<S>) -> Result<Cause, Error> {
-    if let Some(cause) = cause_of_schema(alloc, conn.schema())? {
+fn cause_within<S: Alter>(
+    alloc: Global,
+    conn: &mut Connection<S>,
+    may_have_moved: bool,
+) -> Result<Cause, Error> {
+    if let Some(cause) = cause_of_schema(alloc, conn.schema(), may_have_moved)? {
         return Ok(cause);
     }
     if let Some(cause) = unread_row(alloc, conn)? {
@@ -91,23 +100,34 @@ fn cause_within<S: Alter>(alloc: Global, conn: &mut Connection<S>) -> Result<Cau
 }
 
 // Opens a database, and returns why it is refused.
-fn cause_of_database(rt: &HostRuntime, path: &str) -> Result<Cause, Error> {
+fn cause_of_database(rt: &HostRuntime, path: &str, may_have_moved: bool) -> Result<Cause, Error> {
     match Connection::open_from(rt, path, false, Unknown) {
-        Ok(mut conn) => cause_within(rt.alloc(), &mut conn),
+        Ok(mut conn) => cause_within(rt.alloc(), &mut conn, may_have_moved),
         Err((error, _left)) => Err(error),
+    }
+}
+
+// Returns why the file at `path` is refused.
+fn cause_of_file(rt: &HostRuntime, path: &str, may_have_moved: bool) -> Cause {
+    match reason_outside(rt, path) {
+        Ok(Some(reason)) | Err(reason) => Cause::Plain(reason),
+        Ok(None) => match cause_of_database(rt, path, may_have_moved) {
+            Ok(cause) => cause,
+            Err(error) => Cause::Plain(Reason::from(error)),
+        },
     }
 }
 
 /// Returns why the file at `path` is refused as a register's, by examining it after the refusal.
 /// Creates no file but the log of an existing one, and changes no row.
 pub fn cause_at(rt: &HostRuntime, path: &str) -> Cause {
-    match reason_outside(rt, path) {
-        Ok(Some(reason)) | Err(reason) => Cause::Plain(reason),
-        Ok(None) => match cause_of_database(rt, path) {
-            Ok(cause) => cause,
-            Err(error) => Cause::Plain(Reason::from(error)),
-        },
-    }
+    cause_of_file(rt, path, false)
+}
+
+/// Returns why the file at `path` is refused as a register's whose tables may have moved, as
+/// `cause_at` does.
+pub fn cause_of_moved(rt: &HostRuntime, path: &str) -> Cause {
+    cause_of_file(rt, path, true)
 }
 
 /// Returns why the file at `path` cannot be read, if it cannot.

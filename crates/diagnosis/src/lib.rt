@@ -10,5 +10,5 @@ mod rows;
 mod schema;
 
 pub use cause::{Cause, Departure, Part};
-pub use examine::{cause_at, reason_of_plain_file};
+pub use examine::{cause_at, cause_of_moved, reason_of_plain_file};
 pub use reason::Reason;
