@@ -5,8 +5,9 @@
 
 Four kept connections create versions while the copies are made, so that the log is moved into the file now and then. Each copy has every
 version that was answered before copying began. A copy that is killed leaves no file in its place; when the service is killed, a copy
-has what was answered. No clause of the program knows what a file has, so this is where that is tested. The gate runs it after `rt ci`,
-which leaves the program that it has proved and run.
+has what was answered. An export of a copy, with --snapshot, writes beside the service what an export of the file wrote before. No clause
+of the program knows what a file has, so this is where that is tested. The gate runs it after `rt ci`, which leaves the program that it
+has proved and run.
 """
 import re
 import shutil
@@ -21,10 +22,13 @@ from pathlib import Path
 
 TOP = Path(__file__).resolve().parent.parent
 sys.path.insert(0, str(TOP / "bench"))
-from lib.numbers import next_door, opening
+from lib.numbers import next_door, ported
 from lib.program import PROGRAM, command_line, run, serving
 
+PORT = TOP / "examples/first-port.http"
 CLIENTS = 4
+# how many numbers are in force before the clients begin
+PORTED = 20
 DUE = 2**31 - 1
 
 
@@ -107,22 +111,43 @@ def killed(file, copy, clients, seconds):
     return not copy.exists() or is_whole(copy, answered)
 
 
+def snapshot_killed(file, seconds):
+    """Kills an export of a copy. Its folder may be left."""
+    with subprocess.Popen(command_line("export", "--db", file, "--snapshot"), stdout=subprocess.DEVNULL) as process:
+        time.sleep(seconds)
+        process.kill()
+
+
+def salts(file):
+    """What the log begins with, which changes whenever it begins anew after it was moved into the file."""
+    try:
+        with open(f"{file}-wal", "rb") as log:
+            return log.read(32)
+    except FileNotFoundError:
+        return b""
+
+
 def beside_a_service(held, count):
     """What holds of so many copies, every fifth of them killed, and of one when the service is killed."""
-    file, found = held / "register.db", {}
-    run(command_line("feed", "--db", file), "".join(opening()).encode())
+    file, found, logs = held / "register.db", {}, set()
+    run(command_line("feed", "--db", file), "".join(ported(PORTED)).encode())
+    exported = read("export", file)
+    found["exported"] = (exported[0], len(exported[1].splitlines()), exported[2]) == (0, PORTED + 1, "")
     with serving("--db", str(file)) as (process, at):
-        clients = [Client(at, place) for place in range(CLIENTS)]
+        clients = [Client(at, PORTED + place) for place in range(CLIENTS)]
         for client in clients:
             client.start()
         for turn in range(count):
             time.sleep(0.05)
+            logs.add(salts(file))
             copy = held / f"{turn}.db"
             if turn % 5 == 4:
                 found[f"killed {turn}"] = killed(file, copy, clients, 0.002 * (turn % 25))
                 copy.unlink(missing_ok=True)
+                snapshot_killed(file, 0.002 * (turn % 25))
             else:
                 found[f"copy {turn}"] = copied(file, copy, clients)
+                found[f"snapshot {turn}"] = read("export", file, "--snapshot") == exported
                 found[f"again {turn}"] = backup(file, copy) == (3, "npacd: write\n")
                 copy.unlink()
         process.kill()
@@ -132,6 +157,49 @@ def beside_a_service(held, count):
             client.join()
         found["after the end"] = copied(file, held / "end.db", clients)
         found["answered"] = not any(client.refused for client in clients) and all(client.answered for client in clients)
+    found["only killed snapshots are left"] = len(list(held.glob("register.db.snapshot-*"))) <= count // 5
+    print(f"{sum(len(client.answered) for client in clients)} versions were created meanwhile, {len(logs)} logs were seen")
+    return found
+
+
+def read(name, file, *more, text=""):
+    """How an export or an audit of a file ends, and what it writes."""
+    words = command_line(name, "--db", str(file), *more)
+    ran = subprocess.run(words, input=text, capture_output=True, text=True, check=False)
+    return ran.returncode, ran.stdout, ran.stderr
+
+
+def read_twice(name, file, *more, text=""):
+    """What an export or an audit reads beside a service from a copy, then from the file, and if it wants no copy."""
+    with serving("--db", str(file)):
+        beside = read(name, file, "--snapshot", *more, text=text)
+        refused = read(name, file, *more, text=text)
+    return beside, read(name, file, *more, text=text), refused
+
+
+def snapshots(held):
+    """What holds of exports and audits that read a copy beside a service."""
+    file, found = held / "ported.db", {}
+    run(command_line("feed", "--db", file), PORT.read_bytes())
+    exported = read("export", file)[1]
+    copy = "".join(exported.splitlines(keepends=True)[:1])
+    for name, more, text in (("export", (), ""), ("audit", ("--spid", "AAAA"), copy), ("audit", ("--spid", "AAAA"), "subject\n")):
+        beside, alone, refused = read_twice(name, file, *more, text=text)
+        found[f"{name} of a copy"] = beside == alone and refused == (3, "", "npacd: storage\n")
+    found["something is in force"] = len(exported.splitlines()) > 1
+    fed = read("export", file, "--snapshot", "--feed", str(PORT))
+    found["only the copy is fed"] = fed[0] == 0 and read("export", file)[1] == exported
+    found["no file"] = read("export", held / "nothing.db", "--snapshot") == (3, "", "npacd: storage\n")
+    found["no database"] = read("export", held / "broken.db", "--snapshot") == (3, "", "npacd: storage\n")
+    words = subprocess.run(command_line("export", "--snapshot"), capture_output=True, text=True, check=False)
+    found["no --db"] = (words.returncode, words.stderr) == (2, "error: --snapshot stands without --db\n")
+    found["no snapshot is left"] = not list(held.glob("ported.db.snapshot-*")) and not (held / "nothing.db").exists()
+    taken = held / "ported.db.snapshot-1"
+    taken.mkdir()
+    (taken / "register.db").write_text("another's", encoding="utf-8")
+    found["a folder of another stays"] = read("export", file, "--snapshot") == (0, exported, "")
+    found["and what it has"] = [(path, path.read_text(encoding="utf-8")) for path in held.glob("ported.db.snapshot-*/*")] == [
+        (taken / "register.db", "another's")]
     return found
 
 
@@ -147,7 +215,7 @@ def at_rest(held):
 def main(words):
     count = int(words[0]) if words else 10
     with tempfile.TemporaryDirectory() as name:
-        found = beside_a_service(Path(name), count) | at_rest(Path(name))
+        found = beside_a_service(Path(name), count) | at_rest(Path(name)) | snapshots(Path(name))
     wrong = [what for what, holds in found.items() if not holds]
     print(f"backups: {len(found) - len(wrong)} hold{''.join(f', NOT {what}' for what in wrong)}")
     return 1 if wrong else 0

@@ -12,6 +12,7 @@ import sqlite3
 import subprocess
 import sys
 import tempfile
+import time
 from pathlib import Path
 
 sys.path.insert(0, str(Path(__file__).resolve().parents[1] / "bench"))
@@ -88,11 +89,61 @@ WINDOWS_FILES = {
     "broadcast = 15\n": ("missing_key", "one of the nine windows is missing"),
 }
 
-# Files of commands: the fault with --strict, and the words for it.
+# Rows that are no request, and the words for them. A spreadsheet dropped the zero of the first.
 HEADER = "caller,action,subject,old,new,due,lrn,cic,flag\n"
-COMMANDS = {
-    "subject\n": ("bad_header", "its first row is not the header"),
-    HEADER + "AAAA,Activate,2025331234,,,,,,\n": ("rows_refused", "a row was refused: the report says which"),
+ACTIVATE = "subscriptionVersionActivate,2025331234"
+NEW, OLD = "subscriptionVersionNewSP-Create,2025331234", "subscriptionVersionOldSP-Create,2025331234"
+LETTERS = "four capital letters or digits are expected"
+MINUTE = "a minute is expected, in digits without leading zeros"
+NUMBERS = "a number is expected, of ten digits, the first and the fourth 2 to 9, or a range of one code"
+NOTHING = "nothing is expected here of this action"
+ROWS = {
+    f"BBBB,{NEW},AAAA,BBBB,200,2025330000,288,": "cic is 288: four digits are expected, or nothing",
+    f"AAAA,{ACTIVATE},,,,,": "fields are 8: 9 are expected",
+    f"aaaa,{ACTIVATE},,,,,,": f"caller is aaaa: {LETTERS}",
+    f",{ACTIVATE},,,,,,": f"caller is empty: {LETTERS}",
+    "AAAA,Activate,2025331234,,,,,,": "action is Activate: an action is expected, as subscriptionVersionActivate",
+    "AAAA,subscriptionVersionActivate,1025331234,,,,,,": f"subject is 1025331234: {NUMBERS}",
+    "AAAA,subscriptionVersionActivate,2025330000-2025331000,,,,,,": f"subject is 2025330000-2025331000: {NUMBERS}",
+    f"AAAA,{ACTIVATE},AAAA,,,,,": f"old is AAAA: {NOTHING}",
+    f"AAAA,{ACTIVATE},,BBBB,,,,": f"new is BBBB: {NOTHING}",
+    f"AAAA,{ACTIVATE},,,200,,,": f"due is 200: {NOTHING}",
+    f"AAAA,{ACTIVATE},,,,2025330000,,": f"lrn is 2025330000: {NOTHING}",
+    f"AAAA,{ACTIVATE},,,,,0288,": f"cic is 0288: {NOTHING}",
+    f"AAAA,{ACTIVATE},,,,,,yes": f"flag is yes: {NOTHING}",
+    f"AAAA,{OLD},,BBBB,200,,,yes": f"old is empty: {LETTERS}",
+    f"AAAA,{OLD},AAAA,BBB,200,,,yes": f"new is BBB: {LETTERS}",
+    f"AAAA,{OLD},AAAA,BBBB,0200,,,yes": f"due is 0200: {MINUTE}",
+    f"AAAA,{OLD},AAAA,BBBB,200,,,Yes": "flag is Yes: yes or no is expected",
+    f"BBBB,{NEW},AAAA,BBBB,200,25330000,0288,": "lrn is 25330000: ten digits are expected",
+    "AAAA,subscriptionVersionDisconnect,2025331234,,,soon,,,": f"due is soon: {MINUTE}, or nothing",
+    f"A\x01\u00e9~ ,{ACTIVATE},,,,,,": f"caller is A???~ : {LETTERS}",
+    f"{'x' * 40},{ACTIVATE},,,,,,": f"caller is {'x' * 40}: {LETTERS}",
+    f"{'x' * 41},{ACTIVATE},,,,,,": f"caller is {'x' * 40}...: {LETTERS}",
+}
+GOOD = f"AAAA,{ACTIVATE},,,,,,"
+# The quote before the caller is never closed, so that the row takes in the one after it.
+LOST = f'"AAAA,{ACTIVATE},,,,,,\n{GOOD}\n'
+LOST_WORDS = ("fields are 1: 9 are expected", "a field has more than one line: a quote may be lost, and rows with it")
+
+# Files that are refused as a whole: the fault, and the lines for it.
+WHOLE = {"bad_header": "its first row is not the header", "bad_file": "a row is not an export's, or its subject is there twice"}
+BULK_HEADERS = {
+    "subject\n": "fields are 1: 9 are expected",
+    HEADER.replace("flag", "flags"): "flag is flags: the name of the column is expected",
+}
+COPY_HEADERS = {
+    "subject,lrn\n": "fields are 2: 3 are expected",
+    "subject,lrn,CIC\n": "cic is CIC: the name of the column is expected",
+}
+COPY_ROWS = {
+    "2025331234,2025330000\n": "row 2, line 3: fields are 2: 3 are expected",
+    "2025331234,2025330000,288\n": "row 2, line 3: cic is 288: four digits are expected, or nothing",
+    "2025331234,25330000,\n": "row 2, line 3: lrn is 25330000: ten digits are expected",
+    "202533,2025330000,\n": "row 2, line 3: subject is 202533: "
+    "a number of ten digits or a block of seven is expected, the first and the fourth 2 to 9",
+    "2025339876,2025330000,\n": "the rows: the number 2025339876 is in two rows",
+    "2025441,2025330000,\n2025441,2025330000,\n": "the rows: the block 2025441 is in two rows",
 }
 
 
@@ -127,6 +178,61 @@ def is_explained(folder, status, name, about, words, *line, text=""):
     ran = run(*line, "--explain", why, text=text)
     written = Path(why).read_text(encoding="utf-8")
     return (ran[0], ran[2]) == (status, f"npacd: {name}\n") and written == f"before\nnpacd: {name}: {about}: {words}\n"
+
+
+def lines_of(folder, status, name, *line, text):
+    """Returns the lines that explain a command line, which ends with this fault, or `None` if it ends otherwise."""
+    why = os.path.join(folder, "rows.txt")
+    Path(why).unlink(missing_ok=True)
+    plain, ran = run(*line, text=text), run(*line, "--explain", why, text=text)
+    as_expected = ran == plain and (ran[0], ran[2]) == (status, f"npacd: {name}\n" if name else "")
+    return Path(why).read_text(encoding="utf-8").splitlines() if as_expected else None
+
+
+def rows(folder):
+    """Tests the words for rows that are refused, and for files that are refused for a row."""
+    found, bulk = {}, ("bulk", "--windows", WINDOWS)
+    wanted = [f"npacd: bad_row: row {2 * place}, line {2 * place + 1}: {words}" for place, words in enumerate(ROWS.values(), start=1)]
+    last = 2 * len(ROWS) + 1
+    wanted += [f"npacd: bad_row: row {last}, line {last + 1}: {words}" for words in LOST_WORDS]
+    text = HEADER + "".join(f"{GOOD}\n{row}\n" for row in ROWS) + LOST
+    found["rows"] = lines_of(folder, 0, "", *bulk, text=text) == wanted
+    wanted.append("npacd: rows_refused: standard input: a row was refused: the report says which")
+    found["rows, strictly"] = lines_of(folder, 1, "rows_refused", *bulk, "--strict", text=text) == wanted
+    for text, words in BULK_HEADERS.items():
+        found[words] = is_whole_file(folder, "bad_header", f"the header: {words}", *bulk, text=text)
+    return found
+
+
+def is_whole_file(folder, name, words, *line, text):
+    """Returns whether a file is refused for a row of it, and as a whole."""
+    wanted = [f"npacd: {name}: {words}", f"npacd: {name}: standard input: {WHOLE[name]}"]
+    return lines_of(folder, 1, name, *line, text=text) == wanted
+
+
+def copies(folder, file):
+    """Tests the words for copies that an audit refuses."""
+    found, audit = {}, ("audit", "--spid", "AAAA", "--windows", WINDOWS, "--db", file)
+    for text, words in COPY_HEADERS.items():
+        found[words] = is_whole_file(folder, "bad_header", f"the header: {words}", *audit, text=text)
+    for text, words in COPY_ROWS.items():
+        text = "subject,lrn,cic\n2025339876,2025330000,0288\n" + text
+        found[words] = is_whole_file(folder, "bad_file", words, *audit, text=text)
+    return found
+
+
+def shows_progress():
+    """Returns whether `--progress` writes the rows so far once a second has passed, and else nothing."""
+    line = ("bulk", "--progress", "--windows", WINDOWS)
+    quick = run(*line, text=HEADER + f"{GOOD}\n" * 1000)
+    with subprocess.Popen([PROGRAM, *line], stdin=subprocess.PIPE, stdout=subprocess.DEVNULL, stderr=subprocess.PIPE, text=True) as slow:
+        slow.stdin.write(HEADER + f"{GOOD}\n" * 2)
+        slow.stdin.flush()
+        time.sleep(1.5)
+        shown = slow.communicate(f"{GOOD}\n" * 2, timeout=LIMIT)[1]
+    with open("/dev/full", "w", encoding="ascii") as full:
+        lost = subprocess.run([PROGRAM, *line], input=HEADER, stdout=subprocess.DEVNULL, stderr=full, text=True, timeout=LIMIT, check=False)
+    return (quick[0], quick[2], slow.returncode, shown, lost.returncode) == (0, "", 0, "npacd: 3 rows\n", 0)
 
 
 def new_file(folder):
@@ -215,17 +321,33 @@ def is_in_use(file):
 
 
 def is_forbidden(file):
-    """Returns whether a file that its user may not write is refused for that. Root may write each file: nobody tries it then."""
+    """Returns whether a file that its user may not write is refused for that, also where no copy of it can be made. Root may write each
+    file: nobody tries it then."""
     as_nobody = {"user": NOBODY, "group": NOBODY, "extra_groups": []} if os.geteuid() == 0 else {}
     with tempfile.TemporaryDirectory() as folder:
         os.chmod(folder, 0o755)
-        copy, program = os.path.join(folder, "register.db"), os.path.join(folder, "npacd")
-        shutil.copy(file, copy)
-        shutil.copy(PROGRAM, program)
+        copy, program, windows = (os.path.join(folder, name) for name in ("register.db", "npacd", "w.toml"))
+        for of, to in ((file, copy), (PROGRAM, program), (WINDOWS, windows)):
+            shutil.copy(of, to)
         os.chmod(copy, 0o444)
-        words = [program, "check", "--db", copy]
-        ran = subprocess.run(words, capture_output=True, text=True, timeout=LIMIT, check=False, **as_nobody)
-    return (ran.returncode, ran.stdout, ran.stderr) == (3, f"refused {MAY_NOT}\n", "npacd: storage\n")
+        lines = (program, "check", "--db", copy), (program, "export", "--windows", windows, "--db", copy, "--snapshot", "--explain", "-")
+        ran = [subprocess.run(line, capture_output=True, text=True, timeout=LIMIT, check=False, **as_nobody) for line in lines]
+    return [(it.returncode, it.stdout, it.stderr) for it in ran] == [
+        (3, f"refused {MAY_NOT}\n", "npacd: storage\n"),
+        (3, "", f"npacd: write\nnpacd: write: {copy}: no copy of it can be made beside it\n"),
+    ]
+
+
+def is_copy_examined(file, folder):
+    """Returns whether the copy is examined that was refused, and not the file, which another program has open."""
+    changed_file = changed(file, folder, "CREATE VIEW more AS SELECT 1")
+    other = sqlite3.connect(changed_file, isolation_level=None)
+    other.execute("PRAGMA locking_mode = EXCLUSIVE")
+    other.execute("BEGIN EXCLUSIVE")
+    ran = run("export", "--windows", WINDOWS, "--db", changed_file, "--snapshot", "--explain", "-")
+    other.close()
+    words = "the view, trigger or table more is not a register's"
+    return ran == (3, "", f"npacd: storage\nnpacd: storage: {changed_file}: {words}\n")
 
 
 def explanations(file, folder):
@@ -240,9 +362,6 @@ def explanations(file, folder):
     found["windows_differ"] = is_explained(folder, 1, "windows_differ", wide, differ, "export", "--windows", wide, "--db", file)
     found["no windows"] = is_explained(folder, 3, "read", none, MISSING, "export", "--windows", none)
     found["no messages"] = is_explained(folder, 3, "read", none, MISSING, "export", "--windows", WINDOWS, "--feed", none)
-    for text, (name, words) in COMMANDS.items():
-        line = ("bulk", "--strict", "--windows", WINDOWS)
-        found[name] = is_explained(folder, 1, name, "standard input", words, *line, text=text)
     found["unwritten"] = run("export", "--windows", none, "--explain", os.path.join(none, "why")) == (3, "", "npacd: read\n")
     return found
 
@@ -254,7 +373,9 @@ def found_in_all():
         found["due"] = is_summary(changed(file, folder, "UPDATE clock2 SET now = 115"), DUE)
         found |= flaws(file, folder) | played(folder)
         found |= changes(file, folder) | beside_others(file, folder) | explanations(file, folder)
-        found |= {"in use": is_in_use(file), "no permission": is_forbidden(file)}
+        found |= rows(folder) | copies(folder, file)
+        found |= {"in use": is_in_use(file), "no permission": is_forbidden(file), "a copy": is_copy_examined(file, folder)}
+        found |= {"progress": shows_progress()}
     return found
 
 

@@ -9,7 +9,7 @@ use Rattle.register.specs.declared.register.OpenFault.TheVariants as opening
 use Rattle.cli.specs.CommandLine.{IsLine}
 use Rattle.cli.specs.declared.parse.CommandLine.{CommandLine}
 use Rattle.cli.specs.declared.parse.Parsed.{Parsed}
-use Rattle.cli.specs.Faults.{IsOfListening, IsOfSubcommand, JudgesRows, MayEnd, MayEndAs, MayEndListening, outcome_of_commands}
+use Rattle.cli.specs.Faults.{IsOfListening, IsOfSubcommand, JudgesRows, MayEnd, MayEndAs, MayEndLine, MayEndListening, outcome_of_commands}
 use Rattle.cli.specs.declared.parse.ServeLimits.{ServeLimits}
 use Rattle.cli.specs.declared.parse.Subcommand.{Subcommand}
 use Rattle.cli.specs.declared.parse.Subcommand.TheVariants as sub
@@ -88,3 +88,9 @@ rows_judged false noted had has (Err refused) reports = tt
 rows_judged true true had has (Ok lines) reports = reports
 rows_judged true false had has (Ok lines) reports = reports
 rows_judged false noted had has (Ok lines) reports = tt
+
+-- A fault of executing a command line over its own file.
+pub line_ends : (line : CommandLine) (r : Result (Unit {0}) Fault) → IfErr r (MayEnd line)
+    → IfErr r (MayEndLine line)
+line_ends line (Ok done) may = tt
+line_ends line (Err refused) may = inl may

@@ -1,9 +1,10 @@
 -- The result of serving, as the outcome of a feed.
-use Rattle.std.proofs.Common.{◌≡◌, ℕ, List, [], ◌++◌, Option, Some, None, inl, inr, true, refl, ap, ◌∙◌, subst, sym, append-nil}
-use Rattle.std.specs.Prelude.{Result, Ok, Err, IfSome}
+use Rattle.std.proofs.Common.{◌≡◌, ◌≤◌, ℕ, List, [], ◌++◌, Option, Some, None, inl, inr, true, refl, ap, ◌∙◌, subst, sym, append-nil}
+use Rattle.std.specs.Prelude.{Result, Ok, Err, IfErr, IfSome}
+use Rattle.std.proofs.Math.Nat.{le_trans}
 use Rattle.std.specs.Io.KnownBytes.{Keeps, append_known}
 use Rattle.std.proofs.KnownBytes.{Appends-kept}
-use Rattle.model.specs.Content.{Content}
+use Rattle.model.specs.Content.{Content, empty_content}
 use Rattle.model.specs.State.{State, first_state}
 use Rattle.model.specs.Windows.{Windows as WindowsModel}
 use Rattle.http_messages.specs.declared.fault.MessageFault.{MessageFault}
@@ -15,10 +16,15 @@ use Rattle.api.specs.declared.serving.Fault.{Fault as ServingFault}
 use Rattle.api.specs.declared.serving.Fault.TheVariants as serving
 use Rattle.cli.specs.declared.fault.Fault.{Fault}
 use Rattle.cli.specs.declared.fault.Fault.TheVariants as fault
+use Rattle.settle.specs.Reads.{HasDeviceFailed}
+use Rattle.register.specs.Opening.{HasOtherWindows}
+use Rattle.register.specs.declared.register.OpenFault.{OpenFault}
+use Rattle.register.specs.declared.register.OpenFault.TheVariants as opening
 use Rattle.connections.specs.Feeding.{FeedsTo}
 use Rattle.connections.specs.declared.feeding.FeedFault.{FeedFault}
 use Rattle.connections.specs.declared.feeding.FeedFault.TheVariants as feeding
-use Rattle.cli.specs.Feeding.{Feeds, FeedsInGroups, fault_of_end, io_of_feed, outcome_of, outcome_of_groups}
+use Rattle.cli.specs.Faults.{IsOfServing}
+use Rattle.cli.specs.Feeding.{FedInGroups, Feeds, FeedsInGroups, fault_of_end, io_of_feed, outcome_of, outcome_of_groups}
 
 -- What serving wrote holds of a later content of the writer, if the writer has kept it.
 module _ (from to : ℕ) (st : State) (new : Content) (trace : IoTrace) (has : Option (List ℕ))
@@ -187,26 +193,77 @@ module _ (w : WindowsModel) (unread had mid has : Option (List ℕ)) (unwritten 
 
 -- ---- in groups of commits
 
-module _ (w : WindowsModel) (trace : IoTrace) (new : Content) where
-  of_groups : (r : Result End FeedFault) → FeedsTo r 0 0 (first_state w) new trace
-      → FeedsInGroups w trace (outcome_of_groups r)
-  of_groups (Ok Input) feeds = inl (new, feeds)
-  of_groups (Ok Closed) feeds = inr (new, feeds)
-  of_groups (Ok (Refused fault)) feeds = (new, feeds)
-  of_groups (Err feeding.Read) feeds = (new, feeds)
-  of_groups (Err feeding.Write) feeds = (new, feeds)
-  of_groups (Err feeding.NoMemory) feeds = (new, feeds)
+module _ (from opened to : ℕ) (before : from ≤ opened) (after : opened ≤ to) (st : State)
+    (new : Content) where
+  of_groups : (trace : IoTrace) (r : Result End FeedFault) → FeedsTo r opened to st new trace
+      → FeedsInGroups from to st new trace (outcome_of_groups r)
+  of_groups trace (Ok Input) feeds = inl (opened, before, after, feeds)
+  of_groups trace (Ok Closed) feeds = inr (opened, before, after, feeds)
+  of_groups trace (Ok (Refused fault)) feeds = (opened, before, after, feeds)
+  of_groups trace (Err feeding.Read) feeds = (opened, before, after, feeds)
+  of_groups trace (Err feeding.Write) feeds = (opened, before, after, feeds)
+  of_groups trace (Err feeding.NoMemory) feeds = (opened, before, after, feeds)
 
--- The device has never failed.
-pub fed_at_zero : (w : WindowsModel) (unread had has all : Option (List ℕ))
-    (r : Result End FeedFault) (result : Result (Unit {0}) Fault) (new : Content) (from to : ℕ)
-    → from ≡ 0 → to ≡ 0 → result ≡ outcome_of_groups r
-    → IfSome all (λ input. FeedsTo r from to (first_state w) new (io_of_feed input unread had has))
-    → IfSome all (λ input. FeedsInGroups w (io_of_feed input unread had has) result)
-fed_at_zero w unread had has None r result new from to before after is feeds = tt
-fed_at_zero w unread had has (Some input) r result new from to before after is feeds =
-    subst (FeedsInGroups w (io_of_feed input unread had has)) (sym is)
-    (of_groups w (io_of_feed input unread had has) new r
-    (subst (λ (n : ℕ). FeedsTo r 0 n (first_state w) new (io_of_feed input unread had has)) after
-    (subst (λ (n : ℕ). FeedsTo r n to (first_state w) new (io_of_feed input unread had has)) before
-    feeds)))
+  -- The outcome of feeding.
+  pub fed_so : (unread had has all : Option (List ℕ)) (r : Result End FeedFault)
+      (result : Result (Unit {0}) Fault) → result ≡ outcome_of_groups r
+      → IfSome all (λ input. FeedsTo r opened to st new (io_of_feed input unread had has))
+      → IfSome all
+      (λ input. FeedsInGroups from to st new (io_of_feed input unread had has) result)
+  fed_so unread had has None r result is feeds = tt
+  fed_so unread had has (Some input) r result is feeds =
+      subst (FeedsInGroups from to st new (io_of_feed input unread had has)) (sym is)
+      (of_groups (io_of_feed input unread had has) r feeds)
+
+-- The register was opened, and perhaps failures were counted meanwhile.
+module _ (from opened to : ℕ) (before : from ≤ opened) (st : State) (new : Content)
+    (trace : IoTrace) where
+  abbrev Since : ℕ → Result (Unit {0}) Fault → Type 0
+  Since first result = FeedsInGroups first to st new trace result
+
+  since : (ended : Result End FeedFault) → FedInGroups opened to st new trace ended
+      → FedInGroups from to st new trace ended
+  since ended (at, later, within, feeds) = (at, le_trans before later, within, feeds)
+
+  since_opening : (result : Result (Unit {0}) Fault) → IfErr result IsOfServing
+      → Since opened result → Since from result
+  since_opening (Ok done) serving (inl feeds) = inl (since (Ok Input) feeds)
+  since_opening (Ok done) serving (inr feeds) = inr (since (Ok Closed) feeds)
+  since_opening (Err (fault.Message refused)) serving feeds = since (Ok (Refused refused)) feeds
+  since_opening (Err fault.Read) serving feeds = since (Err feeding.Read) feeds
+  since_opening (Err fault.Write) serving feeds = since (Err feeding.Write) feeds
+  since_opening (Err fault.NoMemory) serving feeds = since (Err feeding.NoMemory) feeds
+  since_opening (Err (fault.Open opening.NoMemory)) serving feeds = feeds
+  since_opening (Err (fault.Open opening.Storage)) serving feeds = absurd serving
+  since_opening (Err (fault.Open opening.WindowsDiffer)) serving feeds = feeds
+  since_opening (Err (fault.Windows refused)) serving feeds = feeds
+  since_opening (Err (fault.File refused)) serving feeds = feeds
+  since_opening (Err fault.RowsRefused) serving feeds = feeds
+  since_opening (Err fault.Listen) serving feeds = feeds
+
+-- The register was not opened.
+pub unopened : (from to : ℕ) (w : WindowsModel) (st : State) (old new : Content)
+    (unread had has all : Option (List ℕ)) (refused : OpenFault) → old ≡ empty_content
+    → new ≡ old → has ≡ had → (refused ≡ opening.Storage → HasDeviceFailed from to)
+    → (refused ≡ opening.WindowsDiffer → HasOtherWindows w old)
+    → IfSome all (λ input. FeedsInGroups from to st new (io_of_feed input unread had has)
+    (Err (fault.Open refused)))
+unopened from to w st old new unread had has None refused empty back kept storage differ = tt
+unopened from to w st old new unread had has (Some input) opening.NoMemory empty back kept storage
+    differ = (back ∙ empty, kept)
+unopened from to w st old new unread had has (Some input) opening.Storage empty back kept storage
+    differ = (storage refl, (back ∙ empty, kept))
+unopened from to w st old new unread had has (Some input) opening.WindowsDiffer empty back kept
+    storage differ = subst (HasOtherWindows w) empty (differ refl)
+
+-- The register was opened.
+pub fed_since : (from opened to : ℕ) (st : State) (new : Content)
+    (unread had has all : Option (List ℕ)) (result : Result (Unit {0}) Fault) → from ≤ opened
+    → IfErr result IsOfServing
+    → IfSome all
+    (λ input. FeedsInGroups opened to st new (io_of_feed input unread had has) result)
+    → IfSome all (λ input. FeedsInGroups from to st new (io_of_feed input unread had has) result)
+fed_since from opened to st new unread had has None result before serving feeds = tt
+fed_since from opened to st new unread had has (Some input) result before serving feeds =
+    since_opening from opened to before st new (io_of_feed input unread had has) result serving
+    feeds

@@ -1,5 +1,5 @@
 -- The command line: what the rule of `clap` reads from the words.
-use Rattle.std.specs.Prelude.{◌≡◌, ℕ, nat_lt, Bool, true, false, not, List, ◌∷◌, [], codes, Option, Some, None, option_map, option_and_then, unwrap_or, find, if◌then◌else◌}
+use Rattle.std.specs.Prelude.{◌≡◌, ℕ, nat_lt, Bool, true, false, not, List, ◌∷◌, [], codes, Option, Some, None, option_map, option_and_then, unwrap_or, IsSome, find, if◌then◌else◌}
 use Rattle.clap.specs.declared.builder.action.ArgAction.TheVariants.{SetTrue}
 use Rattle.clap.specs.declared.builder.value_parser.ValueParser.TheVariants.{Unsigned}
 use Rattle.std.specs.List.{list_any}
@@ -70,12 +70,20 @@ serve_app present =
     (number_rule (codes "port") 65535 true)) (number_rule (codes "connections") 65535 false))
     (option_rule (codes "log") false))
 
+-- A subcommand over a register that shows its progress.
+abbrev pub long_app : (present : Bool) → Text → App
+long_app present name = with_rule (plain_app present name) (flag_rule (codes "progress"))
+
+-- Such a subcommand that only reads the register.
+abbrev pub reading_app : (present : Bool) → Text → App
+reading_app present name = with_rule (long_app present name) (flag_rule (codes "snapshot"))
+
 abbrev pub audit_app : (present : Bool) → App
 audit_app present =
-    with_rule (plain_app present (codes "audit")) (option_rule (codes "spid") true)
+    with_rule (reading_app present (codes "audit")) (option_rule (codes "spid") true)
 
 abbrev pub bulk_app : (present : Bool) → App
-bulk_app present = with_rule (plain_app present (codes "bulk")) (flag_rule (codes "strict"))
+bulk_app present = with_rule (long_app present (codes "bulk")) (flag_rule (codes "strict"))
 
 -- A subcommand over an existing database, which opens no register.
 abbrev pub file_app : Text → App
@@ -104,7 +112,7 @@ with_serving present a =
 abbrev pub with_files : (present : Bool) → App → App
 with_files present a =
     with_subcommand (with_subcommand (with_subcommand a (bulk_app present).top)
-    (plain_app present (codes "export")).top) (audit_app present).top
+    (reading_app present (codes "export")).top) (audit_app present).top
 
 -- `a` with the subcommands that open no register added.
 abbrev pub with_inspection : App → App
@@ -193,6 +201,9 @@ pub record IsLineOf (present : Bool) (name : Text) (rows : List Row)
   pub db : first_of (codes "db") rows ≡ option_map (λ s. s.now) line.db
   pub existing : line.existing ≡ has_flag (codes "existing") rows
   pub explain : first_of (codes "explain") rows ≡ option_map (λ s. s.now) line.explain
+  pub progress : line.progress ≡ has_flag (codes "progress") rows
+  pub snapshot : line.snapshot ≡ has_flag (codes "snapshot") rows
+  pub copied : line.snapshot ≡ true → IsSome line.db
 
 abbrev pub IsNoLineOf : (present : Bool) → Text → List Row → Type 0
 IsNoLineOf present name rows = (line : CommandLine) → ¬ (IsLineOf present name rows line)
@@ -237,6 +248,10 @@ rows_named present name words =
 -- Whether `--present-windows` is among the words.
 abbrev pub wants_present : List Text → Bool
 wants_present words = list_any (λ word. bytes_eq word (codes "--present-windows")) words
+
+-- Whether `--snapshot` is among the words.
+abbrev pub wants_snapshot : List Text → Bool
+wants_snapshot words = list_any (λ word. bytes_eq word (codes "--snapshot")) words
 
 -- Holds if `clap` finds no fault in the words: no unknown option, no value out of its range,
 -- nothing missing, and nothing that asks for help.

@@ -1,5 +1,5 @@
 -- The faults of a command line: their names on standard error, and their exit statuses.
-use Rattle.std.specs.Prelude.{◌⊎◌, ◌&&◌, ℕ, Bool, true, false, if◌then◌else◌, List, Option, codes, Result, Ok, Err, ⊤, IsSome}
+use Rattle.std.specs.Prelude.{◌≡◌, ◌⊎◌, ◌&&◌, ℕ, Bool, true, false, if◌then◌else◌, List, Option, codes, Result, Ok, Err, ⊤, IsSome}
 use Rattle.windows.specs.File.{name_of}
 use Rattle.windows.specs.declared.window.WindowFault.TheVariants as windows
 use Rattle.http_messages.specs.Faults.{message_name}
@@ -177,13 +177,18 @@ abbrev pub MayEndOverFile : CommandLine → Fault → Type 0
 MayEndOverFile line (fault.Open refused) = ⊤
 MayEndOverFile line other = MayEnd line other
 
+-- Holds if executing this command line, perhaps over a copy of its file, may end with this fault.
+abbrev pub MayEndLine : CommandLine → Fault → Type 0
+MayEndLine line refused =
+    MayEnd line refused ⊎ ((line.snapshot ≡ true) × IsOfBackup refused)
+
 -- Holds if executing what the words ask for may end with this fault.
 abbrev pub MayEndAs : Parsed → Fault → Type 0
 MayEndAs (parsed.Windows line) refused = IsOfShowing refused
 MayEndAs (parsed.Check line) refused = IsOfShowing refused
 MayEndAs (parsed.Backup line to) refused = IsOfBackup refused
 MayEndAs (parsed.Report line to number) refused = IsOfShowing refused
-MayEndAs (parsed.Line line) refused = MayEnd line refused
+MayEndAs (parsed.Line line) refused = MayEndLine line refused
 
 -- The outcome of a run of a file of commands. A refused row is a fault if `strict`.
 abbrev pub outcome_of_commands : (strict : Bool) → Result ℕ BulkFault → (has_refusal : Bool)

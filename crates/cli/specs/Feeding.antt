@@ -2,11 +2,12 @@
 --
 -- No minute is supplied for a message, and the device of a store in memory never fails: its count
 -- of failures is 0 before and after.
-use Rattle.std.specs.Prelude.{◌≡◌, ℕ, ◌⊎◌, List, [], Option, Some, Result, Ok, Err, true}
+use Rattle.std.specs.Prelude.{◌≡◌, ◌≤◌, ℕ, ◌⊎◌, List, [], Option, Some, Result, Ok, Err, true}
 use Rattle.std.specs.Io.KnownBytes.{append_known}
-use Rattle.model.specs.Content.{Content}
-use Rattle.model.specs.State.{first_state}
+use Rattle.model.specs.Content.{Content, empty_content}
+use Rattle.model.specs.State.{State, first_state}
 use Rattle.model.specs.Windows.{Windows}
+use Rattle.settle.specs.Reads.{HasDeviceFailed}
 use Rattle.api.specs.Serving.{EndsAt, FailsAt, Serves, IoTrace}
 use Rattle.api.specs.declared.serving.End.{End}
 use Rattle.api.specs.declared.serving.End.TheVariants.{Input, Closed, Refused}
@@ -78,27 +79,41 @@ outcome_of (Err (serving.Memory k)) = Err fault.NoMemory
 
 -- ---- in groups of commits
 
--- Holds if feeding in groups of commits ended so, with some content.
-abbrev pub FedInGroups : Windows → IoTrace → Result End FeedFault → Type 0
-FedInGroups w trace ended = (new : Content) × FeedsTo ended 0 0 (first_state w) new trace
+-- Holds if feeding ended so after some messages, from the state `st`. The device's failures are
+-- counted before the register was opened (`from`), then (`opened`), and afterwards (`to`).
+abbrev pub FedInGroups : (from to : ℕ) → State → (new : Content) → IoTrace → Result End FeedFault
+    → Type 0
+FedInGroups from to st new trace ended =
+    (opened : ℕ) × (from ≤ opened) × (opened ≤ to) × FeedsTo ended opened to st new trace
 
--- Holds if the input was fed in groups of commits to a new register of these windows, with this
--- result. If a write failed, what was written is a prefix of what answers the messages that had
--- their steps. If there was no memory to open the register, nothing was answered.
-abbrev pub FeedsInGroups : Windows → IoTrace → Result (Unit {0}) Fault → Type 0
-FeedsInGroups w trace (Ok done) = FedInGroups w trace (Ok Input) ⊎ FedInGroups w trace (Ok Closed)
-FeedsInGroups w trace (Err (fault.Message refused)) = FedInGroups w trace (Ok (Refused refused))
-FeedsInGroups w trace (Err fault.Read) = FedInGroups w trace (Err feeding.Read)
-FeedsInGroups w trace (Err fault.Write) = FedInGroups w trace (Err feeding.Write)
-FeedsInGroups w trace (Err fault.NoMemory) = FedInGroups w trace (Err feeding.NoMemory)
-FeedsInGroups w trace (Err (fault.Open opening.NoMemory)) =
-    trace.written_after ≡ trace.written_before
-FeedsInGroups w trace (Err (fault.Open opening.Storage)) = ⊥
-FeedsInGroups w trace (Err (fault.Open opening.WindowsDiffer)) = ⊥
-FeedsInGroups w trace (Err (fault.Windows refused)) = ⊥
-FeedsInGroups w trace (Err (fault.File refused)) = ⊥
-FeedsInGroups w trace (Err fault.RowsRefused) = ⊥
-FeedsInGroups w trace (Err fault.Listen) = ⊥
+-- Holds if nothing was executed, since a register over an empty store could not be opened.
+abbrev pub IsUnopened : (new : Content) → IoTrace → Type 0
+IsUnopened new trace = (new ≡ empty_content) × (trace.written_after ≡ trace.written_before)
+
+-- Holds if the input was fed in groups of commits to a register in the state `st`, with this
+-- result, and `new` is the content afterwards. If a write failed, what was written is a prefix of
+-- what answers the messages that had their steps. `Open` comes only of a register over an empty
+-- store, and its `Storage` only if a failure was counted.
+abbrev pub FeedsInGroups : (from to : ℕ) → State → (new : Content) → IoTrace
+    → Result (Unit {0}) Fault → Type 0
+FeedsInGroups from to st new trace (Ok done) =
+    FedInGroups from to st new trace (Ok Input) ⊎ FedInGroups from to st new trace (Ok Closed)
+FeedsInGroups from to st new trace (Err (fault.Message refused)) =
+    FedInGroups from to st new trace (Ok (Refused refused))
+FeedsInGroups from to st new trace (Err fault.Read) =
+    FedInGroups from to st new trace (Err feeding.Read)
+FeedsInGroups from to st new trace (Err fault.Write) =
+    FedInGroups from to st new trace (Err feeding.Write)
+FeedsInGroups from to st new trace (Err fault.NoMemory) =
+    FedInGroups from to st new trace (Err feeding.NoMemory)
+FeedsInGroups from to st new trace (Err (fault.Open opening.NoMemory)) = IsUnopened new trace
+FeedsInGroups from to st new trace (Err (fault.Open opening.Storage)) =
+    HasDeviceFailed from to × IsUnopened new trace
+FeedsInGroups from to st new trace (Err (fault.Open opening.WindowsDiffer)) = ⊥
+FeedsInGroups from to st new trace (Err (fault.Windows refused)) = ⊥
+FeedsInGroups from to st new trace (Err (fault.File refused)) = ⊥
+FeedsInGroups from to st new trace (Err fault.RowsRefused) = ⊥
+FeedsInGroups from to st new trace (Err fault.Listen) = ⊥
 
 abbrev pub outcome_of_groups : Result End FeedFault → Result (Unit {0}) Fault
 outcome_of_groups (Ok end) = fault_of_end end

@@ -1,10 +1,12 @@
 pub mod Checking
 pub mod CommandLine
+pub mod Copies
 pub mod Feeding
 pub mod Explaining
 pub mod Faults
 pub mod Listening
 pub mod Reporting
+pub mod RowWords
 pub mod Showing
 pub mod WindowsFile
 pub mod WindowsText

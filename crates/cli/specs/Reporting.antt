@@ -6,7 +6,7 @@ use Rattle.clap.specs.Faults.{fault_of}
 use Rattle.clap.specs.Kinds.{IsAmong}
 use Rattle.clap.specs.declared.error.kind.ErrorKind.{ErrorKind}
 use Rattle.clap.specs.declared.error.kind.ErrorKind.TheVariants as kind
-use Rattle.cli.specs.CommandLine.{IsAccepted, IsLine, IsNoLine, npacd_app, wants_present}
+use Rattle.cli.specs.CommandLine.{IsAccepted, IsLine, IsNoLine, npacd_app, wants_present, wants_snapshot}
 use Rattle.cli.specs.Faults.{MayEndAs, exit_status, fault_name}
 use Rattle.cli.specs.declared.fault.Fault.{Fault}
 use Rattle.cli.specs.declared.fault.Fault.TheVariants as fault
@@ -70,20 +70,22 @@ IsRefused words = (why : ErrorKind) × IsAmong why (fault_of (npacd_app (wants_p
     × (why ≢ kind.DisplayHelp) × (why ≢ kind.DisplayVersion)
 
 -- Holds if `clap` accepts the words, and yet they are no command line: `clap` takes a sign before a
--- number, and `--windows` beside `--present-windows`.
+-- number, `--windows` beside `--present-windows`, and `--snapshot` without `--db`.
 abbrev pub IsAcceptedOnly : List (List ℕ) → Type 0
 IsAcceptedOnly words = IsAccepted words × IsNoLine words
 
 -- The text for such words.
-abbrev pub mistake_text : (present : Bool) → List ℕ
-mistake_text true =
+abbrev pub mistake_text : (present snapshot : Bool) → List ℕ
+mistake_text true snapshot =
     codes "error: --windows stands beside --present-windows, or a number is not in digits\n"
-mistake_text false = codes "error: a number is written in digits\n"
+mistake_text false true = codes "error: --snapshot stands without --db\n"
+mistake_text false false = codes "error: a number is written in digits\n"
 
 -- Holds if the text explains what is wrong with the words. What `clap` writes is not known.
 abbrev pub ExplainsMistake : (words : List (List ℕ)) → (text : List ℕ) → Type 0
 ExplainsMistake words text = IsRefused words
-    ⊎ (IsAcceptedOnly words × (text ≡ mistake_text (wants_present words)))
+    ⊎ (IsAcceptedOnly words
+    × (text ≡ mistake_text (wants_present words) (wants_snapshot words)))
 
 -- Holds if the words are a command line, which was executed, or ask for help, and nothing was
 -- reported.

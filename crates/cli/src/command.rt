@@ -2,7 +2,7 @@
 ghost use Rattle.std.specs.Prelude.{◌≡◌, IfOk, codes, false};
 ghost use Rattle.clap.specs.Words.{app_of, rule_of, new_app, with_rule, with_subcommand};
 ghost use Rattle.clap.specs.declared.builder.command.Command.TheViews.{out-Command};
-ghost use Rattle.cli.specs.CommandLine.{audit_app, bulk_app, file_app, flag_rule, number_rule, option_rule, plain_app, report_app, serve_app, npacd_app, with_database, with_files, with_inspection, with_limits, with_serving, with_sources, with_version, with_wanted_subcommand, writing_app};
+ghost use Rattle.cli.specs.CommandLine.{audit_app, bulk_app, file_app, flag_rule, long_app, npacd_app, number_rule, option_rule, plain_app, reading_app, report_app, serve_app, with_database, with_files, with_inspection, with_limits, with_serving, with_sources, with_version, with_wanted_subcommand, writing_app};
 
 use clap::builder::ValueParser;
 use clap::{Arg, ArgAction, Command};
@@ -205,16 +205,42 @@ fn serve<'a>(alloc: Global, present: bool) -> Result<Command<'a>, AllocError>
     with_limits(alloc, command.arg(port)?.arg(connections)?.arg(log)?)
 }
 
+// Creates a subcommand over a register that shows its progress.
+fn long<'a>(
+    alloc: Global,
+    present: bool,
+    name: &'a str,
+    about: &'a str,
+) -> Result<Command<'a>, AllocError>
+    ensures { IfOk result
+        (λ c. (app_of c ≡ long_app present name.entry.now) × ((out-Command c).has_globals ≡ false)) }
+{
+    let command = plain(alloc, present, name, about)?;
+    let help = "Write the rows so far to standard error, a second apart";
+    with_flag(alloc, command, "progress", help)
+}
+
+// Creates such a subcommand that only reads the register.
+fn reading<'a>(
+    alloc: Global,
+    present: bool,
+    name: &'a str,
+    about: &'a str,
+) -> Result<Command<'a>, AllocError>
+    ensures { IfOk result
+        (λ c. (app_of c ≡ reading_app present name.entry.now) × ((out-Command c).has_globals ≡ false)) }
+{
+    let command = long(alloc, present, name, about)?;
+    let help = "Read a copy of the database, also while a program has it open";
+    with_flag(alloc, command, "snapshot", help)
+}
+
 // Creates the subcommand that compares a carrier's copy.
 fn audit<'a>(alloc: Global, present: bool) -> Result<Command<'a>, AllocError>
     ensures { IfOk result (λ c. (app_of c ≡ audit_app present) × ((out-Command c).has_globals ≡ false)) }
 {
-    let command = plain(
-        alloc,
-        present,
-        "audit",
-        "Compare a carrier's copy with what is in force",
-    )?;
+    let about = "Compare a carrier's copy with what is in force";
+    let command = reading(alloc, present, "audit", about)?;
     let spid = option(alloc, "spid", "SPID", "The carrier whose copy it is", true);
     command.arg(spid)
 }
@@ -224,12 +250,8 @@ fn bulk<'a>(alloc: Global, present: bool) -> Result<Command<'a>, AllocError>
     ensures { IfOk result
         (λ c. (app_of c ≡ bulk_app present) × ((out-Command c).has_globals ≡ false)) }
 {
-    let command = plain(
-        alloc,
-        present,
-        "bulk",
-        "Run a bulk file, and write its report",
-    )?;
+    let about = "Run a bulk file, and write its report";
+    let command = long(alloc, present, "bulk", about)?;
     let help = "End with status 1 if a row is refused";
     with_flag(alloc, command, "strict", help)
 }
@@ -309,6 +331,18 @@ fn with_serve<'a>(
     ensures { IfOk result (λ c. app_of c ≡ with_subcommand (app_of command.entry) (serve_app present).top) }
 {
     let part = serve(alloc, present)?;
+    with(command, part)
+}
+
+fn with_export<'a>(
+    alloc: Global,
+    command: Command<'a>,
+    present: bool,
+) -> Result<Command<'a>, AllocError>
+    ensures { IfOk result (λ c. app_of c
+        ≡ with_subcommand (app_of command.entry) (reading_app present (codes "export")).top) }
+{
+    let part = reading(alloc, present, "export", "Write everything in force")?;
     with(command, part)
 }
 
@@ -404,8 +438,7 @@ fn with_files<'a>(
     ensures { IfOk result (λ c. app_of c ≡ with_files present (app_of command.entry)) }
 {
     let command = with_bulk(alloc, command, present)?;
-    let help = "Write everything in force";
-    let command = with_plain(alloc, command, present, "export", help)?;
+    let command = with_export(alloc, command, present)?;
     with_audit(alloc, command, present)
 }
 

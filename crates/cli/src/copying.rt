@@ -1,5 +1,6 @@
 //! Copies a register's file beside the program that has it open.
-ghost use Rattle.std.specs.Prelude.{IfErr};
+ghost use Rattle.std.specs.Prelude.{IfErr, IfOk};
+ghost use Rattle.cli.specs.Copies.{ArePathsOf};
 ghost use Rattle.cli.specs.Faults.{IsOfBackup, IsOfCopying};
 
 use crate::checking::summarize;
@@ -30,7 +31,9 @@ impl RegisterPaths {
     /// # Errors
     ///
     /// `AllocError` if an allocation fails.
-    pub fn new(alloc: Global, path: &str) -> Result<RegisterPaths, AllocError> {
+    pub fn new(alloc: Global, path: &str) -> Result<RegisterPaths, AllocError>
+        ensures { IfOk result (ArePathsOf path.now) }
+    {
         Ok(RegisterPaths {
             file: format!(in alloc; "{path}")?,
             log: format!(in alloc; "{path}-wal")?,
@@ -38,8 +41,8 @@ impl RegisterPaths {
     }
 }
 
-// Returns the fault of a file that could not be read or written.
-fn fault_of(error: io::Error, fault: Fault) -> Fault
+/// Returns the fault of a file that could not be read or written.
+pub(crate) fn fault_of(error: io::Error, fault: Fault) -> Fault
     requires { IsOfCopying fault }
     ensures { IsOfCopying result }
 {
@@ -75,8 +78,8 @@ fn copy_file(rt: &HostRuntime, from: &str, to: &str) -> Result<(), Fault>
     }
 }
 
-// Removes a file, if it is there.
-fn remove_file(rt: &HostRuntime, path: &str) -> Result<(), Fault>
+/// Removes a file, if it is there.
+pub(crate) fn remove_file(rt: &HostRuntime, path: &str) -> Result<(), Fault>
     ensures { IfErr result IsOfCopying }
 {
     match fs::remove_file(rt, path) {

@@ -4,9 +4,10 @@ ghost use Rattle.cli.specs.Explaining.{explanation_line, file_words, message_wor
 
 use crate::fault::Fault;
 use crate::parse::{CommandLine, Parsed, Subcommand, WindowsSource};
+use crate::snapshot::Snapshot;
 use api::MessageFault;
 use bulk::FaultKind;
-use diagnosis::{Reason, cause_at, reason_of_plain_file};
+use diagnosis::{Cause, Reason, cause_at, reason_of_plain_file};
 use http_messages::send_all;
 use register::OpenFault;
 use std::alloc::{AllocError, Global};
@@ -28,8 +29,8 @@ const OUTPUT: &str = "standard output";
 
 const MEMORY: &str = "memory";
 
-// Returns a text in memory of its own.
-fn text_of(alloc: Global, words: &str) -> Result<String, AllocError>
+/// Returns a text in memory of its own.
+pub(crate) fn text_of(alloc: Global, words: &str) -> Result<String, AllocError>
     ensures { IfOk result (λ text. string_bytes text ≡ words.now) }
 {
     let mut text = String::new(alloc);
@@ -151,6 +152,15 @@ impl<'a> Parsed<'a> {
             _ => None,
         }
     }
+
+    // Returns the path of the database file if a copy of it is read.
+    fn copied(&self) -> Option<&'a str> {
+        match self {
+            Parsed::Backup { line, .. } => Some(line.db),
+            Parsed::Line(line) if line.snapshot => line.db,
+            _ => None,
+        }
+    }
 }
 
 // Returns the first of the files that cannot be read, and why.
@@ -167,9 +177,30 @@ fn unread_file<'a>(rt: &HostRuntime, parsed: &Parsed<'a>) -> Option<(&'a str, Re
 
 // Explains a failed read.
 fn explain_read<'a>(rt: &HostRuntime, parsed: &Parsed<'a>) -> (&'a str, &'static str) {
-    match unread_file(rt, parsed) {
-        Some((path, reason)) => (path, reason.words()),
-        None => (INPUT, "it cannot be read, or a file broke off"),
+    match (unread_file(rt, parsed), parsed.copied()) {
+        (Some((path, reason)), _) => (path, reason.words()),
+        (None, Some(path)) => (
+            path,
+            "its log cannot be read, or was moved into it in each of 100 tries",
+        ),
+        (None, None) => (INPUT, "it cannot be read, or a file broke off"),
+    }
+}
+
+// Explains a failed write. If a command line reads a copy, nothing else is written with this fault.
+fn explain_write<'a>(parsed: &Parsed<'a>) -> (&'a str, &'static str) {
+    match parsed {
+        Parsed::Line(
+            CommandLine {
+                db: Some(path),
+                snapshot: true,
+                ..
+            },
+        ) => (*path, "no copy of it can be made beside it"),
+        _ => (
+            "standard output, or the file of --log or --to",
+            "it cannot be written",
+        ),
     }
 }
 
@@ -191,11 +222,23 @@ fn explain_plainly<'a>(
         Fault::RowsRefused => (INPUT, "a row was refused: the report says which"),
         Fault::Listen => ("--port", "it is in use, or this user may not open it"),
         Fault::Read => explain_read(rt, parsed),
-        Fault::Write => (
-            "standard output, or the file of --log or --to",
-            "it cannot be written",
-        ),
+        Fault::Write => explain_write(parsed),
         Fault::Open(OpenFault::NoMemory) | Fault::NoMemory => (MEMORY, "an allocation failed"),
+    }
+}
+
+// Returns why the file at `path` was refused. Examines a copy if a copy was refused.
+fn cause_of(rt: &HostRuntime, parsed: &Parsed<'_>, path: &str) -> Cause {
+    if parsed.copied().is_none() {
+        return cause_at(rt, path);
+    }
+    match Snapshot::take(rt, path) {
+        Ok(snapshot) => {
+            let cause = cause_at(rt, snapshot.path());
+            snapshot.remove(rt);
+            cause
+        }
+        Err(_) => cause_at(rt, path),
     }
 }
 
@@ -208,7 +251,7 @@ fn explanation_of<'a>(
     match (fault, parsed.db()) {
         (Fault::Open(OpenFault::Storage), Some(path)) => Ok(Explanation {
             about: path,
-            words: cause_at(rt, path).words(rt.alloc())?,
+            words: cause_of(rt, parsed, path).words(rt.alloc())?,
         }),
         _ => {
             let (about, words) = explain_plainly(rt, parsed, fault);
@@ -233,9 +276,9 @@ fn explanation_line(
     format!(in alloc; "npacd: {name}: {about}: {words}\n")
 }
 
-// Appends a line to the file at `path`, or writes it to standard error if that is `-`. A failure is
-// ignored.
-fn append_line(rt: &HostRuntime, path: &str, line: &str) {
+/// Appends a line to the file at `path`, or writes it to standard error if that is `-`. A failure is
+/// ignored.
+pub(crate) fn append_line(rt: &HostRuntime, path: &str, line: &str) {
     if path == "-" {
         let stderr = rt.stderr();
         let mut errors = io::writer(&stderr);
@@ -247,12 +290,29 @@ fn append_line(rt: &HostRuntime, path: &str, line: &str) {
     }
 }
 
+// Appends the line of an explanation. A failure is ignored.
+fn append(rt: &HostRuntime, path: &str, name: &str, explanation: &Explanation<'_>) {
+    if let Ok(line) = explanation_line(rt.alloc(), name, explanation) {
+        append_line(rt, path, line.as_str());
+    }
+}
+
+/// Appends a line to the file at `path`, or writes it to standard error if that is `-`: the name of
+/// a fault, what it is about, and why it came. A failure is ignored.
+pub(crate) fn append_explanation(
+    rt: &HostRuntime,
+    path: &str,
+    name: &str,
+    about: &str,
+    words: String,
+) {
+    append(rt, path, name, &Explanation { about, words });
+}
+
 // Explains a fault in one line of the file at `path`, or of standard error.
 fn explain_at(rt: &HostRuntime, parsed: &Parsed<'_>, fault: Fault, path: &str) {
     if let Ok(explanation) = explanation_of(rt, parsed, fault) {
-        if let Ok(line) = explanation_line(rt.alloc(), fault.name(), &explanation) {
-            append_line(rt, path, line.as_str());
-        }
+        append(rt, path, fault.name(), &explanation);
     }
 }
 

@@ -13,8 +13,11 @@ mod listening;
 mod options;
 pub mod parse;
 mod reporting;
+mod row_reporter;
+mod row_words;
 mod running;
 mod showing;
+mod snapshot;
 mod windows_text;
 mod writing_page;
 

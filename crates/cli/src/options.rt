@@ -179,14 +179,21 @@ fn line_of<'a>(
     ensures none { IfErr result (λ _. IsNoLineOf present name.now (rows_of (found_of matches.now))) }
 {
     let subcommand = subcommand_of(name, matches)?;
+    let snapshot = has_flag(matches, "snapshot");
+    let db = text_of(matches, "db");
+    if snapshot && db.is_none() {
+        return Err(NoLine);
+    }
     match source_of(present, matches) {
         Ok(windows) => Ok(CommandLine {
             subcommand,
             windows,
             feed: text_of(matches, "feed"),
-            db: text_of(matches, "db"),
+            db,
             existing: has_flag(matches, "existing"),
             explain: text_of(matches, "explain"),
+            progress: has_flag(matches, "progress"),
+            snapshot,
         }),
         Err(_) => Err(NoLine),
     }

@@ -4,7 +4,7 @@ ghost use Rattle.std.specs.List.{list_any};
 ghost use Rattle.std.specs.Str.{bytes_eq};
 ghost use Rattle.clap.specs.Values.{kind_of};
 ghost use Rattle.clap.specs.declared.error.kind.ErrorKind.TheVariants.{DisplayHelp, DisplayVersion, OutOfMemory as NoRoom};
-ghost use Rattle.cli.specs.CommandLine.{IsLine, IsNoLine, HasSecond, wants_present};
+ghost use Rattle.cli.specs.CommandLine.{IsLine, IsNoLine, HasSecond, wants_present, wants_snapshot};
 ghost use Rattle.cli.specs.Reporting.{AsksForHelp, ExplainsMistake, IsMistake, IsUsage, mistake_text};
 
 use crate::command::npacd;
@@ -78,6 +78,10 @@ pub struct CommandLine<'a> {
     /// The path of the file to which the explanation of a fault is appended, `-` for standard error,
     /// or `None` for no explanation.
     pub explain: Option<&'a str>,
+    /// Whether standard error gets the number of rows so far, a second apart.
+    pub progress: bool,
+    /// Whether the subcommand is executed over a copy of the database file.
+    pub snapshot: bool,
 }
 
 /// A valid command line over an existing file, which opens no register.
@@ -198,16 +202,40 @@ fn wants_present<S: AsStr>(words: &[S]) -> bool
     has_present_flag(words)
 }
 
+// Returns whether a word is `--snapshot`.
+fn is_snapshot_flag<S: AsStr>(word: &S) -> bool
+    ensures { result ≡ bytes_eq (S.text word.now) (codes "--snapshot") }
+{
+    word.as_str() == "--snapshot"
+}
+
+// Returns whether some word is `--snapshot`.
+fn has_snapshot_flag<S: AsStr>(words: &[S]) -> bool
+    ensures { result ≡ list_any (λ word. bytes_eq (S.text word) (codes "--snapshot")) words.now }
+{
+    words.iter().any(|word| is_snapshot_flag(word))
+}
+
+// Returns whether `--snapshot` is among the words.
+fn wants_snapshot<S: AsStr>(words: &[S]) -> bool
+    ensures { result ≡ wants_snapshot (map S.text words.now) }
+{
+    has_snapshot_flag(words)
+}
+
 // Returns the usage for words that `clap` accepts and that are no command line.
-fn no_line(alloc: Global, present: bool) -> Usage
+fn no_line(alloc: Global, present: bool, snapshot: bool) -> Usage
     ensures status { IsMistake result.status }
-    ensures text { result.status ≡ 2 → string_bytes result.text ≡ mistake_text present }
+    ensures text { result.status ≡ 2 → string_bytes result.text ≡ mistake_text present snapshot }
 {
     if present {
         return mistake(
             alloc,
             "error: --windows stands beside --present-windows, or a number is not in digits\n",
         );
+    }
+    if snapshot {
+        return mistake(alloc, "error: --snapshot stands without --db\n");
     }
     mistake(alloc, "error: a number is written in digits\n")
 }
@@ -218,8 +246,8 @@ fn no_line(alloc: Global, present: bool) -> Usage
 ///
 /// A text for the user with an exit status:
 /// - 0 if the words ask for help or for the version;
-/// - 2 if `clap` refuses them, with its text, if a number is not written in digits, or if both
-///   `--windows` and `--present-windows` are given;
+/// - 2 if `clap` refuses them, with its text, if a number is not written in digits, if both
+///   `--windows` and `--present-windows` are given, or `--snapshot` without `--db`;
 /// - 3 if an allocation failed.
 pub fn parse<'a, S: AsStr>(alloc: Global, words: &'a [S]) -> Result<Parsed<'a>, Usage>
     ensures line { IfOk result (IsLine (map S.text words.entry.now)) }
@@ -243,7 +271,7 @@ pub fn parse<'a, S: AsStr>(alloc: Global, words: &'a [S]) -> Result<Parsed<'a>, 
     match matches.subcommand() {
         Some((name, found)) if is_second(words, name) => match parsed_of(present, name, found) {
             Ok(parsed) => Ok(parsed),
-            Err(_) => Err(no_line(alloc, present)),
+            Err(_) => Err(no_line(alloc, present, wants_snapshot(words))),
         },
         _ => Err(no_memory(alloc)),
     }

@@ -1,19 +1,22 @@
 //! Executes command lines.
-ghost use Rattle.std.specs.Prelude.{◌≡◌, ◌≢◌, ◌≤◌, [], Err, IfErr, IfOk, IfSome, IsOk, IsTrue, OnOk, map};
-ghost use Rattle.model.specs.Content.{empty_content};
-ghost use Rattle.sqlite.specs.Files.{file_state};
+ghost use Rattle.std.specs.Prelude.{◌≡◌, ◌≢◌, ◌≤◌, [], Err, IfErr, IfOk, IfSome, IsOk, IsSome, IsTrue, OnOk, map, true};
+ghost use Rattle.model.specs.Content.{Content, empty_content};
+ghost use Rattle.sqlite.specs.Files.{file_state, over_files};
 ghost use Rattle.sqlite.specs.State.{HasCleanDisk};
 ghost use Rattle.sqlite.specs.WalFiles.{image_at};
 ghost use Rattle.std.specs.IoError.{error_kind};
 ghost use Rattle.std.specs.Io.Buffered.{writer_buffer, writer_contents, writer_inner};
-ghost use Rattle.model.specs.State.{first_state};
+ghost use Rattle.model.specs.State.{State, first_state};
 ghost use Rattle.settle.specs.Reads.{HasDeviceFailed};
+ghost use Rattle.connections.specs.Crashes.{LeavesContent};
 ghost use Rattle.model.specs.Windows.{Windows as WindowsModel};
 ghost use Rattle.version.specs.Abstraction.{windows_of};
 ghost use Rattle.register.specs.Refinement.{Refines};
+ghost use Rattle.sql_rows.specs.Content.{content_in};
 ghost use Rattle.sql_store.specs.Groups.{is_sound};
+ghost use Rattle.sql_store.specs.Store.{left_by};
 ghost use Rattle.cli.specs.Feeding.{Feeds, FeedsInGroups, io_of_feed, outcome_of, outcome_of_groups};
-ghost use Rattle.cli.specs.Faults.{IsOfCommands, IsOfFeeding, IsOfNewFeeding, IsOfReading, IsOfServing, IsOfShowing, IsOfWindows, JudgesRows, MayEnd, MayEndAs, MayEndListening, MayEndOverFile, fault_of_opening, outcome_of_commands};
+ghost use Rattle.cli.specs.Faults.{IsOfCommands, IsOfFeeding, IsOfFile, IsOfNewFeeding, IsOfReading, IsOfServing, IsOfShowing, IsOfWindows, JudgesRows, MayEnd, MayEndAs, MayEndLine, MayEndListening, MayEndOverFile, fault_of_opening, outcome_of_commands};
 ghost use Rattle.cli.specs.Reporting.{Ends};
 ghost use Rattle.cli.specs.declared.parse.CommandLine.{CommandLine as CommandLineImpl};
 ghost use Rattle.cli.specs.WindowsFile.{DefinesWindows, IsFaultOfBytes};
@@ -25,10 +28,12 @@ use crate::fault::Fault;
 use crate::listening::listen;
 use crate::parse::{CommandLine, Parsed, Subcommand, WindowsSource, parse};
 use crate::reporting::{report_outcome, report_usage};
+use crate::row_reporter::RowReporter;
 use crate::showing::{present_set, show_windows};
+use crate::snapshot::Snapshot;
 use crate::writing_page::write_report;
 use api::{End, NoTicks, Options, Served, serve};
-use bulk::{BulkFault, FaultKind, audit, export, run_noting_refusals};
+use bulk::{BulkFault, FaultKind, RowWatcher, audit_watched, export_watched, run_watched};
 use connections::{FeedFault, Limits, feed as feed_groups};
 use numbers::Spid;
 use register::{OpenFault, Register};
@@ -199,8 +204,8 @@ fn feeding_outcome(fed: Result<End, FeedFault>) -> Result<(), Fault>
     }
 }
 
-// Feeds `reader` to a register in groups of commits. If the content refines the first state for some
-// windows and the device never failed, the answers are the machine's from there on.
+// Feeds `reader` to a register in groups of commits. The answers are the machine's from each state
+// that the content refined.
 fn feed_groups_to<S: Store, R: Read, W: Write>(
     alloc: Global,
     register: &mut Register<S>,
@@ -210,20 +215,21 @@ fn feed_groups_to<S: Store, R: Read, W: Write>(
     ensures usable { S.IsUsable register.new.store → S.IsUsable register.old.store }
     ensures honest { S.HasHonestDevice register.new.store → S.HasHonestDevice register.old.store }
     ensures rises { S.failed register.old.store ≤ S.failed register.new.store }
-    ensures feeds { S.IsUsable register.new.store → S.failed register.old.store ≡ 0
-        → S.failed register.new.store ≡ 0 → (w : WindowsModel)
-        → Refines (S.content register.old.store) (first_state w)
+    ensures feeds { S.IsUsable register.new.store → (st : State)
+        → Refines (S.content register.old.store) st
         → IfSome (R.remaining reader.old)
-        (λ input. FeedsInGroups w (io_of_feed input (R.remaining reader.new)
+        (λ input. FeedsInGroups (S.failed register.old.store) (S.failed register.new.store) st
+        (S.content register.new.store) (io_of_feed input (R.remaining reader.new)
         (W.contents writer.old) (W.contents writer.new)) result) }
+    ensures lasts { LeavesContent S.StoreModel register.old.store register.new.store }
     ensures fault { IfErr result IsOfServing }
 {
     let fed = feed_groups(alloc, register, reader, writer);
     feeding_outcome(fed)
 }
 
-// Feeds `reader` to a store in groups of commits, and returns the store. If the store was empty and
-// its device never failed, the answers are those of the machine from its first state on.
+// Feeds `reader` to a store in groups of commits, and returns the store. If the store was empty, the
+// answers are those of the machine from its first state on.
 fn feed_in_groups<S: Store, R: Read, W: Write>(
     alloc: Global,
     store: S,
@@ -233,10 +239,14 @@ fn feed_in_groups<S: Store, R: Read, W: Write>(
 ) -> (S, Result<(), Fault>)
     ensures usable { S.IsUsable result.0 → S.IsUsable store }
     ensures honest { S.HasHonestDevice result.0 → S.HasHonestDevice store }
-    ensures feeds { S.IsUsable result.0 → S.failed result.0 ≡ 0
-        → S.content store ≡ empty_content → IfSome (R.remaining reader.old) (λ input.
-        FeedsInGroups (windows_of windows.now) (io_of_feed input (R.remaining reader.new)
-        (W.contents writer.old) (W.contents writer.new)) result.1) }
+    ensures rises { S.failed store ≤ S.failed result.0 }
+    ensures feeds { S.IsUsable result.0 → S.content store ≡ empty_content
+        → IfSome (R.remaining reader.old)
+        (λ input. FeedsInGroups (S.failed store) (S.failed result.0)
+        (first_state (windows_of windows.now)) (S.content result.0)
+        (io_of_feed input (R.remaining reader.new) (W.contents writer.old)
+        (W.contents writer.new)) result.1) }
+    ensures lasts { LeavesContent S.StoreModel store result.0 }
     ensures fault { IfErr result.1 IsOfFeeding }
 {
     match Register::open(alloc, store, windows) {
@@ -256,9 +266,9 @@ fn feed_in_groups<S: Store, R: Read, W: Write>(
 /// `Write`, what was written is a prefix of the responses. All messages that are answered there have
 /// been executed, and perhaps more of the same group.
 ///
-/// The answers are those of the machine from its first state on if:
-/// - the file was new, and its disk returned what was written;
-/// - the store is usable afterwards, and counted no failure.
+/// The answers are those of the machine from its first state on if the file was new, its disk
+/// returned what was written, and the store is usable afterwards. A crash then leaves the state after
+/// all messages that were executed, and so all that was answered.
 ///
 /// # Errors
 ///
@@ -273,10 +283,16 @@ pub fn feed_at<S: Start, R: Read, W: Write>(
 ) -> Result<(StoreAt<S>, Result<(), Fault>), (FileFault, UnopenedAt<S>)>
     ensures feeds { IfOk result (λ r. HasCleanDisk (file_state r.0.db.conn)
         → IsTrue (is_sound r.0.group) → IsTrue (file_state r.0.db.conn).is_open
-        → r.0.failures ≡ 0
         → (image_at S.Start).db ≡ [] → IfSome (R.remaining reader.old) (λ input.
-        FeedsInGroups (windows_of windows.now) (io_of_feed input (R.remaining reader.new)
-        (W.contents writer.old) (W.contents writer.new)) r.1)) }
+        FeedsInGroups 0 r.0.failures (first_state (windows_of windows.now))
+        (content_in (file_state r.0.db.conn).now.trees)
+        (io_of_feed input (R.remaining reader.new) (W.contents writer.old)
+        (W.contents writer.new)) r.1)) }
+    // What was answered lasts: a crash leaves the content that `feeds` speaks of.
+    ensures lasts { IfOk result (λ r. IsTrue (is_sound r.0.group)
+        → IsTrue (file_state r.0.db.conn).is_open → (m : Content)
+        → left_by over_files r.0.db.conn m
+        → m ≡ content_in (file_state r.0.db.conn).now.trees) }
     ensures fault { IfOk result (λ r. IfErr r.1 IsOfFeeding) }
 {
     let store = SqlStore::at(rt, path, start, windows)?;
@@ -361,17 +377,18 @@ fn commands_outcome(
 }
 
 // Runs a file of commands over a register, and writes its report.
-fn run_commands<S: Store, R: Read, W: Write>(
+fn run_commands<S: Store, R: Read, W: Write, N: RowWatcher>(
     alloc: Global,
     register: &mut Register<S>,
     strict: bool,
     reader: &mut R,
     writer: &mut W,
+    watcher: &mut N,
 ) -> Result<(), Fault>
     ensures rows { JudgesRows strict (W.contents writer.old) (W.contents writer.new) result }
     ensures fault { IfErr result (IsOfCommands strict) }
 {
-    let (ran, has_refusal) = run_noting_refusals(alloc, register, reader, writer);
+    let (ran, has_refusal) = run_watched(alloc, register, reader, writer, watcher);
     commands_outcome(strict, ran, has_refusal)
 }
 
@@ -408,6 +425,25 @@ fn listen_logging<S: Store, W: Write>(
     }
 }
 
+// Compares the copy of a carrier with a register.
+fn audit_copy<S: Store, R: Read, W: Write>(
+    rt: &HostRuntime,
+    register: &mut Register<S>,
+    line: &CommandLine<'_>,
+    spid: &str,
+    reader: &mut R,
+    writer: &mut W,
+) -> Result<(), Fault>
+    ensures { IfErr result IsOfFile }
+{
+    let Some(carrier) = Spid::read(spid) else {
+        return Err(Fault::File(FaultKind::UnknownCarrier));
+    };
+    let mut reporter = RowReporter::new(rt, line, FaultKind::BadFile.name());
+    let audited = audit_watched(rt.alloc(), register, carrier, reader, writer, &mut reporter);
+    file_outcome(audited)
+}
+
 // Serves the file of `--feed` to a register, and then executes the subcommand. Without a failure of
 // the device, `storage` does not come.
 fn run_on<S: Store, R: Read, W: Write>(
@@ -435,12 +471,15 @@ fn run_on<S: Store, R: Read, W: Write>(
             let limits = Limits::from(limits);
             listen_logging(rt, register, port, connections, limits, log, writer)
         }
-        Subcommand::Bulk { strict } => run_commands(alloc, register, strict, reader, writer),
-        Subcommand::Export => file_outcome(export(alloc, register, writer)),
-        Subcommand::Audit { spid } => match Spid::read(spid) {
-            Some(carrier) => file_outcome(audit(alloc, register, carrier, reader, writer)),
-            None => Err(Fault::File(FaultKind::UnknownCarrier)),
-        },
+        Subcommand::Bulk { strict } => {
+            let mut reporter = RowReporter::new(rt, line, "bad_row");
+            run_commands(alloc, register, strict, reader, writer, &mut reporter)
+        }
+        Subcommand::Export => {
+            let mut reporter = RowReporter::new(rt, line, FaultKind::BadFile.name());
+            file_outcome(export_watched(alloc, register, writer, &mut reporter))
+        }
+        Subcommand::Audit { spid } => audit_copy(rt, register, line, spid, reader, writer),
     }
 }
 
@@ -601,37 +640,79 @@ fn run_in_memory<R: Read, W: Write>(
     outcome
 }
 
-// Executes a command line with the windows of a file. A plain `feed` calls the function whose
-// contract states its answers.
+// Executes a command line with the windows of the file at `windows`, over the file at `db`. A plain
+// `feed` calls the function whose contract states its answers.
 fn run_with<R: Read, W: Write>(
     rt: &HostRuntime,
-    path: &str,
+    windows: &str,
+    db: Option<&str>,
     line: &CommandLine<'_>,
     reader: &mut R,
     writer: &mut W,
 ) -> Result<(), Fault>
+    requires { IsSome db → IsSome line.now.db }
     ensures { IfErr result (MayEnd line.now) }
 {
-    let windows = windows_at(rt, path)?;
-    match (line.subcommand, line.feed, line.db) {
+    let windows = windows_at(rt, windows)?;
+    match (line.subcommand, line.feed, db) {
         (_, _, Some(path)) => run_at(rt, path, &windows, line, reader, writer),
         (Subcommand::Feed, None, None) => feed_buffered(rt.alloc(), &windows, reader, writer),
         _ => run_in_memory(rt, &windows, line, reader, writer),
     }
 }
 
-// Executes a command line.
+// Executes a command line over the file at `db`, which is its own or a copy of it.
+fn run_over_file<R: Read, W: Write>(
+    rt: &HostRuntime,
+    db: Option<&str>,
+    line: &CommandLine<'_>,
+    reader: &mut R,
+    writer: &mut W,
+) -> Result<(), Fault>
+    requires { IsSome db → IsSome line.now.db }
+    ensures { IfErr result (MayEnd line.now) }
+{
+    match line.windows {
+        WindowsSource::File(windows) => run_with(rt, windows, db, line, reader, writer),
+        WindowsSource::Database(own) => {
+            run_present_at(rt, db.unwrap_or(own), line, reader, writer)
+        }
+    }
+}
+
+// Executes a command line over a copy of the file at `db`, and removes the copy.
+fn run_on_snapshot<R: Read, W: Write>(
+    rt: &HostRuntime,
+    db: &str,
+    line: &CommandLine<'_>,
+    reader: &mut R,
+    writer: &mut W,
+) -> Result<(), Fault>
+    requires wanted { line.now.snapshot ≡ true }
+    requires file { IsSome line.now.db }
+    ensures { IfErr result (MayEndLine line.now) }
+{
+    let snapshot = match Snapshot::take(rt, db) {
+        Ok(snapshot) => snapshot,
+        Err(fault) => return Err(fault),
+    };
+    let outcome = run_over_file(rt, Some(snapshot.path()), line, reader, writer);
+    snapshot.remove(rt);
+    outcome
+}
+
+// Executes a command line, over a copy of its file if it wants one.
 fn run_line<R: Read, W: Write>(
     rt: &HostRuntime,
     line: &CommandLine<'_>,
     reader: &mut R,
     writer: &mut W,
 ) -> Result<(), Fault>
-    ensures { IfErr result (MayEnd line.now) }
+    ensures { IfErr result (MayEndLine line.now) }
 {
-    match line.windows {
-        WindowsSource::File(path) => run_with(rt, path, line, reader, writer),
-        WindowsSource::Database(path) => run_present_at(rt, path, line, reader, writer),
+    match line.db {
+        Some(db) if line.snapshot => run_on_snapshot(rt, db, line, reader, writer),
+        db => run_over_file(rt, db, line, reader, writer),
     }
 }
 
@@ -664,7 +745,8 @@ fn run_parsed<R: Read, W: Write>(
 /// and then explains the fault where `--explain` says.
 ///
 /// Reads the windows file first, then the file of `--db`, then that of `--feed`, and then executes
-/// the subcommand. Stops at the first fault.
+/// the subcommand. With `--snapshot` it copies the file of `--db` before it reads any. Stops at the
+/// first fault.
 pub fn run<S: AsStr, R: Read, W: Write, E: Write>(
     rt: &HostRuntime,
     words: &[S],

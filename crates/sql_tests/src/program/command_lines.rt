@@ -614,6 +614,8 @@ fn are_lines(alloc: Global) -> Option<bool> {
             db: None,
             existing: false,
             explain: None,
+            progress: false,
+            snapshot: false,
         },
     )?;
     let subcommand = Subcommand::Serve {
@@ -641,6 +643,8 @@ fn are_lines(alloc: Global) -> Option<bool> {
                 db: Some("d"),
                 existing: true,
                 explain: Some("-"),
+                progress: false,
+                snapshot: false,
             },
         )?,
     )
@@ -649,6 +653,35 @@ fn are_lines(alloc: Global) -> Option<bool> {
 #[test]
 fn serve_lines_are_parsed(rt: HostRuntime) {
     assert_eq!(rt; are_lines(rt.alloc()), Some(true));
+}
+
+// Returns whether the words parse as this line of `export` over the file `d`.
+fn is_export(alloc: Global, text: &str, progress: bool, snapshot: bool) -> Option<bool> {
+    is_line(
+        alloc,
+        text,
+        &CommandLine {
+            subcommand: Subcommand::Export,
+            windows: WindowsSource::Database("d"),
+            feed: None,
+            db: Some("d"),
+            existing: false,
+            explain: None,
+            progress,
+            snapshot,
+        },
+    )
+}
+
+fn are_exports(alloc: Global) -> Option<bool> {
+    let copied = "npacd export --snapshot --present-windows --db d";
+    let shown = "npacd export --present-windows --progress --db d";
+    Some(is_export(alloc, copied, false, true)? && is_export(alloc, shown, true, false)?)
+}
+
+#[test]
+fn export_lines_are_parsed(rt: HostRuntime) {
+    assert_eq!(rt; are_exports(rt.alloc()), Some(true));
 }
 
 // An environment with these words and no variables.

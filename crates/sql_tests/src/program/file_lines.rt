@@ -55,7 +55,7 @@ const COPY: &str = "subject,lrn,cic\n2025331234,2025550000,\n2025339999,20253300
 const NOTHING_IN_FORCE: &str = "subject,lrn,cic\n";
 
 // Mistakes in the line, found before any file is opened, and help.
-static WORDS: [LineCase<'static>; 8] = [
+static WORDS: [LineCase<'static>; 12] = [
     ("npacd bulk", CREATES, 2, NO_OUTPUT, None),
     ("npacd export", "", 2, NO_OUTPUT, None),
     ("npacd audit --windows none.toml", COPY, 2, NO_OUTPUT, None),
@@ -74,13 +74,35 @@ static WORDS: [LineCase<'static>; 8] = [
         NO_OUTPUT,
         None,
     ),
+    (
+        "npacd export --windows none.toml --snapshot",
+        "",
+        2,
+        NO_OUTPUT,
+        Some("error: --snapshot stands without --db\n"),
+    ),
+    (
+        "npacd bulk --windows none.toml --db none.db --snapshot",
+        CREATES,
+        2,
+        NO_OUTPUT,
+        None,
+    ),
+    (
+        "npacd feed --windows none.toml --progress",
+        "",
+        2,
+        NO_OUTPUT,
+        None,
+    ),
     ("npacd bulk --help", CREATES, 0, None, NO_OUTPUT),
+    ("npacd export --help", "", 0, None, NO_OUTPUT),
     ("npacd audit --help", COPY, 0, None, NO_OUTPUT),
 ];
 
 // Lines over memory: from nothing, from what was fed, and from what precedes the end of what was
 // fed.
-static MEMORY_LINES: [LineCase<'static>; 11] = [
+static MEMORY_LINES: [LineCase<'static>; 12] = [
     (
         "npacd bulk --windows good.toml --feed carriers.http",
         CREATES,
@@ -93,6 +115,13 @@ static MEMORY_LINES: [LineCase<'static>; 11] = [
         "caller,action,subject,old,new,due,lrn,cic,flag\n",
         0,
         Some("row,subject,result,id\n"),
+        NO_OUTPUT,
+    ),
+    (
+        "npacd bulk --windows good.toml --progress --explain none/why",
+        "caller,action,subject,old,new,due,lrn,cic,flag\nBBBB,Activate,2025331234,,,,,,\n",
+        0,
+        Some("row,subject,result,id\n1,,bad_row,\n"),
         NO_OUTPUT,
     ),
     (
@@ -378,13 +407,73 @@ static KEPT: [LineCase<'static>; 1] = [(
     NO_OUTPUT,
 )];
 
+// Lines over copies of a file, which stays as it was. The copy is made before the windows are read.
+static SNAPSHOTS: [LineCase<'static>; 8] = [
+    (
+        "npacd export --windows good.toml --db files.db --snapshot --progress",
+        "",
+        0,
+        Some("subject,lrn,cic\n2025331234,2025440000,\n"),
+        NO_OUTPUT,
+    ),
+    (
+        "npacd audit --windows good.toml --db files.db --spid CCCC --snapshot",
+        COPY,
+        0,
+        Some("subject,finding\n2025331234,different\n2025339999,extra\n"),
+        NO_OUTPUT,
+    ),
+    (
+        "npacd export --windows good.toml --db files.db --snapshot --feed wide.http",
+        "",
+        0,
+        Some("subject,lrn,cic\n2025331234,2025440000,\n"),
+        NO_OUTPUT,
+    ),
+    (
+        "npacd export --windows good.toml --db files.db",
+        "",
+        0,
+        Some("subject,lrn,cic\n2025331234,2025440000,\n"),
+        NO_OUTPUT,
+    ),
+    (
+        "npacd export --windows none.toml --db none.db --snapshot",
+        "",
+        3,
+        NO_OUTPUT,
+        Some("npacd: storage\n"),
+    ),
+    (
+        "npacd export --windows none.toml --db files.db --snapshot",
+        "",
+        3,
+        NO_OUTPUT,
+        Some("npacd: read\n"),
+    ),
+    (
+        "npacd export --windows wide.toml --db files.db --snapshot",
+        "",
+        1,
+        NO_OUTPUT,
+        Some("npacd: windows_differ\n"),
+    ),
+    (
+        "npacd export --windows good.toml --db good.toml --snapshot",
+        "",
+        3,
+        NO_OUTPUT,
+        Some("npacd: storage\n"),
+    ),
+];
+
 // The windows that the administrator sets, as `npacd windows` writes them.
 const SECOND_SET: &str = "# Set 2\ninitial_concurrence = 60\nfinal_concurrence = 60\n\
     conflict_restriction = 30\nconflict_resolution = 120\nconflict_expiration = 1000\n\
     cancellation_initial = 60\ncancellation_final = 60\npending_retention = 500\nbroadcast = 16\n";
 
 // The administrator sets other windows: the file then opens with these, and not with the first.
-static WINDOWS_CHANGED: [LineCase<'static>; 5] = [
+static WINDOWS_CHANGED: [LineCase<'static>; 6] = [
     (
         "npacd export --windows good.toml --db files.db --feed wide.http",
         "",
@@ -401,6 +490,13 @@ static WINDOWS_CHANGED: [LineCase<'static>; 5] = [
     ),
     (
         "npacd export --present-windows --db files.db",
+        "",
+        0,
+        Some("subject,lrn,cic\n2025331234,2025440000,\n"),
+        NO_OUTPUT,
+    ),
+    (
+        "npacd export --present-windows --db files.db --snapshot",
         "",
         0,
         Some("subject,lrn,cic\n2025331234,2025440000,\n"),
@@ -445,6 +541,7 @@ fn file_command_lines_are_executed(rt: HostRuntime) {
     assert_eq!(rt; first_wrong_line(&rt, &STORED), None);
     assert_eq!(rt; first_wrong_line(&rt, &FAULTS), None);
     assert_eq!(rt; first_wrong_line(&rt, &KEPT), None);
+    assert_eq!(rt; first_wrong_line(&rt, &SNAPSHOTS), None);
     assert_eq!(rt; first_wrong_line(&rt, &WINDOWS_CHANGED), None);
     assert_eq!(rt; first_unreported(&rt), None);
 }

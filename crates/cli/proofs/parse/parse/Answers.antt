@@ -115,7 +115,9 @@ returns-in-Some-clause-mistake g c =
     (c.in-Ok-try_get_matches_from.ensures.kinds (ap is_simple_and_free e ∙ free present)) in
     λ two. inr (
       (accepted, λ line. subst IsNoLine (sym second.2) none line),
-      c.no_line.ensures.text two ∙ ap mistake_text wanted,
+      c.no_line.ensures.text two
+          ∙ (ap (λ (p : Bool). mistake_text p c.wants_snapshot.result) wanted
+          ∙ ap (mistake_text present) c.wants_snapshot.ensures),
     )
 
 -- Words that `clap` refuses are no command line.
