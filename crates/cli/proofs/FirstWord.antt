@@ -98,6 +98,11 @@ unfolding clap_on_literals
 backup_named present =
     record { met = refl; reads = λ after rows e. ap (option_map (λ (p : Pair). p.1)) e }
 
+repair_named : (present : Bool) → IsNamed present (codes "repair")
+unfolding clap_on_literals
+repair_named present =
+    record { met = refl; reads = λ after rows e. ap (option_map (λ (p : Pair). p.1)) e }
+
 report_named : (present : Bool) → IsNamed present (codes "report")
 unfolding clap_on_literals
 report_named present =
@@ -155,6 +160,8 @@ rows_are_parsed present program name after told rows (parsed.Check line) h found
     at_name present program (codes "check") name after rows (check_named present) h.0 found
 rows_are_parsed present program name after told rows (parsed.Backup line to) h found =
     at_name present program (codes "backup") name after rows (backup_named present) h.0 found
+rows_are_parsed present program name after told rows (parsed.Repair line to) h found =
+    at_name present program (codes "repair") name after rows (repair_named present) h.0 found
 rows_are_parsed present program name after told rows (parsed.Report line to number) h found =
     at_name present program (codes "report") name after rows (report_named present) h.0 found
 rows_are_parsed present program name after told rows (parsed.Line line) h found =

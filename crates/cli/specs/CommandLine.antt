@@ -116,9 +116,10 @@ with_files present a =
 
 -- `a` with the subcommands that open no register added.
 abbrev pub with_inspection : App → App
-with_inspection a = with_subcommand (with_subcommand (with_subcommand (with_subcommand a
+with_inspection a =
+    with_subcommand (with_subcommand (with_subcommand (with_subcommand (with_subcommand a
     (file_app (codes "windows")).top) (file_app (codes "check")).top)
-    (writing_app (codes "backup")).top) report_app.top
+    (writing_app (codes "backup")).top) (writing_app (codes "repair")).top) report_app.top
 
 -- The whole command. `present` says whether `--present-windows` is given.
 abbrev pub npacd_app : (present : Bool) → App
@@ -231,6 +232,8 @@ IsParsedOf present name rows (parsed.Windows line) =
 IsParsedOf present name rows (parsed.Check line) = (name ≡ codes "check") × IsOverFile rows line
 IsParsedOf present name rows (parsed.Backup line to) =
     (name ≡ codes "backup") × IsOverFile rows line × (first_of (codes "to") rows ≡ Some to.now)
+IsParsedOf present name rows (parsed.Repair line to) =
+    (name ≡ codes "repair") × IsOverFile rows line × (first_of (codes "to") rows ≡ Some to.now)
 IsParsedOf present name rows (parsed.Report line to number) =
     (name ≡ codes "report") × IsOverFile rows line × (first_of (codes "to") rows ≡ Some to.now)
     × IsTnIfAny rows number

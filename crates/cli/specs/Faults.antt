@@ -187,6 +187,7 @@ abbrev pub MayEndAs : Parsed → Fault → Type 0
 MayEndAs (parsed.Windows line) refused = IsOfShowing refused
 MayEndAs (parsed.Check line) refused = IsOfShowing refused
 MayEndAs (parsed.Backup line to) refused = IsOfBackup refused
+MayEndAs (parsed.Repair line to) refused = IsOfBackup refused
 MayEndAs (parsed.Report line to number) refused = IsOfShowing refused
 MayEndAs (parsed.Line line) refused = MayEndLine line refused
 

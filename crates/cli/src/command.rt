@@ -392,6 +392,16 @@ fn with_backup<'a>(alloc: Global, command: Command<'a>) -> Result<Command<'a>, A
     with(command, part)
 }
 
+fn with_repair<'a>(alloc: Global, command: Command<'a>) -> Result<Command<'a>, AllocError>
+    ensures { IfOk result (λ c. app_of c
+        ≡ with_subcommand (app_of command.entry) (writing_app (codes "repair")).top) }
+{
+    let about = "Write the rows of a database whose tables moved, as by a VACUUM, into a new one";
+    let help = "The new database, which does not exist yet";
+    let part = writing(alloc, "repair", about, help)?;
+    with(command, part)
+}
+
 fn with_report<'a>(alloc: Global, command: Command<'a>) -> Result<Command<'a>, AllocError>
     ensures { IfOk result (λ c. app_of c ≡ with_subcommand (app_of command.entry) report_app.top) }
 {
@@ -408,6 +418,7 @@ fn with_inspection<'a>(alloc: Global, command: Command<'a>) -> Result<Command<'a
     let about = "Say what a database holds, or why it is refused";
     let command = with_over_file(alloc, command, "check", about)?;
     let command = with_backup(alloc, command)?;
+    let command = with_repair(alloc, command)?;
     with_report(alloc, command)
 }
 

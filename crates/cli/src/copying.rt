@@ -144,6 +144,26 @@ fn sync_file(rt: &HostRuntime, path: &str) -> Result<(), Fault>
     }
 }
 
+/// Opens a new file, reads each of its rows, writes its summary as `check` does, and removes its log,
+/// which has been moved into it.
+///
+/// # Errors
+///
+/// - `Open(Storage)` if the file is refused as by `SqlStore::existing_at`.
+/// - `Write` if the summary cannot be written, or the log removed.
+/// - `Open(NoMemory)` or `NoMemory` if an allocation fails.
+pub(crate) fn finish<W: Write>(
+    rt: &HostRuntime,
+    new: &RegisterPaths,
+    writer: &mut W,
+) -> Result<(), Fault>
+    ensures { IfErr result IsOfBackup }
+{
+    summarize(rt, new.file.as_str(), writer)?;
+    remove_file(rt, new.log.as_str())?;
+    sync_file(rt, new.file.as_str())
+}
+
 // Makes a copy that needs no log, and writes its summary.
 fn make_copy<W: Write>(
     rt: &HostRuntime,
@@ -154,13 +174,11 @@ fn make_copy<W: Write>(
     ensures { IfErr result IsOfBackup }
 {
     copy_register(rt, from, to)?;
-    summarize(rt, to.file.as_str(), writer)?;
-    remove_file(rt, to.log.as_str())?;
-    sync_file(rt, to.file.as_str())
+    finish(rt, to, writer)
 }
 
-// Checks that nothing is at `path`.
-fn check_free(rt: &HostRuntime, path: &str) -> Result<(), Fault>
+/// Checks that nothing is at `path`. Something there is `Write`.
+pub(crate) fn check_free(rt: &HostRuntime, path: &str) -> Result<(), Fault>
     ensures { IfErr result IsOfCopying }
 {
     match fs::exists(rt, path) {
@@ -170,10 +188,29 @@ fn check_free(rt: &HostRuntime, path: &str) -> Result<(), Fault>
     }
 }
 
-// Returns the paths of the copy while it is made.
-fn part_of(alloc: Global, to: &str) -> Result<RegisterPaths, AllocError> {
+/// Returns the paths of the file for `to` while it is made.
+pub(crate) fn part_of(alloc: Global, to: &str) -> Result<RegisterPaths, AllocError> {
     let part = format!(in alloc; "{to}.part")?;
     RegisterPaths::new(alloc, part.as_str())
+}
+
+/// Removes a file that is being made, and its log, if they are there.
+pub(crate) fn remove_part(rt: &HostRuntime, part: &RegisterPaths) -> Result<(), Fault>
+    ensures { IfErr result IsOfCopying }
+{
+    let removed = remove_file(rt, part.file.as_str());
+    remove_file(rt, part.log.as_str())?;
+    removed
+}
+
+/// Gives a file that is whole its name.
+pub(crate) fn rename_part(rt: &HostRuntime, part: &RegisterPaths, to: &str) -> Result<(), Fault>
+    ensures { IfErr result IsOfCopying }
+{
+    match fs::rename(rt, part.file.as_str(), to) {
+        Ok(()) => Ok(()),
+        Err(error) => Err(fault_of(error, Fault::Write)),
+    }
 }
 
 /// Copies the register in the file at `db` to a file at `to`, also while a program has it open.
@@ -205,12 +242,8 @@ pub(crate) fn back_up<W: Write>(
         return Err(Fault::NoMemory);
     };
     if let Err(fault) = make_copy(rt, &from, &part, writer) {
-        let _ = remove_file(rt, part.file.as_str());
-        let _ = remove_file(rt, part.log.as_str());
+        let _ = remove_part(rt, &part);
         return Err(fault);
     }
-    match fs::rename(rt, part.file.as_str(), to) {
-        Ok(()) => Ok(()),
-        Err(error) => Err(fault_of(error, Fault::Write)),
-    }
+    rename_part(rt, &part, to)
 }

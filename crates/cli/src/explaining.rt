@@ -7,7 +7,7 @@ use crate::parse::{CommandLine, Parsed, Subcommand, WindowsSource};
 use crate::snapshot::Snapshot;
 use api::MessageFault;
 use bulk::FaultKind;
-use diagnosis::{Cause, Reason, cause_at, reason_of_plain_file};
+use diagnosis::{Cause, Reason, cause_at, cause_of_moved, reason_of_plain_file};
 use http_messages::send_all;
 use register::OpenFault;
 use std::alloc::{AllocError, Global};
@@ -108,6 +108,7 @@ impl<'a> Parsed<'a> {
             Parsed::Windows(line)
             | Parsed::Check(line)
             | Parsed::Backup { line, .. }
+            | Parsed::Repair { line, .. }
             | Parsed::Report { line, .. } => line.explain,
             Parsed::Line(line) => line.explain,
         }
@@ -119,6 +120,7 @@ impl<'a> Parsed<'a> {
             Parsed::Windows(line)
             | Parsed::Check(line)
             | Parsed::Backup { line, .. }
+            | Parsed::Repair { line, .. }
             | Parsed::Report { line, .. } => Some(line.db),
             Parsed::Line(line) => line.db,
         }
@@ -227,8 +229,12 @@ fn explain_plainly<'a>(
     }
 }
 
-// Returns why the file at `path` was refused. Examines a copy if a copy was refused.
+// Returns why the file at `path` was refused. Examines a copy if a copy was refused. A repair takes
+// tables in other places.
 fn cause_of(rt: &HostRuntime, parsed: &Parsed<'_>, path: &str) -> Cause {
+    if matches!(parsed, Parsed::Repair { .. }) {
+        return cause_of_moved(rt, path);
+    }
     if parsed.copied().is_none() {
         return cause_at(rt, path);
     }

@@ -12,6 +12,7 @@ mod fault;
 mod listening;
 mod options;
 pub mod parse;
+mod repairing;
 mod reporting;
 mod row_reporter;
 mod row_words;

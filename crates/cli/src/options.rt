@@ -281,6 +281,20 @@ fn backup_of<'a>(present: bool, matches: &ArgMatches<'a>) -> Result<Parsed<'a>, 
     }
 }
 
+// Returns the line of `repair`.
+fn repair_of<'a>(present: bool, matches: &ArgMatches<'a>) -> Result<Parsed<'a>, NoLine>
+    ensures given { IfOk result
+        (IsParsedOf present (codes "repair") (rows_of (found_of matches.now))) }
+    ensures none { IfErr result (λ _. IsNoParsedOf present (codes "repair")
+        (rows_of (found_of matches.now))) }
+{
+    let line = over_file(matches)?;
+    match text_of(matches, "to") {
+        Some(to) => Ok(Parsed::Repair { line, to }),
+        None => Err(NoLine),
+    }
+}
+
 /// Returns what a subcommand and its matches ask for. `present` says whether `--present-windows` is
 /// given.
 pub fn parsed_of<'a>(
@@ -300,6 +314,9 @@ pub fn parsed_of<'a>(
     }
     if name == "backup" {
         return backup_of(present, matches);
+    }
+    if name == "repair" {
+        return repair_of(present, matches);
     }
     if name == "report" {
         return report_of(present, matches);

@@ -107,6 +107,12 @@ pub enum Parsed<'a> {
         /// The path of the copy, where nothing is yet.
         to: &'a str,
     },
+    /// Writes the rows of a database file, wherever its tables are, into a new file.
+    Repair {
+        line: FileLine<'a>,
+        /// The path of the new file, where nothing is yet.
+        to: &'a str,
+    },
     /// Writes a page about a database file.
     Report {
         line: FileLine<'a>,

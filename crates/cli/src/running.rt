@@ -27,6 +27,7 @@ use crate::explaining::explain;
 use crate::fault::Fault;
 use crate::listening::listen;
 use crate::parse::{CommandLine, Parsed, Subcommand, WindowsSource, parse};
+use crate::repairing::repair_file;
 use crate::reporting::{report_outcome, report_usage};
 use crate::row_reporter::RowReporter;
 use crate::showing::{present_set, show_windows};
@@ -729,6 +730,7 @@ fn run_parsed<R: Read, W: Write>(
         Parsed::Windows(line) => show_windows(rt, line.db, writer),
         Parsed::Check(line) => check_file(rt, line.db, writer),
         Parsed::Backup { line, to } => back_up(rt, line.db, to, writer),
+        Parsed::Repair { line, to } => repair_file(rt, line.db, to, writer),
         Parsed::Report { line, to, number } => write_report(rt, line.db, to, *number),
         Parsed::Line(line) => run_line(rt, line, reader, writer),
     }

@@ -43,7 +43,7 @@ const FIRST_AND_CUT: &str = "POST /carriers HTTP/1.1\r\nx-spid: NPAC\r\n\
     x-spid: NPAC\r\ncontent-length: 15\r\n\r\n{\"spid\"";
 
 // Mistakes in the line, found before any file is opened.
-static MISTAKES: [LineCase<'static>; 24] = [
+static MISTAKES: [LineCase<'static>; 25] = [
     ("npacd", "", 2, NO_OUTPUT, None),
     ("npacd listen --windows good.toml", "", 2, NO_OUTPUT, None),
     ("npacd feed", "", 2, NO_OUTPUT, None),
@@ -89,6 +89,7 @@ static MISTAKES: [LineCase<'static>; 24] = [
         None,
     ),
     ("npacd backup --db none.db", "", 2, NO_OUTPUT, None),
+    ("npacd repair --db none.db", "", 2, NO_OUTPUT, None),
     ("npacd report --db none.db", "", 2, NO_OUTPUT, None),
     (
         "npacd report --db none.db --to none.html --number 12",
@@ -148,12 +149,13 @@ static MISTAKES: [LineCase<'static>; 24] = [
     ),
 ];
 
-static HELP: [LineCase<'static>; 7] = [
+static HELP: [LineCase<'static>; 8] = [
     ("npacd --help", FIRST, 0, None, NO_OUTPUT),
     ("npacd serve --help", FIRST, 0, None, NO_OUTPUT),
     ("npacd windows --help", FIRST, 0, None, NO_OUTPUT),
     ("npacd check --help", FIRST, 0, None, NO_OUTPUT),
     ("npacd backup --help", FIRST, 0, None, NO_OUTPUT),
+    ("npacd repair --help", FIRST, 0, None, NO_OUTPUT),
     ("npacd report --help", FIRST, 0, None, NO_OUTPUT),
     (
         "npacd --version",
@@ -317,7 +319,7 @@ const FIRST_SET: &str = "# Set 1\ninitial_concurrence = 60\nfinal_concurrence = 
 
 // Lines over a file, each after the ones before it. `windows`, `check` and `--existing` make no
 // file.
-static STORED: [LineCase<'static>; 24] = [
+static STORED: [LineCase<'static>; 27] = [
     (
         "npacd check --db made.db",
         "",
@@ -418,6 +420,27 @@ static STORED: [LineCase<'static>; 24] = [
     ),
     (
         "npacd backup --db none.db --to other.db",
+        "",
+        3,
+        NO_OUTPUT,
+        Some("npacd: storage\n"),
+    ),
+    (
+        "npacd repair --db made.db --to new.db",
+        "",
+        0,
+        Some("minute 0\nset 1\nnext_id 1\ncarriers 1\ndue none\n"),
+        NO_OUTPUT,
+    ),
+    (
+        "npacd repair --db made.db --to new.db",
+        "",
+        3,
+        NO_OUTPUT,
+        Some("npacd: write\n"),
+    ),
+    (
+        "npacd repair --db none.db --to other.db",
         "",
         3,
         NO_OUTPUT,
