@@ -8,8 +8,11 @@ use Rattle.std.specs.Ordering.{on, eq_by_cmp}
 use Rattle.std.specs.BTreeMap.{BTreeMap, is_at}
 use Rattle.std.specs.FinMap.{get, get-empty, from_entries}
 use Rattle.std.proofs.lemmas.List.Kept.{IsStrictlySortedBy-filter}
+use Rattle.std.proofs.Props.{props}
 use Rattle.numbers.specs.Subjects.{Subject, subject_key}
 use Rattle.numbers.specs.Abstraction.{subject_of, key_of}
+use Rattle.numbers.specs.Digits.{IsMinute}
+use Rattle.numbers.specs.declared.minute.Minute.{Minute}
 use Rattle.numbers.specs.declared.ported.Subject.{Subject as SubjectImpl}
 use Rattle.numbers.specs.declared.spid.Spid.{Spid}
 use Rattle.numbers.proofs.SubjectKeys.{subject_key-exact}
@@ -20,10 +23,11 @@ use Rattle.settle.specs.Reads.{AreWaitsAbout, IsWaiting, download_cmp as queue_c
 use Rattle.store.specs.Lists.{is_subject}
 use Rattle.store.specs.WaitRows.{Download, row_key_of, row_key_in, row_in, Waiting, waiting_of, rows_of, waits_of, awaited, is_for, download_cmp, AreAbout}
 use Rattle.store.specs.QueueRows.{queue_key_of, order_of}
-use Rattle.store.specs.About.{has, has_at, keys_in, broadcasts_of, about_of, IsKey, IsSameIndex, IsPresence}
+use Rattle.store.specs.About.{has, has_at, has_in, key_in, keys_in, broadcasts_of, about_of, IsKey, IsSameIndex, IsPresence}
 use Rattle.store.specs.declared.about.Broadcasts.{Broadcasts}
 use Rattle.store.specs.declared.about.Broadcasts.TheVariants.{One, More}
 use Rattle.store.specs.declared.keys.RowKey.{RowKey as RowKeyImpl}
+use Rattle.store.specs.declared.short.ShortMinute.{ShortMinute}
 use Rattle.store.specs.declared.waiting.Waiting.{Waiting as WaitingImpl}
 use Rattle.store.specs.Maps.{IsSet, seen_entries}
 use Rattle.store.proofs.Maps.{get-seen, entry-of, key-set}
@@ -34,10 +38,20 @@ use Rattle.store.proofs.RowsFlat.{download_total, download_exact, get-waits_of}
 
 -- ---- one subject's broadcasts
 
+-- Minutes with one number are equal.
+pub same_minute : (m n : Minute) → m.number ≡ n.number → m ≡ n
+same_minute m n e =
+    subst (λ k. (v : IsMinute k) → m ≡ record { number = k; valid = v }) e
+    (λ v. ap (λ (w : IsMinute m.number). record m { valid = w }) (one_proof m.number m.valid v))
+    n.valid
+  where
+    one_proof : (k : ℕ) (v w : IsMinute k) → v ≡ w
+    one_proof k = hlevel props
+
 -- Writing a key of the ordered map, or deleting it.
 pub more-set : (m n : BTreeMap DownloadKey (Unit {0})) (key : DownloadKey) (v : Option (Unit {0}))
     → IsSet (on queue_key_of download_cmp) m n key v
-    → IsPresence (has (More m)) (has (More n)) (queue_key_of key) (is_some v)
+    → IsPresence (has_in m) (has_in n) (queue_key_of key) (is_some v)
 more-set m n key v is q =
     ap is_some (key-set queue_key_of (λ (u : Unit {0}). u) download_total download_exact m n key
     (queue_key_of key) v refl is q)
@@ -50,23 +64,24 @@ more-set m n key v is q =
     by_cases false w x = refl
 
 pub has-none : (m : BTreeMap DownloadKey (Unit {0})) → m.entries ≡ [] → (q : Download)
-    → has (More m) q ≡ false
+    → has_in m q ≡ false
 has-none m none q =
     ap (λ es. is_some (get (from_entries {R = download_cmp} (seen_entries queue_key_of
     (λ (u : Unit {0}). u) es)) q)) none
     ∙ ap is_some (get-empty download_cmp q)
 
 -- A map with two keys, in place of the first.
-pub two-keys : (own key : DownloadKey) (m0 m1 m2 : BTreeMap DownloadKey (Unit {0}))
-    → m0.entries ≡ [] → IsSet (on queue_key_of download_cmp) m0 m1 own (Some tt)
+pub two-keys : (minute : ShortMinute) (id attempt : ℕ) (key : DownloadKey) (m0 m1 m2 : BTreeMap DownloadKey (Unit {0}))
+    → m0.entries ≡ []
+    → IsSet (on queue_key_of download_cmp) m0 m1 (key_in minute id attempt) (Some tt)
     → IsSet (on queue_key_of download_cmp) m1 m2 key (Some tt)
-    → IsPresence (has (One own)) (has (More m2)) (queue_key_of key) true
-two-keys own key m0 m1 m2 none first second q =
+    → IsPresence (has (One minute id attempt)) (has_in m2) (queue_key_of key) true
+two-keys minute id attempt key m0 m1 m2 none first second q =
     more-set m1 m2 key (Some tt) second q
     ∙ ap (cond (eq_by_cmp download_cmp (queue_key_of key) q) true)
-    (more-set m0 m1 own (Some tt) first q
-    ∙ ap (cond (eq_by_cmp download_cmp (queue_key_of own) q) true) (has-none m0 none q)
-    ∙ itself (eq_by_cmp download_cmp (queue_key_of own) q))
+    (more-set m0 m1 (key_in minute id attempt) (Some tt) first q
+    ∙ ap (cond (has (One minute id attempt) q) true) (has-none m0 none q)
+    ∙ itself (has (One minute id attempt) q))
   where
     itself : (b : Bool) → cond b true false ≡ b
     itself true = refl
@@ -144,8 +159,11 @@ one-rises k = (tt, tt)
 has-key : (b : Broadcasts) (d : Download) → has b d ≡ true → (k : DownloadKey)
     × Among k (keys_in b) × (queue_key_of k ≡ d)
 unfolding Among
-has-key (One k) d is = (k, inl refl, download_exact (queue_key_of k) d (tied _ is))
-has-key (More m) d is =
+has-key (One minute id attempt) d is =
+    let k = key_in minute id attempt in
+    (k, inl refl, download_exact (queue_key_of k) d (tied _ is))
+has-key (More more) d is =
+    let m = more.value in
     let q = entry-of queue_key_of (λ (u : Unit {0}). u) download_total download_exact m d is in
     let e = found-entry (is_at (on queue_key_of download_cmp q.0)) m.entries q.2 in (
       e.0.0,

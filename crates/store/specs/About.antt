@@ -11,16 +11,31 @@ use Rattle.store.specs.WaitRows.{Download, download_cmp, Index}
 use Rattle.store.specs.QueueRows.{queue_key_of, order_of, Order, IsOrderKey}
 use Rattle.store.specs.declared.about.Broadcasts.{Broadcasts}
 use Rattle.store.specs.declared.about.Broadcasts.TheVariants.{One, More}
+use Rattle.store.specs.declared.short.ShortMinute.{ShortMinute}
+use Rattle.store.specs.ShortNumbers.{short_of}
+
+-- The key of the broadcast with these fields.
+abbrev pub key_in : ShortMinute → (id attempt : ℕ) → DownloadKeyImpl
+key_in minute id attempt = record {
+  minute = record { number = short_of minute.number; valid = minute.valid };
+  id = id;
+  attempt = attempt;
+}
 
 -- The keys of a subject's broadcasts, ascending.
 abbrev pub keys_in : Broadcasts → List DownloadKeyImpl
-keys_in (One k) = k ∷ []
-keys_in (More m) = tree.keys m
+keys_in (One minute id attempt) = key_in minute id attempt ∷ []
+keys_in (More more) = tree.keys more.value
+
+-- Whether the broadcast is one of a map's.
+abbrev pub has_in : tree.BTreeMap DownloadKeyImpl (Unit {0}) → Download → Bool
+has_in m d = is_some (get (order_of m) d)
 
 -- Whether the broadcast is one of a subject's.
 abbrev pub has : Broadcasts → Download → Bool
-has (One k) d = eq_by_cmp download_cmp (queue_key_of k) d
-has (More m) d = is_some (get (order_of m) d)
+has (One minute id attempt) d =
+    eq_by_cmp download_cmp (queue_key_of (key_in minute id attempt)) d
+has (More more) d = has_in more.value d
 
 -- Whether there are broadcasts of a subject, and this one is among them.
 abbrev pub has_at : Option Broadcasts → Download → Bool

@@ -1,14 +1,15 @@
 //! The pending broadcasts of each subject.
 ghost use Rattle.std.specs.Prelude.{◌≡◌, true, false, IfOk, OnOk, OnErr, filter};
 ghost use Rattle.std.specs.List.Sorted.{IsStrictlySortedBy};
-ghost use Rattle.std.specs.Ordering.{on};
+ghost use Rattle.std.specs.Ordering.{eq_by_cmp, on};
 ghost use Rattle.numbers.specs.Abstraction.{subject_of, key_of};
 ghost use Rattle.settle.specs.Lists.{items_of};
 ghost use Rattle.store.specs.QueueRows.{queue_key_of};
 ghost use Rattle.store.specs.WaitRows.{Download as BroadcastModel, download_cmp, is_for};
-ghost use Rattle.store.specs.About.{has, keys_in, about_of, IsKey, IsSameIndex, IsPresence};
+ghost use Rattle.store.specs.About.{has, key_in, keys_in, about_of, IsKey, IsSameIndex, IsPresence};
 
 use crate::keys::{Rank, RowKey};
+use crate::short::ShortMinute;
 use crate::waiting::Waiting;
 use delivery::DownloadKey;
 use numbers::{Spid, Subject};
@@ -16,14 +17,36 @@ use settle::Few;
 use std::alloc::{AllocError, Global};
 use std::collections::{BTreeMap, HashMap};
 
-/// The pending broadcasts of one subject. Most subjects have one.
+/// The pending broadcasts of one subject, in 24 bytes.
+///
+/// Most subjects have one, so that more are boxed. The one has the fields of its key: its minute,
+/// which is beside the variant's tag, then its version's id and its attempt.
 #[derive(Drop)]
 pub enum Broadcasts {
-    One(DownloadKey),
-    More(BTreeMap<DownloadKey, ()>),
+    One(ShortMinute, u64, u64),
+    More(Box<BTreeMap<DownloadKey, ()>>),
+}
+
+// Returns the key with these fields.
+fn key_with(minute: ShortMinute, id: u64, attempt: u64) -> DownloadKey
+    ensures { result ≡ key_in minute id attempt }
+{
+    DownloadKey {
+        minute: minute.minute(),
+        id,
+        attempt,
+    }
 }
 
 impl Broadcasts {
+    // Returns the only broadcast of a subject.
+    fn one(key: DownloadKey) -> Broadcasts
+        ensures { (q : BroadcastModel)
+            → has result q ≡ eq_by_cmp download_cmp (queue_key_of key) q }
+    {
+        Broadcasts::One(ShortMinute::of(key.minute), key.id, key.attempt)
+    }
+
     // Adds a broadcast. Changes nothing if an allocation fails.
     fn add(&mut self, alloc: Global, key: DownloadKey) -> Result<(), AllocError>
         ensures ok { OnOk result
@@ -32,12 +55,13 @@ impl Broadcasts {
             ((q : BroadcastModel) → has self.new q ≡ has self.old q) }
     {
         match self {
-            Broadcasts::One(own) => {
-                if *own != key {
+            Broadcasts::One(minute, id, attempt) => {
+                let own = key_with(*minute, *id, *attempt);
+                if own != key {
                     let mut more = BTreeMap::new(alloc);
-                    let _ = more.insert(*own, ())?;
+                    let _ = more.insert(own, ())?;
                     let _ = more.insert(key, ())?;
-                    *self = Broadcasts::More(more);
+                    *self = Broadcasts::More(Box::new(alloc, more)?);
                 }
             }
             Broadcasts::More(more) => {
@@ -55,7 +79,7 @@ impl Broadcasts {
             → IsPresence (has self.old) (λ _. false) (queue_key_of key) false }
     {
         match self {
-            Broadcasts::One(own) => *own == key,
+            Broadcasts::One(minute, id, attempt) => key_with(*minute, *id, *attempt) == key,
             Broadcasts::More(more) => {
                 let _ = more.remove(&key);
                 more.is_empty()
@@ -87,7 +111,7 @@ pub fn add_broadcast(
     if let Some(broadcasts) = about.get_mut(&rank) {
         return broadcasts.add(alloc, key);
     }
-    match about.insert(rank, Broadcasts::One(key)) {
+    match about.insert(rank, Broadcasts::one(key)) {
         Ok(_) => Ok(()),
         Err(_) => Err(AllocError),
     }
@@ -141,9 +165,10 @@ pub fn pending_among(
         × IsStrictlySortedBy (on queue_key_of download_cmp) (keys_in broadcasts.now)) }
 {
     match broadcasts {
-        Broadcasts::One(key) => {
-            if is_for(rows, *key, carrier, subject) {
-                Ok(Few::One([*key]))
+        Broadcasts::One(minute, id, attempt) => {
+            let key = key_with(*minute, *id, *attempt);
+            if is_for(rows, key, carrier, subject) {
+                Ok(Few::One([key]))
             } else {
                 Ok(Few::Empty)
             }

@@ -5,7 +5,6 @@ use Rattle.numbers.specs.Abstraction.{subject_of, key_of}
 use Rattle.store.specs.QueueRows.{queue_key_of}
 use Rattle.store.specs.WaitRows.{download_cmp}
 use Rattle.store.specs.About.{has_at, broadcasts_of}
-use Rattle.store.specs.declared.about.Broadcasts.TheVariants.{One}
 use Rattle.store.proofs.AboutListed.{about-set, about-same}
 use Rattle.store.proofs.Steps.{err-then}
 use Rattle.store.proofs.about.add_broadcast.Goals as goal
@@ -32,19 +31,20 @@ returns-in-Some-clause-err c =
 
 pub returns-in-Ok-clause-ok : goal.returns-in-Ok-clause-ok
 returns-in-Ok-clause-ok c =
+    let one = c.one.result in
     let is : (r : ℕ) → broadcasts_of c.insert.new.self.entries r
-    ≡ cond (c.rank_of-rank.result == r) (Some (One c.args.key))
+    ≡ cond (c.rank_of-rank.result == r) (Some one)
     (broadcasts_of c.args.about.now.entries r) =
     subst (λ m. (r : ℕ) → broadcasts_of c.insert.new.self.entries r
-    ≡ cond (c.rank_of-rank.result == r) (Some (One c.args.key)) (broadcasts_of m.entries r))
+    ≡ cond (c.rank_of-rank.result == r) (Some one) (broadcasts_of m.entries r))
     c.get_mut.follows.holds-at-none c.in-Ok.ensures.updates.0 in
     let none : broadcasts_of c.args.about.now.entries (key_of c.args.subject) ≡ None =
     ap (broadcasts_of c.args.about.now.entries) (sym c.rank_of-rank.ensures) ∙ search rules in
     about-set c.args.about.now.entries c.insert.new.self.entries (subject_of c.args.subject)
-    (Some (One c.args.key))
-    (λ r. is r ∙ ap (λ n. cond (n == r) (Some (One c.args.key))
+    (Some one)
+    (λ r. is r ∙ ap (λ n. cond (n == r) (Some one)
     (broadcasts_of c.args.about.now.entries r)) c.rank_of-rank.ensures)
     (queue_key_of c.args.key) true
-    (λ q. first (eq_by_cmp download_cmp (queue_key_of c.args.key) q)
+    (λ q. c.one.ensures q ∙ first (eq_by_cmp download_cmp (queue_key_of c.args.key) q)
     ∙ ap (λ o. cond (eq_by_cmp download_cmp (queue_key_of c.args.key) q) true (has_at o q))
     (sym none))
