@@ -5,3 +5,4 @@ mod Filled
 mod Preserving
 mod Routed
 mod Clock
+mod Present

@@ -41,3 +41,7 @@ IsContentOf all c =
 pub record IsPresent (entries : List Entry) (number : ℕ) (set : WindowSetImpl) : Type 0 where
   pub is : set.number ≡ number
   pub there : Contains entries (WindowSet set.number (windows_of set.windows))
+
+-- Holds if no set of windows among the rows has this number.
+abbrev pub IsAbsent : (entries : List Entry) → (number : ℕ) → Type 0
+IsAbsent entries number = (w : Windows) → ¬ Contains entries (WindowSet number w)

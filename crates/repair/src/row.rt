@@ -1,7 +1,7 @@
 //! The rows of a register, in the order in which they are written.
-ghost use Rattle.std.specs.Prelude.{◌≡◌, IfSome, OnOk};
+ghost use Rattle.std.specs.Prelude.{◌≡◌, IfNone, IfSome, OnOk};
 ghost use Rattle.settle.specs.Changes.{changes_of};
-ghost use Rattle.repair.specs.Contents.{IsPresent, entries_of};
+ghost use Rattle.repair.specs.Contents.{IsAbsent, IsPresent, entries_of};
 ghost use Rattle.repair.specs.Entries.{changes_with, entry_of, place};
 
 use delivery::Broadcast;
@@ -36,9 +36,10 @@ pub struct RegisterRows {
 }
 
 impl RegisterRows {
-    /// Returns the present set of windows, if it is among the rows.
+    /// Returns the present set of windows, or `None` if it is not among the rows.
     pub fn present_set(&self) -> Option<WindowSet>
-        ensures { IfSome result (IsPresent (entries_of self.now.rows.items) self.now.present) }
+        ensures some { IfSome result (IsPresent (entries_of self.now.rows.items) self.now.present) }
+        ensures none { IfNone result (IsAbsent (entries_of self.now.rows.items) self.now.present) }
     {
         for row in &self.rows {
             if let RegisterRow::WindowSet(set) = row {
