@@ -3,7 +3,8 @@
 
     tests/backup.py [N]      (default 10 copies; build first: cd crates/npacd && rt run -- --help)
 
-Four kept connections create versions while the copies are made, so that the log is moved into the file now and then. Each copy has every
+Four kept connections create versions while the copies are made, so that the log is moved into the file now and then. After twenty copies
+another file and service take their place, since a file that grows makes each copy slower. Each copy has every
 version that was answered before copying began. A copy that is killed leaves no file in its place; when the service is killed, a copy
 has what was answered. An export of a copy, with --snapshot, writes beside the service what an export of the file wrote before. No clause
 of the program knows what a file has, so this is where that is tested. The gate runs it after `rt ci`, which leaves the program that it
@@ -29,6 +30,8 @@ PORT = TOP / "examples/first-port.http"
 CLIENTS = 4
 # how many numbers are in force before the clients begin
 PORTED = 20
+# how many copies are made of one file
+TURNS = 20
 DUE = 2**31 - 1
 
 
@@ -127,17 +130,17 @@ def salts(file):
         return b""
 
 
-def beside_a_service(held, count):
-    """What holds of so many copies, every fifth of them killed, and of one when the service is killed."""
+def beside_a_service(held, turns):
+    """What holds of copies, every fifth of them killed, and of one after the service is killed."""
     file, found, logs = held / "register.db", {}, set()
     run(command_line("feed", "--db", file), "".join(ported(PORTED)).encode())
     exported = read("export", file)
-    found["exported"] = (exported[0], len(exported[1].splitlines()), exported[2]) == (0, PORTED + 1, "")
+    found[f"exported {turns[0]}"] = (exported[0], len(exported[1].splitlines()), exported[2]) == (0, PORTED + 1, "")
     with serving("--db", str(file)) as (process, at):
         clients = [Client(at, PORTED + place) for place in range(CLIENTS)]
         for client in clients:
             client.start()
-        for turn in range(count):
+        for turn in turns:
             time.sleep(0.05)
             logs.add(salts(file))
             copy = held / f"{turn}.db"
@@ -155,10 +158,20 @@ def beside_a_service(held, count):
         for client in clients:
             client.stops = True
             client.join()
-        found["after the end"] = copied(file, held / "end.db", clients)
-        found["answered"] = not any(client.refused for client in clients) and all(client.answered for client in clients)
-    found["only killed snapshots are left"] = len(list(held.glob("register.db.snapshot-*"))) <= count // 5
-    print(f"{sum(len(client.answered) for client in clients)} versions were created meanwhile, {len(logs)} logs were seen")
+        found[f"after the end {turns[0]}"] = copied(file, held / "end.db", clients)
+        found[f"answered {turns[0]}"] = not any(client.refused for client in clients) and all(client.answered for client in clients)
+    found[f"only killed snapshots are left {turns[0]}"] = len(list(held.glob("register.db.snapshot-*"))) <= len(turns) // 5
+    return found, sum(len(client.answered) for client in clients), len(logs)
+
+
+def beside_services(count):
+    """What holds of all copies that are made beside services."""
+    found, created, logs = {}, 0, 0
+    for first in range(0, count, TURNS):
+        with tempfile.TemporaryDirectory() as held:
+            holds, answered, seen = beside_a_service(Path(held), range(first, min(first + TURNS, count)))
+        found, created, logs = found | holds, created + answered, logs + seen
+    print(f"{created} versions were created meanwhile, {logs} logs were seen")
     return found
 
 
@@ -215,7 +228,7 @@ def at_rest(held):
 def main(words):
     count = int(words[0]) if words else 10
     with tempfile.TemporaryDirectory() as name:
-        found = beside_a_service(Path(name), count) | at_rest(Path(name)) | snapshots(Path(name))
+        found = beside_services(count) | at_rest(Path(name)) | snapshots(Path(name))
     wrong = [what for what, holds in found.items() if not holds]
     print(f"backups: {len(found) - len(wrong)} hold{''.join(f', NOT {what}' for what in wrong)}")
     return 1 if wrong else 0
