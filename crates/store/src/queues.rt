@@ -145,12 +145,11 @@ impl Queues {
         self.waits.put(key, subject)
     }
 
-    /// Deletes a download, and returns its subject if it was pending.
-    pub fn take(&mut self, key: WaitKey) -> Option<Subject>
-        ensures before { option_map subject_of result ≡ get self.old (wait_key_of key) }
-        ensures taken { self.new ≡ set self.old (wait_key_of key) None }
+    /// Deletes a download, if it is pending.
+    pub fn delete(&mut self, key: WaitKey)
+        ensures { self.new ≡ set self.old (wait_key_of key) None }
     {
-        self.waits.take(key)
+        self.waits.delete(key);
     }
 
     /// Returns the downloads of the subject that are pending for the carrier, earliest first.

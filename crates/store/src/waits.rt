@@ -217,23 +217,20 @@ impl Waits {
         }
     }
 
-    /// Deletes a download, and returns its subject if it was pending.
-    pub fn take(&mut self, key: WaitKey) -> Option<Subject>
-        ensures before { option_map subject_of result ≡ get self.old (wait_key_of key) }
-        ensures taken { self.new ≡ set self.old (wait_key_of key) None }
+    /// Deletes a download, if it is pending.
+    pub fn delete(&mut self, key: WaitKey)
+        ensures { self.new ≡ set self.old (wait_key_of key) None }
     {
         let broadcast = broadcast_of(key);
         let Some(row) = self.rows.get_mut(&broadcast) else {
-            return None;
+            return;
         };
-        let before = row.subject_for(key.carrier);
         row.take(key.carrier);
         if row.carriers().is_empty() {
             let subject = row.subject();
             let _ = self.rows.remove(&broadcast);
             remove_keys(&mut self.about, &mut self.order, subject, key);
         }
-        before
     }
 
     /// Returns the downloads of the subject that are pending for the carrier, earliest first.

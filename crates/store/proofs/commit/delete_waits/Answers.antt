@@ -18,7 +18,7 @@ loop-key-preserved c last taken =
     (λ k. taken k
     ∙ ap (delete_rows same_wait (map wait_key_of (drop (c.loop-key.key-index + 1) c.args.keys.now))
     k)
-    (ap (λ m. get m k) c.take.ensures.taken ∙ set_wait c.loop-key.waits
+    (ap (λ m. get m k) c.delete.ensures ∙ set_wait c.loop-key.waits
     (wait_key_of c.key-item.result) None k)))
 
 pub returns : goal.returns

@@ -15,7 +15,7 @@ loop-left-preserved c =
     let more : take c.loop-left.left all ≡ take left all ++ e ∷ [] =
     ap (λ n. take n all) before ∙ take_more all left c.index-downloads-left.result inside in (
       omega (arith, inside),
-      λ start was. subst (AreNew (take left all) start) (sym c.take.ensures.taken)
+      λ start was. subst (AreNew (take left all) start) (sym c.delete.ensures)
           (new-less (take left all) e start c.loop-left.waits
           (subst (λ es. AreNew es start c.loop-left.waits) more
           (c.loop-left.invariant.1 start was))),

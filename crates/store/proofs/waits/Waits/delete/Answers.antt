@@ -11,16 +11,10 @@ use Rattle.store.proofs.QueueOrder.{keys-stay, keys-changed}
 use Rattle.store.proofs.RowsChanged.{Agrees, agrees-kept, agrees-gone}
 use Rattle.store.proofs.WaitsKept.{row-at, wait-at, row-written, row-taken, without-waits, gone-waits, not-there}
 use Rattle.numbers.proofs.Small.{no_members}
-use Rattle.store.proofs.waits.Waits.take.Goals as goal
+use Rattle.store.proofs.waits.Waits.delete.Goals as goal
 
-pub returns-in_default-clause-before : goal.returns-in_default-clause-before
-returns-in_default-clause-before c =
-    sym (wait-at c.self.inside.rows.entries c.broadcast_of-broadcast.result (wait_key_of c.args.key)
-    None c.broadcast_of-broadcast.ensures (search rules)) ∙ ap (λ m. get m (wait_key_of c.args.key))
-    c.self.view_is
-
-pub returns-in_default-clause-taken : goal.returns-in_default-clause-taken
-returns-in_default-clause-taken c =
+pub returns-in_default : goal.returns-in_default
+returns-in_default c =
     ap (λ m. waits_of (rows_of m.entries)) c.get_mut.follows.holds-at-none ∙ c.self.view_is
     ∙ not-there c.args.self.now (wait_key_of c.args.key)
     (ap (λ m. get m (wait_key_of c.args.key)) (sym c.self.view_is)
@@ -50,16 +44,8 @@ invariant_of-self-then-is_empty c =
           c.remove_keys.ensures.1 refl,
     )
 
-pub returns-then-is_empty-clause-before : goal.returns-then-is_empty-clause-before
-returns-then-is_empty-clause-before c =
-    c.subject_for-before.ensures
-    ∙ sym (wait-at c.self.inside.rows.entries c.broadcast_of-broadcast.result
-    (wait_key_of c.args.key) (Some c.in-Some.row.now) c.broadcast_of-broadcast.ensures
-    (search rules))
-    ∙ ap (λ m. get m (wait_key_of c.args.key)) c.self.view_is
-
-pub returns-then-is_empty-clause-taken : goal.returns-then-is_empty-clause-taken
-returns-then-is_empty-clause-taken c =
+pub returns-then-is_empty : goal.returns-then-is_empty
+returns-then-is_empty c =
     let gone = row-taken c.self.inside.rows.entries
     (c.get_mut.follows.lender c.take.new.self).entries c.remove.new.self.entries
     c.broadcast_of-broadcast.result (wait_key_of c.args.key) c.take.new.self
@@ -95,16 +81,8 @@ invariant_of-self-else-is_empty c =
           (waiting_of c.in-Some.row.now) (waiting_of c.take.new.self) row there,
     )
 
-pub returns-else-is_empty-clause-before : goal.returns-else-is_empty-clause-before
-returns-else-is_empty-clause-before c =
-    c.subject_for-before.ensures
-    ∙ sym (wait-at c.self.inside.rows.entries c.broadcast_of-broadcast.result
-    (wait_key_of c.args.key) (Some c.in-Some.row.now) c.broadcast_of-broadcast.ensures
-    (search rules))
-    ∙ ap (λ m. get m (wait_key_of c.args.key)) c.self.view_is
-
-pub returns-else-is_empty-clause-taken : goal.returns-else-is_empty-clause-taken
-returns-else-is_empty-clause-taken c =
+pub returns-else-is_empty : goal.returns-else-is_empty
+returns-else-is_empty c =
     let row = row-written c.self.inside.rows.entries
     (c.get_mut.follows.lender c.take.new.self).entries c.broadcast_of-broadcast.result
     (wait_key_of c.args.key) (Some c.take.new.self) c.broadcast_of-broadcast.ensures
