@@ -8,7 +8,7 @@ ghost use Rattle.store.specs.QueueRows.{queue_key_of};
 ghost use Rattle.store.specs.WaitRows.{Download as BroadcastModel, download_cmp, is_for};
 ghost use Rattle.store.specs.About.{has, key_in, keys_in, about_of, IsKey, IsSameIndex, IsPresence};
 
-use crate::keys::{Rank, RowKey};
+use crate::keys::{Rank, RowKey, is_subject};
 use crate::short::ShortMinute;
 use crate::waiting::Waiting;
 use delivery::DownloadKey;
@@ -146,7 +146,7 @@ fn is_for(
     };
     match rows.get(&key) {
         None => false,
-        Some(row) => row.subject_for(carrier) == Some(subject),
+        Some(row) => is_subject(row.subject_for(carrier), subject),
     }
 }
 

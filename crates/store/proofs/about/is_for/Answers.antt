@@ -18,7 +18,7 @@ returns-in-Some c =
     let there : row_in c.args.rows.now.entries (row_key_in c.args.broadcast)
     ≡ Some c.in-Some.row.now = sym (hash-at c.args.rows.now.entries (row_key_in c.args.broadcast))
     ∙ search rules in
-    c.eq.ensures ∙ compared c.subject_for.result c.args.subject
+    c.is_subject.ensures ∙ compared c.subject_for.result c.args.subject
     ∙ ap (is_subject (subject_of c.args.subject)) c.subject_for.ensures
     ∙ sym (ap (λ o. is_subject (subject_of c.args.subject) (awaited (option_map waiting_of o)
     c.args.carrier.number)) there)
