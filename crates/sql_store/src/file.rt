@@ -17,6 +17,7 @@ ghost use Rattle.version.specs.Abstraction.{windows_of};
 use crate::SqlStore;
 use crate::file_fault::FileFault;
 use crate::opening::fault_of;
+use crate::opening_watcher::OpeningWatcher;
 use crate::refused::Refused;
 use settle::StoreFault;
 use sqlite::{Alter, Connection, FileFrom, FileStore, Files, Leftover, Start};
@@ -46,7 +47,7 @@ impl<S: Start> SqlStore<FileStore<FileFrom<S>>> {
     /// with the present schema keeps every row. A file with an earlier schema is migrated in one
     /// transaction if it was created with these windows. `start` says what is assumed of the file,
     /// and of a write that a crash interrupts, as in `sqlite`. Checks the database once, and reads
-    /// each row once.
+    /// each row once. Notes each row with `watcher` when it is read, copied or deleted.
     ///
     /// # Errors
     ///
@@ -56,11 +57,12 @@ impl<S: Start> SqlStore<FileStore<FileFrom<S>>> {
     /// - `NoMemory` if an allocation fails.
     ///
     /// A refused database with tables is returned unchanged.
-    pub fn at(
+    pub fn at<N: OpeningWatcher>(
         rt: &HostRuntime,
         path: &str,
         start: S,
         windows: &Windows,
+        watcher: &mut N,
     ) -> Result<StoreAt<S>, (FileFault, UnopenedAt<S>)>
         ensures open { IfOk result (λ s. HasCleanDisk (file_state s.db.conn) → IsTrue (file_state
             s.db.conn).is_open) }
@@ -78,7 +80,7 @@ impl<S: Start> SqlStore<FileStore<FileFrom<S>>> {
             → IsRefusedAt over_files (windows_of windows.now) db e.0 e.1) }
     {
         match Connection::open_from(rt, path, false, start) {
-            Ok(conn) => match SqlStore::opened(rt.alloc(), conn, windows) {
+            Ok(conn) => match SqlStore::opened(rt.alloc(), conn, windows, watcher) {
                 Ok(it) => Ok(it),
                 Err((fault, refused)) => Err((fault, Unopened::Database(refused))),
             },
@@ -88,7 +90,7 @@ impl<S: Start> SqlStore<FileStore<FileFrom<S>>> {
 
     /// Opens the file at `path` as a store if it has the present schema. Creates no file and no
     /// table, migrates nothing and keeps every row. `start` is as for `at`. Checks the database
-    /// once, and reads each row once.
+    /// once, and reads each row once. Notes each row with `watcher`.
     ///
     /// # Errors
     ///
@@ -98,10 +100,11 @@ impl<S: Start> SqlStore<FileStore<FileFrom<S>>> {
     /// - `NoMemory` if an allocation fails.
     ///
     /// A refused database is returned unchanged.
-    pub fn existing_at(
+    pub fn existing_at<N: OpeningWatcher>(
         rt: &HostRuntime,
         path: &str,
         start: S,
+        watcher: &mut N,
     ) -> Result<StoreAt<S>, (FileFault, UnopenedAt<S>)>
         ensures open { IfOk result (λ s. HasCleanDisk (file_state s.db.conn) → IsTrue (file_state
             s.db.conn).is_open) }
@@ -119,7 +122,7 @@ impl<S: Start> SqlStore<FileStore<FileFrom<S>>> {
             return Err((fault, Unopened::Files(None)));
         }
         match Connection::open_from(rt, path, false, start) {
-            Ok(conn) => match SqlStore::found(conn) {
+            Ok(conn) => match SqlStore::found(conn, watcher) {
                 Ok(it) => Ok(it),
                 Err((fault, refused)) => Err((FileFault::from(fault), Unopened::Database(refused))),
             },

@@ -14,6 +14,7 @@ mod lookups;
 mod migration;
 mod once;
 mod opening;
+mod opening_watcher;
 mod order;
 mod queue;
 mod refused;
@@ -28,5 +29,6 @@ mod whole;
 
 pub use file::{StoreAt, Unopened, UnopenedAt, find_file};
 pub use file_fault::FileFault;
+pub use opening_watcher::{OpeningWatcher, Unwatched};
 pub use refused::Refused;
 pub use store::SqlStore;

@@ -20,6 +20,7 @@ ghost use Rattle.sql_store.specs.Whole.{AreRegistryRead, IsRead};
 
 use crate::change::{replace, take};
 use crate::file_fault::FileFault;
+use crate::opening_watcher::OpeningWatcher;
 use crate::rows::put_set;
 use crate::through::{next_read, read_table};
 use crate::transaction::{self, execute};
@@ -120,13 +121,18 @@ fn put_old<S: Alter>(conn: &mut Connection<S>, id: u64) -> Result<(), Fault>
     Ok(())
 }
 
-// Copies the versions with these ids, one at a time.
-fn put_each<S: Alter>(conn: &mut Connection<S>, ids: &[u64]) -> Result<(), Fault>
+// Copies the versions with these ids, one at a time. Notes each with `watcher`.
+fn put_each<S: Alter, N: OpeningWatcher>(
+    conn: &mut Connection<S>,
+    ids: &[u64],
+    watcher: &mut N,
+) -> Result<(), Fault>
     ensures { WritesInTransaction (state S.Store conn.old)
         (state S.Store conn.new) (is_ok result) (ArePutBut [] ids.now) }
 {
     for id in ids {
         put_old(conn, *id)?;
+        watcher.row();
     }
     Ok(())
 }
@@ -173,67 +179,80 @@ fn delete_old<S: Alter>(conn: &mut Connection<S>, id: u64) -> Result<(), Fault>
     take(conn, Table::OldVersion, &[number(id)])
 }
 
-// Deletes the versions with these ids from the table of earlier schemas, one at a time.
-fn delete_each<S: Alter>(conn: &mut Connection<S>, ids: &[u64]) -> Result<(), Fault>
+// Deletes the versions with these ids from the table of earlier schemas, one at a time. Notes each
+// with `watcher`.
+fn delete_each<S: Alter, N: OpeningWatcher>(
+    conn: &mut Connection<S>,
+    ids: &[u64],
+    watcher: &mut N,
+) -> Result<(), Fault>
     ensures { WritesInTransaction (state S.Store conn.old)
         (state S.Store conn.new) (is_ok result) AreOldRowsDeleted }
 {
     for id in ids {
         delete_old(conn, *id)?;
+        watcher.row();
     }
     Ok(())
 }
 
 // Empties the versions' table of earlier schemas; `ids` are its ids. Deletes each by its id first:
 // one statement that deletes a million writes a log many times the size of the file.
-fn clear_versions<S: Alter>(conn: &mut Connection<S>, ids: &[u64]) -> Result<(), Fault>
+fn clear_versions<S: Alter, N: OpeningWatcher>(
+    conn: &mut Connection<S>,
+    ids: &[u64],
+    watcher: &mut N,
+) -> Result<(), Fault>
     ensures { WritesInTransaction (state S.Store conn.old)
         (state S.Store conn.new) (is_ok result) (IsCleared OldTable.Version) }
 {
-    delete_each(conn, ids)?;
+    delete_each(conn, ids, watcher)?;
     clear(conn, OldTable::Version)?;
     Ok(())
 }
 
 // Copies the versions with these ids and the clock's row into the tables of the present schema, and
 // empties the tables of the earlier one.
-fn copy_rows<S: Alter>(
+fn copy_rows<S: Alter, N: OpeningWatcher>(
     conn: &mut Connection<S>,
     ids: &[u64],
     clock: Option<OldClock>,
+    watcher: &mut N,
 ) -> Result<(), Fault>
     ensures { WritesInTransaction (state S.Store conn.old)
         (state S.Store conn.new) (is_ok result) (AreRowsCopied ids.now clock) }
 {
-    put_each(conn, ids)?;
+    put_each(conn, ids, watcher)?;
     put_first_set(conn, clock)?;
-    clear_versions(conn, ids)?;
+    clear_versions(conn, ids, watcher)?;
     clear(conn, OldTable::Clock)?;
     Ok(())
 }
 
-fn migrate_tables<S: Alter>(
+fn migrate_tables<S: Alter, N: OpeningWatcher>(
     conn: &mut Connection<S>,
     schema_version: SchemaVersion,
     ids: &[u64],
     clock: Option<OldClock>,
+    watcher: &mut N,
 ) -> Result<(), Fault>
     ensures { MigratesInTransaction (IsBegunAs schema_version) (state S.Store
         conn.old)
         (state S.Store conn.new) (is_ok result) (IsMigrated schema_version ids.now clock) }
 {
     create_tables(conn, schema_version)?;
-    copy_rows(conn, ids, clock)?;
+    copy_rows(conn, ids, clock, watcher)?;
     Ok(())
 }
 
 // Migrates in one transaction: creates the tables of the present schema, copies the versions with
 // these ids and the clock's row, and empties the tables of the earlier schema.
-fn move_rows<S: Alter>(
+fn move_rows<S: Alter, N: OpeningWatcher>(
     conn: &mut Connection<S>,
     schema_version: SchemaVersion,
     ids: &[u64],
     clock: Option<OldClock>,
+    watcher: &mut N,
 ) -> Result<(), Fault>
     requires old { IsTrue (state S.Store conn.old).is_open
         → HasSchemaVersion schema_version (state S.Store conn.old) }
@@ -244,7 +263,7 @@ fn move_rows<S: Alter>(
         → (state S.Store conn.new).in_transaction ≡ false }
 {
     transaction::begin(conn)?;
-    if let Err(fault) = migrate_tables(conn, schema_version, ids, clock) {
+    if let Err(fault) = migrate_tables(conn, schema_version, ids, clock, watcher) {
         transaction::roll_back(conn);
         return Err(fault);
     }
@@ -292,8 +311,12 @@ fn read_old<T: FromRow + Drop, S: Alter>(
     Ok(items)
 }
 
-// Reads each version, and returns their ids.
-fn ids_among<S: Alter>(alloc: Global, rows: &mut Rows<'_, S>) -> Result<Vec<u64>, Fault>
+// Reads each version, notes it with `watcher`, and returns their ids.
+fn ids_among<S: Alter, N: OpeningWatcher>(
+    alloc: Global,
+    rows: &mut Rows<'_, S>,
+    watcher: &mut N,
+) -> Result<Vec<u64>, Fault>
     ensures same_reference { rows.new.conn.ghost_name ≡ rows.old.conn.ghost_name }
     ensures all { HasCleanDisk (state S.Store rows.new.conn.now) → IfOk result (λ ids.
         (sql : List ℕ) → IsPlain (understood (state S.Store rows.old.conn.now).now.schema sql)
@@ -314,16 +337,18 @@ fn ids_among<S: Alter>(alloc: Global, rows: &mut Rows<'_, S>) -> Result<Vec<u64>
             return Ok(ids);
         };
         ids.push(row.version.id)?;
+        watcher.row();
     }
     Err(Fault::Device)
 }
 
 // Reads each version of a file with this schema, and returns their ids. Keeps no more than the ids
 // in memory.
-fn ids_of<S: Alter>(
+fn ids_of<S: Alter, N: OpeningWatcher>(
     alloc: Global,
     conn: &mut Connection<S>,
     schema_version: SchemaVersion,
+    watcher: &mut N,
 ) -> Result<Vec<u64>, Fault>
     requires old { IsTrue (state S.Store conn.old).is_open
         → HasSchemaVersion schema_version (state S.Store conn.old) }
@@ -334,16 +359,17 @@ fn ids_of<S: Alter>(
     ensures idle { conn.new.in_transaction ≡ false }
 {
     let mut rows = conn.query(Query::All(Table::OldVersion).text(), &[])?;
-    ids_among(alloc, &mut rows)
+    ids_among(alloc, &mut rows, watcher)
 }
 
 // ---- the tables that are not migrated
 
 // Reads a table that is not migrated.
-fn see<T: FromRow + Drop, S: Alter>(
+fn see<T: FromRow + Drop, S: Alter, N: OpeningWatcher>(
     conn: &mut Connection<S>,
     schema_version: SchemaVersion,
     table: Table,
+    watcher: &mut N,
 ) -> Result<(), Fault>
     requires has { IsTableOf table schema_version }
     requires old { IsTrue (state S.Store conn.old).is_open
@@ -354,15 +380,16 @@ fn see<T: FromRow + Drop, S: Alter>(
     ensures queried { HasQueried (state S.Store conn.old) (state S.Store conn.new) (is_ok result) }
     ensures idle { conn.new.in_transaction ≡ false }
 {
-    read_table::<T, S>(conn, table)?;
+    read_table::<T, S, N>(conn, table, watcher)?;
     Ok(())
 }
 
 // Reads carriers, routing numbers, codes and blocks.
 #[tactic(auto, using(crate::proofs::MigrationLemmas::old_still))]
-fn see_registry<S: Alter>(
+fn see_registry<S: Alter, N: OpeningWatcher>(
     conn: &mut Connection<S>,
     schema_version: SchemaVersion,
+    watcher: &mut N,
 ) -> Result<(), Fault>
     requires old { IsTrue (state S.Store conn.old).is_open
         → HasSchemaVersion schema_version (state S.Store conn.old) }
@@ -372,17 +399,21 @@ fn see_registry<S: Alter>(
     ensures queried { HasQueried (state S.Store conn.old) (state S.Store conn.new) (is_ok result) }
     ensures idle { conn.new.in_transaction ≡ false }
 {
-    see::<Spid, S>(conn, schema_version, Table::Carrier)?;
-    see::<(Lrn, Spid), S>(conn, schema_version, Table::Lrn)?;
-    see::<(CodeId, Spid), S>(conn, schema_version, Table::Code)?;
-    see::<(BlockId, BlockRow), S>(conn, schema_version, Table::Block)?;
+    see::<Spid, S, N>(conn, schema_version, Table::Carrier, watcher)?;
+    see::<(Lrn, Spid), S, N>(conn, schema_version, Table::Lrn, watcher)?;
+    see::<(CodeId, Spid), S, N>(conn, schema_version, Table::Code, watcher)?;
+    see::<(BlockId, BlockRow), S, N>(conn, schema_version, Table::Block, watcher)?;
     Ok(())
 }
 
 // Reads what is sent: the broadcasts, the pending downloads, and the routings that versions send,
 // if the schema has a table of those.
 #[tactic(auto, using(crate::proofs::MigrationLemmas::old_still))]
-fn see_sent<S: Alter>(conn: &mut Connection<S>, schema_version: SchemaVersion) -> Result<(), Fault>
+fn see_sent<S: Alter, N: OpeningWatcher>(
+    conn: &mut Connection<S>,
+    schema_version: SchemaVersion,
+    watcher: &mut N,
+) -> Result<(), Fault>
     requires old { IsTrue (state S.Store conn.old).is_open
         → HasSchemaVersion schema_version (state S.Store conn.old) }
     requires idle { conn.old.in_transaction ≡ false }
@@ -391,20 +422,21 @@ fn see_sent<S: Alter>(conn: &mut Connection<S>, schema_version: SchemaVersion) -
     ensures queried { HasQueried (state S.Store conn.old) (state S.Store conn.new) (is_ok result) }
     ensures idle { conn.new.in_transaction ≡ false }
 {
-    see::<(BroadcastKey, Broadcast), S>(conn, schema_version, Table::Broadcast)?;
-    see::<(WaitKey, Subject), S>(conn, schema_version, Table::Wait)?;
+    see::<(BroadcastKey, Broadcast), S, N>(conn, schema_version, Table::Broadcast, watcher)?;
+    see::<(WaitKey, Subject), S, N>(conn, schema_version, Table::Wait, watcher)?;
     let SchemaVersion::Modify = schema_version else {
         return Ok(());
     };
-    see::<(u64, Routing), S>(conn, SchemaVersion::Modify, Table::NextRouting)?;
+    see::<(u64, Routing), S, N>(conn, SchemaVersion::Modify, Table::NextRouting, watcher)?;
     Ok(())
 }
 
 // Reads the tables that are not migrated. A row that cannot be read is a fault of the device.
 #[tactic(auto, using(crate::proofs::MigrationLemmas::old_still))]
-fn see_staying<S: Alter>(
+fn see_staying<S: Alter, N: OpeningWatcher>(
     conn: &mut Connection<S>,
     schema_version: SchemaVersion,
+    watcher: &mut N,
 ) -> Result<(), Fault>
     requires old { IsTrue (state S.Store conn.old).is_open
         → HasSchemaVersion schema_version (state S.Store conn.old) }
@@ -414,8 +446,8 @@ fn see_staying<S: Alter>(
     ensures queried { HasQueried (state S.Store conn.old) (state S.Store conn.new) (is_ok result) }
     ensures idle { conn.new.in_transaction ≡ false }
 {
-    see_registry(conn, schema_version)?;
-    see_sent(conn, schema_version)?;
+    see_registry(conn, schema_version, watcher)?;
+    see_sent(conn, schema_version, watcher)?;
     Ok(())
 }
 
@@ -448,10 +480,11 @@ fn has_windows<S: Alter>(
 
 // Migrates the versions and the clock.
 #[tactic(auto, using(crate::proofs::MigrationLemmas::old_still))]
-fn carry_over<S: Alter>(
+fn carry_over<S: Alter, N: OpeningWatcher>(
     alloc: Global,
     conn: &mut Connection<S>,
     schema_version: SchemaVersion,
+    watcher: &mut N,
 ) -> Result<(), Fault>
     requires old { IsTrue (state S.Store conn.old).is_open
         → HasSchemaVersion schema_version (state S.Store conn.old) }
@@ -461,11 +494,11 @@ fn carry_over<S: Alter>(
     ensures idle { IsTrue (state S.Store conn.new).is_open
         → (state S.Store conn.new).in_transaction ≡ false }
 {
-    let ids = ids_of(alloc, conn, schema_version)?;
+    let ids = ids_of(alloc, conn, schema_version, watcher)?;
     let clocks: Vec<OldClock> = read_old(conn, schema_version, Table::OldClock)?;
     match clocks.as_slice() {
-        [] => move_rows(conn, schema_version, ids.as_slice(), None),
-        [clock] => move_rows(conn, schema_version, ids.as_slice(), Some(*clock)),
+        [] => move_rows(conn, schema_version, ids.as_slice(), None, watcher),
+        [clock] => move_rows(conn, schema_version, ids.as_slice(), Some(*clock), watcher),
         _ => Err(Fault::Device),
     }
 }
@@ -473,13 +506,15 @@ fn carry_over<S: Alter>(
 /// Migrates a file with an earlier schema in one transaction: its windows become set 1, each
 /// version names that set, and the tables of the earlier schema are emptied. Reads every row first.
 /// A row that cannot be read is a fault of the device, and other windows than the file's are
-/// refused; neither changes anything.
+/// refused; neither changes anything. Notes each row with `watcher` when it is read, and each
+/// version again when it is copied and when it is deleted.
 #[tactic(auto, using(crate::proofs::MigrationLemmas::old_still))]
-pub(crate) fn migrate<S: Alter>(
+pub(crate) fn migrate<S: Alter, N: OpeningWatcher>(
     alloc: Global,
     conn: &mut Connection<S>,
     schema_version: SchemaVersion,
     windows: &Windows,
+    watcher: &mut N,
 ) -> Result<(), FileFault>
     requires old { IsTrue (state S.Store conn.old).is_open
         → HasSchemaVersion schema_version (state S.Store conn.old) }
@@ -491,10 +526,10 @@ pub(crate) fn migrate<S: Alter>(
     ensures idle { IsTrue (state S.Store conn.new).is_open
         → (state S.Store conn.new).in_transaction ≡ false }
 {
-    see_staying(conn, schema_version)?;
+    see_staying(conn, schema_version, watcher)?;
     if !has_windows(conn, schema_version, windows)? {
         return Err(FileFault::WindowsDiffer);
     }
-    carry_over(alloc, conn, schema_version)?;
+    carry_over(alloc, conn, schema_version, watcher)?;
     Ok(())
 }

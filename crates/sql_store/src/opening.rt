@@ -24,6 +24,7 @@ use crate::database::Database;
 use crate::file_fault::FileFault;
 use crate::group::Group;
 use crate::migration::migrate;
+use crate::opening_watcher::{OpeningWatcher, Unwatched};
 use crate::refused::Refused;
 use crate::schema::{is_ours, schema_version_of};
 use crate::whole::read_all;
@@ -154,9 +155,12 @@ impl<S: Alter + Drop> SqlStore<S> {
         }
     }
 
-    // Reads every row once. Returns whether the database has no row. Refuses a row that cannot be
-    // read, and returns the database with that fault.
-    fn read(mut self) -> Result<(SqlStore<S>, bool), (StoreFault, S)>
+    // Reads every row once, and notes each with `watcher`. Returns whether the database has no row.
+    // Refuses a row that cannot be read, and returns the database with that fault.
+    fn read<N: OpeningWatcher>(
+        mut self,
+        watcher: &mut N,
+    ) -> Result<(SqlStore<S>, bool), (StoreFault, S)>
         ensures open { IfOk result (λ e. HasCleanDisk (state S.Store e.0.db.conn) → IsTrue (state
             S.Store self.db.conn).is_open → IsTrue (state S.Store e.0.db.conn).is_open) }
         ensures now { IfOk result (λ e. IsTrue (state S.Store e.0.db.conn).is_open → (state S.Store
@@ -173,14 +177,18 @@ impl<S: Alter + Drop> SqlStore<S> {
         ensures crash { IfErr result (λ e. IsClean (S.Store.view e.1) → (db : Trees)
             → S.Store.recovers e.1 db → (state S.Store self.db.conn).may_leave db) }
     {
-        match read_all(&mut self.db) {
+        match read_all(&mut self.db, watcher) {
             Ok(blank) => Ok((self, blank)),
             Err(fault) => Err((StoreFault::from(fault), self.release().into_store())),
         }
     }
 
     // Creates the tables in one transaction, and takes the connection as an empty store.
-    fn create(alloc: Global, mut conn: Connection<S>) -> Result<SqlStore<S>, (StoreFault, S)>
+    fn create<N: OpeningWatcher>(
+        alloc: Global,
+        mut conn: Connection<S>,
+        watcher: &mut N,
+    ) -> Result<SqlStore<S>, (StoreFault, S)>
         ensures open { IfOk result (λ s. HasCleanDisk (state S.Store s.db.conn) → IsTrue (state
             S.Store s.db.conn).is_open) }
         ensures content { IfOk result (λ s. HasCleanDisk (state S.Store s.db.conn) → content_in
@@ -198,7 +206,7 @@ impl<S: Alter + Drop> SqlStore<S> {
         }
         let made = SqlStore::checked(alloc, conn)?;
         match SqlStore::with_tables(made) {
-            Ok(it) => match it.read() {
+            Ok(it) => match it.read(watcher) {
                 Ok((it, true)) => Ok(it),
                 Ok((it, false)) => Err((StoreFault::Storage, it.release().into_store())),
                 Err(refused) => Err(refused),
@@ -207,12 +215,13 @@ impl<S: Alter + Drop> SqlStore<S> {
         }
     }
 
-    // Migrates a database with an earlier schema, and takes it.
-    fn moved(
+    // Migrates a database with an earlier schema, and takes it. Notes each row with `watcher`.
+    fn moved<N: OpeningWatcher>(
         alloc: Global,
         mut conn: Connection<S>,
         schema_version: SchemaVersion,
         windows: &Windows,
+        watcher: &mut N,
     ) -> Result<SqlStore<S>, (FileFault, S)>
         requires opened { HasCleanDisk (state S.Store conn) → WasOpened (state S.Store conn) }
         requires fresh { IsNew conn }
@@ -236,7 +245,7 @@ impl<S: Alter + Drop> SqlStore<S> {
             → IsClean (S.Store.view e.1) → IsTrue (S.Store.view e.1).is_open
             → HasDifferentWindows (windows_of windows.now) (state S.Store conn).now.trees) }
     {
-        match migrate(alloc, &mut conn, schema_version, windows) {
+        match migrate(alloc, &mut conn, schema_version, windows, watcher) {
             Ok(()) => {
                 let db = Database::of(conn);
                 Ok(SqlStore::of(db))
@@ -245,8 +254,11 @@ impl<S: Alter + Drop> SqlStore<S> {
         }
     }
 
-    // Takes a connection to a database with the present schema.
-    pub(crate) fn found(conn: Connection<S>) -> Result<SqlStore<S>, (StoreFault, Refused<S>)>
+    // Takes a connection to a database with the present schema. Notes each row with `watcher`.
+    pub(crate) fn found<N: OpeningWatcher>(
+        conn: Connection<S>,
+        watcher: &mut N,
+    ) -> Result<SqlStore<S>, (StoreFault, Refused<S>)>
         requires opened { HasCleanDisk (state S.Store conn) → WasOpened (state S.Store conn) }
         requires fresh { IsNew conn }
         ensures open { IfOk result (λ s. HasCleanDisk (state S.Store s.db.conn) → IsTrue (state
@@ -269,7 +281,7 @@ impl<S: Alter + Drop> SqlStore<S> {
             → may_leave_of S.Store e.1 db → (state S.Store conn).may_leave db) }
     {
         match SqlStore::with_tables(conn) {
-            Ok(it) => match it.read() {
+            Ok(it) => match it.read(watcher) {
                 Ok((it, _blank)) => Ok(it),
                 Err((fault, store)) => Err((fault, Refused::Store(store))),
             },
@@ -277,11 +289,12 @@ impl<S: Alter + Drop> SqlStore<S> {
         }
     }
 
-    // Takes a newly opened connection, by the tables that it lists.
-    pub(crate) fn opened(
+    // Takes a newly opened connection, by the tables that it lists. Notes each row with `watcher`.
+    pub(crate) fn opened<N: OpeningWatcher>(
         alloc: Global,
         conn: Connection<S>,
         windows: &Windows,
+        watcher: &mut N,
     ) -> Result<SqlStore<S>, (FileFault, Refused<S>)>
         requires opened { HasCleanDisk (state S.Store conn) → WasOpened (state S.Store conn) }
         requires fresh { IsNew conn }
@@ -300,18 +313,18 @@ impl<S: Alter + Drop> SqlStore<S> {
             e.0 e.1) }
     {
         if let Some(schema_version) = schema_version_of(conn.schema()) {
-            return match SqlStore::moved(alloc, conn, schema_version, windows) {
+            return match SqlStore::moved(alloc, conn, schema_version, windows, watcher) {
                 Ok(it) => Ok(it),
                 Err((fault, store)) => Err((fault, Refused::Store(store))),
             };
         }
         if is_blank(conn.schema()) {
-            return match SqlStore::create(alloc, conn) {
+            return match SqlStore::create(alloc, conn, watcher) {
                 Ok(it) => Ok(it),
                 Err((fault, store)) => Err((FileFault::from(fault), Refused::Store(store))),
             };
         }
-        match SqlStore::found(conn) {
+        match SqlStore::found(conn, watcher) {
             Ok(it) => Ok(it),
             Err((fault, refused)) => Err((FileFault::from(fault), refused)),
         }
@@ -320,7 +333,8 @@ impl<S: Alter + Drop> SqlStore<S> {
     /// Takes a connection as a store, after rolling back what is not committed and checking the
     /// database again. A database without tables becomes an empty store. One with the present
     /// schema keeps every row, after each has been read. One with an earlier schema that was created
-    /// with these windows is migrated in one transaction.
+    /// with these windows is migrated in one transaction. Notes each row with `watcher` when it is
+    /// read, copied or deleted.
     ///
     /// # Errors
     ///
@@ -330,10 +344,11 @@ impl<S: Alter + Drop> SqlStore<S> {
     /// - `NoMemory` if an allocation fails.
     ///
     /// What is returned with the fault is as the last commit left it.
-    pub fn adopt(
+    pub fn adopt<N: OpeningWatcher>(
         alloc: Global,
         conn: Connection<S>,
         windows: &Windows,
+        watcher: &mut N,
     ) -> Result<SqlStore<S>, (FileFault, Refused<S>)>
         ensures open { IfOk result (λ s. HasCleanDisk (state S.Store s.db.conn) → IsTrue (state
             S.Store s.db.conn).is_open) }
@@ -362,7 +377,7 @@ impl<S: Alter + Drop> SqlStore<S> {
             (state S.Store conn).committed.trees) }
     {
         match SqlStore::checked(alloc, conn) {
-            Ok(conn) => match SqlStore::opened(alloc, conn, windows) {
+            Ok(conn) => match SqlStore::opened(alloc, conn, windows, watcher) {
                 Ok(it) => Ok(it),
                 Err(refused) => Err(refused),
             },
@@ -396,7 +411,7 @@ impl SqlStore<MemStore> {
         ensures none { IfOk result (λ s. IsFresh s) }
     {
         match Connection::open_in_memory(alloc) {
-            Ok(conn) => match SqlStore::create(alloc, conn) {
+            Ok(conn) => match SqlStore::create(alloc, conn, &mut Unwatched) {
                 Ok(it) => Ok(it),
                 Err((fault, _store)) => Err(fault),
             },

@@ -8,6 +8,7 @@ ghost use Rattle.sqlite.specs.State.{HasCleanDisk, IsRolledBack, IsUnchanged, Su
 ghost use Rattle.sql_rows.specs.Statements.{all_text};
 ghost use Rattle.sql_store.specs.Through.{HasReadAll, ReadsOn, BlankMeansNone, IsOnlyRead};
 
+use crate::opening_watcher::OpeningWatcher;
 use sql_rows::{Fault, FromRow, Query, Table};
 use sqlite::{Alter, Connection, Rows};
 
@@ -38,8 +39,11 @@ pub(crate) fn next_read<T: FromRow, S: Alter>(rows: &mut Rows<'_, S>) -> Result<
     }
 }
 
-// Reads the rows that are left. Returns whether there were none.
-fn read_rows<T: FromRow + Drop, S: Alter>(rows: &mut Rows<'_, S>) -> Result<bool, Fault>
+// Reads the rows that are left, and notes each with `watcher`. Returns whether there were none.
+fn read_rows<T: FromRow + Drop, S: Alter, N: OpeningWatcher>(
+    rows: &mut Rows<'_, S>,
+    watcher: &mut N,
+) -> Result<bool, Fault>
     ensures same_reference { rows.new.conn.ghost_name ≡ rows.old.conn.ghost_name }
     ensures all { HasCleanDisk (state S.Store rows.new.conn.now) → IfOk result (λ blank.
         (sql : List ℕ) → IsPlain (understood (state S.Store rows.old.conn.now).now.schema sql)
@@ -60,14 +64,16 @@ fn read_rows<T: FromRow + Drop, S: Alter>(rows: &mut Rows<'_, S>) -> Result<bool
             return Ok(blank);
         };
         blank = false;
+        watcher.row();
     }
     Err(Fault::Device)
 }
 
-/// Reads every row of a table. Returns whether it has none.
-pub(crate) fn read_table<T: FromRow + Drop, S: Alter>(
+/// Reads every row of a table, and notes each with `watcher`. Returns whether the table has none.
+pub(crate) fn read_table<T: FromRow + Drop, S: Alter, N: OpeningWatcher>(
     conn: &mut Connection<S>,
     table: Table,
+    watcher: &mut N,
 ) -> Result<bool, Fault>
     requires plain { IsTrue (state S.Store conn.old).is_open
         → IsPlain (understood (state S.Store conn.old).now.schema (all_text table)) }
@@ -81,5 +87,5 @@ pub(crate) fn read_table<T: FromRow + Drop, S: Alter>(
     ensures survives { Survives (state S.Store conn.old) (state S.Store conn.new) (λ _. ⊥) }
 {
     let mut rows = conn.query(Query::All(table).text(), &[])?;
-    read_rows::<T, S>(&mut rows)
+    read_rows::<T, S, N>(&mut rows, watcher)
 }
