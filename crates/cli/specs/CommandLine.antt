@@ -51,8 +51,8 @@ with_database required a = with_rule (with_rule (with_rule a (option_rule (codes
 
 -- A subcommand with the options that each subcommand over a register has.
 abbrev pub plain_app : (present : Bool) → Text → App
-plain_app present name = with_database present (with_rule (with_sources present (new_app name))
-    (option_rule (codes "feed") false))
+plain_app present name = with_rule (with_database present (with_rule (with_sources present
+    (new_app name)) (option_rule (codes "feed") false))) (flag_rule (codes "progress"))
 
 -- `a` with the options that limit connections, and how many messages share a commit.
 abbrev pub with_limits : App → App
@@ -70,20 +70,16 @@ serve_app present =
     (number_rule (codes "port") 65535 true)) (number_rule (codes "connections") 65535 false))
     (option_rule (codes "log") false))
 
--- A subcommand over a register that shows its progress.
-abbrev pub long_app : (present : Bool) → Text → App
-long_app present name = with_rule (plain_app present name) (flag_rule (codes "progress"))
-
 -- Such a subcommand that only reads the register.
 abbrev pub reading_app : (present : Bool) → Text → App
-reading_app present name = with_rule (long_app present name) (flag_rule (codes "snapshot"))
+reading_app present name = with_rule (plain_app present name) (flag_rule (codes "snapshot"))
 
 abbrev pub audit_app : (present : Bool) → App
 audit_app present =
     with_rule (reading_app present (codes "audit")) (option_rule (codes "spid") true)
 
 abbrev pub bulk_app : (present : Bool) → App
-bulk_app present = with_rule (long_app present (codes "bulk")) (flag_rule (codes "strict"))
+bulk_app present = with_rule (plain_app present (codes "bulk")) (flag_rule (codes "strict"))
 
 -- A subcommand over an existing database, which opens no register.
 abbrev pub file_app : Text → App

@@ -12,7 +12,7 @@ use invariants::{Flaw, find_flaw};
 use numbers::Minute;
 use register::OpenFault;
 use settle::Store;
-use sql_store::SqlStore;
+use sql_store::{SqlStore, Unwatched};
 use sqlite::Unknown;
 use std::alloc::{AllocError, Global};
 use std::io::Write;
@@ -102,7 +102,7 @@ fn show_summary<S: Store, W: Write>(
 pub(crate) fn summarize<W: Write>(rt: &HostRuntime, path: &str, writer: &mut W) -> Result<(), Fault>
     ensures { IfErr result IsOfShowing }
 {
-    let mut store = SqlStore::existing_at(rt, path, Unknown).map_err(open_fault)?;
+    let mut store = SqlStore::existing_at(rt, path, Unknown, &mut Unwatched).map_err(open_fault)?;
     let outcome = show_summary(rt.alloc(), &mut store, writer);
     let closed = close(store);
     outcome?;
@@ -176,7 +176,7 @@ fn inspect<W: Write>(rt: &HostRuntime, path: &str, writer: &mut W) -> Result<Opt
     ensures { IfErr result IsOfShowing }
 {
     let alloc = rt.alloc();
-    let mut store = SqlStore::existing_at(rt, path, Unknown).map_err(open_fault)?;
+    let mut store = SqlStore::existing_at(rt, path, Unknown, &mut Unwatched).map_err(open_fault)?;
     let shown = show_summary(alloc, &mut store, writer);
     let judged = match shown {
         Ok(()) => show_rows(alloc, &mut store, writer),

@@ -2,7 +2,7 @@
 ghost use Rattle.std.specs.Prelude.{◌≡◌, IfOk, codes, false};
 ghost use Rattle.clap.specs.Words.{app_of, rule_of, new_app, with_rule, with_subcommand};
 ghost use Rattle.clap.specs.declared.builder.command.Command.TheViews.{out-Command};
-ghost use Rattle.cli.specs.CommandLine.{audit_app, bulk_app, file_app, flag_rule, long_app, npacd_app, number_rule, option_rule, plain_app, reading_app, report_app, serve_app, with_database, with_files, with_inspection, with_limits, with_serving, with_sources, with_version, with_wanted_subcommand, writing_app};
+ghost use Rattle.cli.specs.CommandLine.{audit_app, bulk_app, file_app, flag_rule, npacd_app, number_rule, option_rule, plain_app, reading_app, report_app, serve_app, with_database, with_files, with_inspection, with_limits, with_serving, with_sources, with_version, with_wanted_subcommand, writing_app};
 
 use clap::builder::ValueParser;
 use clap::{Arg, ArgAction, Command};
@@ -139,7 +139,9 @@ fn plain<'a>(
     let help = "HTTP messages that are served first, their answers dropped";
     let command = with_option(alloc, command, "feed", "FILE", help, false)?;
     let help = "The database of the register, in place of memory";
-    with_database(alloc, command, present, help)
+    let command = with_database(alloc, command, present, help)?;
+    let help = "Write the rows so far to standard error, a second apart";
+    with_flag(alloc, command, "progress", help)
 }
 
 // Adds an option with a whole number from 1 to `most` to a command.
@@ -205,22 +207,7 @@ fn serve<'a>(alloc: Global, present: bool) -> Result<Command<'a>, AllocError>
     with_limits(alloc, command.arg(port)?.arg(connections)?.arg(log)?)
 }
 
-// Creates a subcommand over a register that shows its progress.
-fn long<'a>(
-    alloc: Global,
-    present: bool,
-    name: &'a str,
-    about: &'a str,
-) -> Result<Command<'a>, AllocError>
-    ensures { IfOk result
-        (λ c. (app_of c ≡ long_app present name.entry.now) × ((out-Command c).has_globals ≡ false)) }
-{
-    let command = plain(alloc, present, name, about)?;
-    let help = "Write the rows so far to standard error, a second apart";
-    with_flag(alloc, command, "progress", help)
-}
-
-// Creates such a subcommand that only reads the register.
+// Creates a subcommand that only reads the register.
 fn reading<'a>(
     alloc: Global,
     present: bool,
@@ -230,7 +217,7 @@ fn reading<'a>(
     ensures { IfOk result
         (λ c. (app_of c ≡ reading_app present name.entry.now) × ((out-Command c).has_globals ≡ false)) }
 {
-    let command = long(alloc, present, name, about)?;
+    let command = plain(alloc, present, name, about)?;
     let help = "Read a copy of the database, also while a program has it open";
     with_flag(alloc, command, "snapshot", help)
 }
@@ -251,7 +238,7 @@ fn bulk<'a>(alloc: Global, present: bool) -> Result<Command<'a>, AllocError>
         (λ c. (app_of c ≡ bulk_app present) × ((out-Command c).has_globals ≡ false)) }
 {
     let about = "Run a bulk file, and write its report";
-    let command = long(alloc, present, "bulk", about)?;
+    let command = plain(alloc, present, "bulk", about)?;
     let help = "End with status 1 if a row is refused";
     with_flag(alloc, command, "strict", help)
 }

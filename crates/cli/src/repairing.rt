@@ -8,7 +8,7 @@ use crate::running::{close, fault_of_file, open_fault};
 use register::OpenFault;
 use repair::{RegisterRows, read_file, write_rows};
 use settle::StoreFault;
-use sql_store::{SqlStore, find_file};
+use sql_store::{SqlStore, Unwatched, find_file};
 use sqlite::Unknown;
 use std::io::Write;
 
@@ -26,7 +26,9 @@ fn write_new(rt: &HostRuntime, rows: &RegisterRows, path: &str) -> Result<(), Fa
     let Some(present) = rows.present_set() else {
         return Err(Fault::Open(OpenFault::Storage));
     };
-    let mut store = SqlStore::at(rt, path, Unknown, &present.windows).map_err(open_fault)?;
+    let mut store = SqlStore::at(rt, path, Unknown, &present.windows, &mut Unwatched).map_err(
+        open_fault,
+    )?;
     let written = write_rows(rt.alloc(), rows, &mut store);
     let closed = close(store);
     written.map_err(fault_of)?;

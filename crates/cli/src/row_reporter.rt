@@ -1,34 +1,16 @@
 //! Explains refused rows and shows progress while a file is read or written.
-ghost use Rattle.std.specs.Prelude.{◌≡◌, ◌+◌, ◌≤◌, ◌↔◌, IfOk, IsTrue, None, false, string_bytes};
-ghost use Rattle.std.specs.Duration.{as_nanos};
-ghost use Rattle.cli.specs.RowWords.{bad_row_name, progress_line};
+ghost use Rattle.std.specs.Prelude.{◌≡◌, None, false};
+ghost use Rattle.cli.specs.RowWords.{bad_row_name};
 
-use crate::explaining::{append_explanation, append_line, text_of};
+use crate::explaining::{append_explanation, text_of};
 use crate::parse::CommandLine;
+use crate::progress::Progress;
 use crate::row_words::{duplicate_words, mistake_words, row_name};
 use bulk::{BadRow, FaultKind, RowWatcher};
 use numbers::Subject;
-use std::alloc::{AllocError, Global};
-use std::time::{Clock, Duration};
+use std::alloc::AllocError;
 
 const LOST_QUOTE: &str = "a field has more than one line: a quote may be lost, and rows with it";
-
-// Returns whether a second has passed from `last` to `now`.
-fn has_second_passed(last: Duration, now: Duration) -> bool
-    ensures { IsTrue result ↔ (as_nanos last + 1_000_000_000 ≤ as_nanos now) }
-{
-    match now.checked_sub(last) {
-        Some(passed) => passed.as_secs() >= 1,
-        None => false,
-    }
-}
-
-// Returns the line for so many rows.
-fn progress_line(alloc: Global, rows: u64) -> Result<String, AllocError>
-    ensures { IfOk result (λ line. string_bytes line ≡ progress_line rows) }
-{
-    format!(in alloc; "npacd: {rows} rows\n")
-}
 
 /// Explains the refused rows of a file, and shows progress, as the command line says.
 #[derive(Clone, Copy)]
@@ -38,9 +20,7 @@ pub(crate) struct RowReporter<'a> {
     explain: Option<&'a str>,
     // The name under which a refused row is explained.
     bad_row: &'static str,
-    // The clock's time of the last line of progress, at first of the beginning, or `None` if no
-    // progress is shown.
-    shown_at: Option<Duration>,
+    progress: Progress<'a>,
 }
 
 impl<'a> RowReporter<'a> {
@@ -52,32 +32,13 @@ impl<'a> RowReporter<'a> {
     ) -> RowReporter<'a>
         ensures explain { result.explain ≡ line.now.explain }
         ensures bad_row { result.bad_row ≡ bad_row.entry }
-        ensures quiet { line.now.progress ≡ false → result.shown_at ≡ None }
+        ensures quiet { line.now.progress ≡ false → result.progress.shown_at ≡ None }
     {
-        let shown_at = if line.progress {
-            rt.monotonic().ok()
-        } else {
-            None
-        };
         RowReporter {
             rt,
             explain: line.explain,
             bad_row,
-            shown_at,
-        }
-    }
-
-    // Shows the rows so far, if a second has passed since the last line.
-    fn show_progress(&mut self, last: Duration, rows: u64) {
-        let Ok(now) = self.rt.monotonic() else {
-            return;
-        };
-        if !has_second_passed(last, now) {
-            return;
-        }
-        self.shown_at = Some(now);
-        if let Ok(line) = progress_line(self.rt.alloc(), rows) {
-            append_line(self.rt, "-", line.as_str());
+            progress: Progress::new(rt, line),
         }
     }
 
@@ -115,9 +76,7 @@ impl<'a> RowReporter<'a> {
 
 impl RowWatcher for RowReporter<'_> {
     fn row(&mut self, row: u64) {
-        if let Some(last) = self.shown_at {
-            self.show_progress(last, row);
-        }
+        self.progress.show(row);
     }
 
     fn bad_row(&mut self, bad: &BadRow<'_>) {

@@ -26,6 +26,7 @@ use crate::copying::back_up;
 use crate::explaining::explain;
 use crate::fault::Fault;
 use crate::listening::listen;
+use crate::opening_reporter::OpeningReporter;
 use crate::parse::{CommandLine, Parsed, Subcommand, WindowsSource, parse};
 use crate::repairing::repair_file;
 use crate::reporting::{report_outcome, report_usage};
@@ -39,7 +40,7 @@ use connections::{FeedFault, Limits, feed as feed_groups};
 use numbers::Spid;
 use register::{OpenFault, Register};
 use settle::Store;
-use sql_store::{FileFault, SqlStore, StoreAt, UnopenedAt, find_file};
+use sql_store::{FileFault, OpeningWatcher, SqlStore, StoreAt, UnopenedAt, find_file};
 use sqlite::{Start, Unknown};
 use std::alloc::Global;
 use std::convert::AsStr;
@@ -261,7 +262,8 @@ fn feed_in_groups<S: Store, R: Read, W: Write>(
 }
 
 /// Feeds the messages of `reader` to a register in the file at `path`, which `SqlStore::at` opens,
-/// in groups of commits, with `POST /clock`. Returns the store and how feeding ended.
+/// in groups of commits, with `POST /clock`. Returns the store and how feeding ended. Notes each row
+/// of the file with `watcher` while the file is opened.
 ///
 /// Messages that arrive together share a commit, and their responses are written after it. After
 /// `Write`, what was written is a prefix of the responses. All messages that are answered there have
@@ -274,13 +276,14 @@ fn feed_in_groups<S: Store, R: Read, W: Write>(
 /// # Errors
 ///
 /// Those of `SqlStore::at`.
-pub fn feed_at<S: Start, R: Read, W: Write>(
+pub fn feed_at<S: Start, R: Read, W: Write, N: OpeningWatcher>(
     rt: &HostRuntime,
     path: &str,
     start: S,
     windows: &Windows,
     reader: &mut R,
     writer: &mut W,
+    watcher: &mut N,
 ) -> Result<(StoreAt<S>, Result<(), Fault>), (FileFault, UnopenedAt<S>)>
     ensures feeds { IfOk result (λ r. HasCleanDisk (file_state r.0.db.conn)
         → IsTrue (is_sound r.0.group) → IsTrue (file_state r.0.db.conn).is_open
@@ -296,7 +299,7 @@ pub fn feed_at<S: Start, R: Read, W: Write>(
         → m ≡ content_in (file_state r.0.db.conn).now.trees) }
     ensures fault { IfOk result (λ r. IfErr r.1 IsOfFeeding) }
 {
-    let store = SqlStore::at(rt, path, start, windows)?;
+    let store = SqlStore::at(rt, path, start, windows, watcher)?;
     Ok(feed_in_groups(rt.alloc(), store, windows, reader, writer))
 }
 
@@ -318,17 +321,18 @@ fn feed_buffered<R: Read, W: Write>(
 }
 
 // Like `feed_at`, with the program's outcome if the file could not be opened.
-fn feed_open<R: Read, W: Write>(
+fn feed_open<R: Read, W: Write, N: OpeningWatcher>(
     rt: &HostRuntime,
     path: &str,
     windows: &Windows,
     reader: &mut R,
     writer: &mut W,
+    watcher: &mut N,
 ) -> Result<(StoreAt<Unknown>, Result<(), Fault>), Fault>
     ensures fed { IfOk result (λ r. IfErr r.1 IsOfFeeding) }
     ensures unopened { IfErr result IsOfFeeding }
 {
-    match feed_at(rt, path, Unknown, windows, reader, writer) {
+    match feed_at(rt, path, Unknown, windows, reader, writer, watcher) {
         Ok(fed) => Ok(fed),
         Err(refused) => Err(open_fault(refused)),
     }
@@ -539,10 +543,12 @@ fn run_open<R: Read, W: Write>(
     ensures ended { IfOk result (λ r. IfErr r.1 (MayEndOverFile line.now)) }
     ensures unopened { IfErr result (MayEndOverFile line.now) }
 {
+    let mut reporter = OpeningReporter::new(rt, line);
     match (line.subcommand, line.feed) {
-        (Subcommand::Feed, None) => feed_open(rt, path, windows, reader, writer),
+        (Subcommand::Feed, None) => feed_open(rt, path, windows, reader, writer, &mut reporter),
         _ => {
-            let store = SqlStore::at(rt, path, Unknown, windows).map_err(open_fault)?;
+            let opened = SqlStore::at(rt, path, Unknown, windows, &mut reporter);
+            let store = opened.map_err(open_fault)?;
             Ok(run_over(rt, store, windows, line, reader, writer))
         }
     }
@@ -619,7 +625,8 @@ fn run_present_at<R: Read, W: Write>(
 ) -> Result<(), Fault>
     ensures { IfErr result (MayEndOverFile line.now) }
 {
-    let store = SqlStore::existing_at(rt, path, Unknown).map_err(open_fault)?;
+    let mut reporter = OpeningReporter::new(rt, line);
+    let store = SqlStore::existing_at(rt, path, Unknown, &mut reporter).map_err(open_fault)?;
     let (store, outcome) = run_present(rt, store, line, reader, writer);
     let closed = close(store);
     outcome?;

@@ -9,7 +9,7 @@ use crate::windows_text::set_text;
 use http_messages::send_all;
 use register::OpenFault;
 use settle::Store;
-use sql_store::SqlStore;
+use sql_store::{SqlStore, Unwatched};
 use sqlite::Unknown;
 use std::alloc::Global;
 use std::io::Write;
@@ -68,7 +68,7 @@ pub(crate) fn show_windows<W: Write>(
 ) -> Result<(), Fault>
     ensures { IfErr result IsOfShowing }
 {
-    let mut store = SqlStore::existing_at(rt, path, Unknown).map_err(open_fault)?;
+    let mut store = SqlStore::existing_at(rt, path, Unknown, &mut Unwatched).map_err(open_fault)?;
     let outcome = show_present(rt.alloc(), &mut store, writer);
     let closed = close(store);
     outcome?;

@@ -7,7 +7,7 @@ use crate::running::{close, open_fault};
 use numbers::Tn;
 use register::OpenFault;
 use report::{Figures, PageFault, write_page};
-use sql_store::SqlStore;
+use sql_store::{SqlStore, Unwatched};
 use sqlite::Unknown;
 use std::fs;
 use std::fs::File;
@@ -17,7 +17,7 @@ use std::rt::Files;
 fn figures_at(rt: &HostRuntime, path: &str, number: Option<Tn>) -> Result<Figures, Fault>
     ensures { IfErr result IsOfShowing }
 {
-    let mut store = SqlStore::existing_at(rt, path, Unknown).map_err(open_fault)?;
+    let mut store = SqlStore::existing_at(rt, path, Unknown, &mut Unwatched).map_err(open_fault)?;
     let read = Figures::read(rt.alloc(), &mut store, number);
     let closed = close(store);
     match read {

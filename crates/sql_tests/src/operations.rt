@@ -8,7 +8,7 @@ use crate::messages::{
 };
 use crate::rows::rows_of;
 use register::OpenFault;
-use sql_store::{FileFault, Refused, SqlStore};
+use sql_store::{FileFault, Refused, SqlStore, Unwatched};
 use sqlite::{Alter, Connection, FileStore, Files, Options};
 use sqlite_disk::Disk;
 use std::alloc::Global;
@@ -157,7 +157,7 @@ fn open_store<S: Alter + Drop>(
     windows: &str,
 ) -> Result<SqlStore<S>, (FileFault, Refused<S>)> {
     match windows_of(alloc, windows) {
-        Some(windows) => SqlStore::adopt(alloc, conn, &windows),
+        Some(windows) => SqlStore::adopt(alloc, conn, &windows, &mut Unwatched),
         None => Err((FileFault::NoMemory, Refused::Connection(conn))),
     }
 }

@@ -654,7 +654,7 @@ fn are_lines(alloc: Global) -> Option<bool> {
         log: None,
     };
     let feed = None;
-    let text = "npacd serve --windows=w --port=1 --existing --db d --explain -";
+    let text = "npacd serve --windows=w --port=1 --existing --db d --progress --explain -";
     Some(
         all && is_line(
             alloc,
@@ -666,7 +666,7 @@ fn are_lines(alloc: Global) -> Option<bool> {
                 db: Some("d"),
                 existing: true,
                 explain: Some("-"),
-                progress: false,
+                progress: true,
                 snapshot: false,
             },
         )?,

@@ -89,7 +89,7 @@ static WORDS: [LineCase<'static>; 12] = [
         None,
     ),
     (
-        "npacd feed --windows none.toml --progress",
+        "npacd check --db none.db --progress",
         "",
         2,
         NO_OUTPUT,
