@@ -7,6 +7,7 @@
 where the words are tested. The gate runs it after `rt ci`, which leaves the program that it has proved and run.
 """
 import os
+import re
 import shutil
 import sqlite3
 import subprocess
@@ -28,6 +29,9 @@ BREAK, FILE = b"\x1e", b"\x1d"
 # After this many seconds a command counts as endless.
 LIMIT = 60
 NOBODY = 65534
+
+# How many versions of an earlier format are migrated, which takes more than a second, and at most how many rows the other tables have.
+VERSIONS, OTHER_ROWS = 40_000, 10
 
 # What the file of `MESSAGES` holds: nothing is due before minute 115.
 SUMMARY = "minute 100\nset 1\nnext_id 3\ncarriers 2\ndue none\nrows sound\n"
@@ -235,6 +239,34 @@ def shows_progress():
     return (quick[0], quick[2], slow.returncode, shown, lost.returncode) == (0, "", 0, "npacd: 3 rows\n", 0)
 
 
+def write_many(file):
+    """Writes a file in the first format with `VERSIONS` versions, all old."""
+    write_file(file, "SECOND_FAILED")
+    database = sqlite3.connect(file)
+    database.execute("DELETE FROM version")
+    rows = ((number, -number - 1, -number - 1) for number in range(1, VERSIONS + 1))
+    database.executemany(
+        "INSERT INTO version VALUES (?, 2025337001, 'BBBB', 'BBBB', 0, 2025330000, NULL, NULL, NULL, 'old', 'none', 5, 1, NULL, 0, 1, NULL, NULL, ?, ?)",
+        rows)
+    database.execute(f"UPDATE clock SET next_id = {VERSIONS + 1}")
+    database.commit()
+    database.close()
+
+
+def shows_opening(folder):
+    """Returns whether `--progress` shows the rows while a file is migrated, each version three times, and `feed` and `serve` take it."""
+    file = os.path.join(folder, "many.db")
+    write_many(file)
+    status, text, shown = run("feed", "--progress", "--windows", WINDOWS, "--db", file)
+    counts = [int(count) for count in re.findall(r"npacd: (\d+) rows\n", shown)]
+    is_rising = all(one < next_one for one, next_one in zip(counts, counts[1:]))
+    is_counted = bool(counts) and is_rising and counts[-1] <= 3 * VERSIONS + OTHER_ROWS
+    is_all = shown == "".join(f"npacd: {count} rows\n" for count in counts)
+    quick = run("feed", "--progress", "--windows", WINDOWS)
+    with serving("--progress"):
+        return (status, text, quick) == (0, "", (0, "", "")) and is_counted and is_all
+
+
 def new_file(folder):
     """Makes the file of `MESSAGES`, without a log."""
     file = os.path.join(folder, "register.db")
@@ -375,7 +407,7 @@ def found_in_all():
         found |= changes(file, folder) | beside_others(file, folder) | explanations(file, folder)
         found |= rows(folder) | copies(folder, file)
         found |= {"in use": is_in_use(file), "no permission": is_forbidden(file), "a copy": is_copy_examined(file, folder)}
-        found |= {"progress": shows_progress()}
+        found |= {"progress": shows_progress(), "progress of an opening": shows_opening(folder)}
     return found
 
 
