@@ -18,7 +18,7 @@ fn has_second_passed(last: Duration, now: Duration) -> bool
     }
 }
 
-// Returns the line for so many rows.
+// Returns the line that shows this number of rows.
 fn progress_line(alloc: Global, rows: u64) -> Result<String, AllocError>
     ensures { IfOk result (λ line. string_bytes line ≡ progress_line rows) }
 {

@@ -26,9 +26,8 @@ fn write_new(rt: &HostRuntime, rows: &RegisterRows, path: &str) -> Result<(), Fa
     let Some(present) = rows.present_set() else {
         return Err(Fault::Open(OpenFault::Storage));
     };
-    let mut store = SqlStore::at(rt, path, Unknown, &present.windows, &mut Unwatched).map_err(
-        open_fault,
-    )?;
+    let opened = SqlStore::at(rt, path, Unknown, &present.windows, &mut Unwatched);
+    let mut store = opened.map_err(open_fault)?;
     let written = write_rows(rt.alloc(), rows, &mut store);
     let closed = close(store);
     written.map_err(fault_of)?;
