@@ -70,7 +70,7 @@ serve_app present =
     (number_rule (codes "port") 65535 true)) (number_rule (codes "connections") 65535 false))
     (option_rule (codes "log") false))
 
--- Such a subcommand that only reads the register.
+-- A subcommand that only reads the register.
 abbrev pub reading_app : (present : Bool) → Text → App
 reading_app present name = with_rule (plain_app present name) (flag_rule (codes "snapshot"))
 
