@@ -71,7 +71,8 @@ has-none m none q =
     ∙ ap is_some (get-empty download_cmp q)
 
 -- A map with two keys, in place of the first.
-pub two-keys : (minute : ShortMinute) (id attempt : ℕ) (key : DownloadKey) (m0 m1 m2 : BTreeMap DownloadKey (Unit {0}))
+pub two-keys : (minute : ShortMinute) (id attempt : ℕ) (key : DownloadKey)
+    (m0 m1 m2 : BTreeMap DownloadKey (Unit {0}))
     → m0.entries ≡ []
     → IsSet (on queue_key_of download_cmp) m0 m1 (key_in minute id attempt) (Some tt)
     → IsSet (on queue_key_of download_cmp) m1 m2 key (Some tt)

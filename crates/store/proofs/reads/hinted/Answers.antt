@@ -11,5 +11,6 @@ returns-then-is_subject c =
     search rules in (
       at ∙ ap (λ (r : VersionRow). Some r) (sym c.copied.ensures),
       ap (λ (r : VersionRow). r.holds) c.copied.ensures ∙ sym c.holds.ensures
-          ∙ subject-is c.holds.result c.args.subject (sym c.is_subject.ensures ∙ c.if-is_subject.true),
+          ∙ subject-is c.holds.result c.args.subject (sym c.is_subject.ensures
+          ∙ c.if-is_subject.true),
     )

@@ -12,6 +12,7 @@ returns-then-is_subject c =
       c.in_ok-hint.hint.now,
       at,
       sym c.holds.ensures
-          ∙ subject-is c.holds.result c.args.subject (sym c.is_subject.ensures ∙ c.if-is_subject.true),
+          ∙ subject-is c.holds.result c.args.subject (sym c.is_subject.ensures
+          ∙ c.if-is_subject.true),
       search rules,
     )

@@ -15,10 +15,14 @@ loop-row-preserved c k d w below is =
     elim (eq-or-lt_of_le most) [
       | inl same ↦
           let one : c.row-item.result ≡ get_or rows at c.row-item.result =
-          c.row-item.is ∙ ap (λ rs. get_or rs at c.row-item.result) c.deref-row-items.ensures.value in
+          c.row-item.is ∙ ap (λ rs. get_or rs at c.row-item.result)
+          c.deref-row-items.ensures.value in
           let own : entry_of c.row-item.result ≡ WindowSet c.args.self.now.present w =
           ap entry_of one
-          ∙ sym (get_or-map entry_of rows at c.row-item.result d (omega (arith, subst (λ rs. at < length rs) c.deref-row-items.ensures.value c.loop-row-test.true)))
+          ∙ sym (get_or-map entry_of rows at c.row-item.result d (omega (
+            arith,
+            subst (λ rs. at < length rs) c.deref-row-items.ensures.value c.loop-row-test.true,
+          )))
           ∙ ap (λ n. get_or (entries_of rows) n d) (sym same) ∙ is in
           let set = is_set c.row-item.result c.args.self.now.present w own in
           elim c.match-row.branch [
