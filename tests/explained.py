@@ -9,6 +9,7 @@ where the words are tested. The gate runs it after `rt ci`, which leaves the pro
 import os
 import re
 import shutil
+import signal
 import sqlite3
 import subprocess
 import sys
@@ -30,7 +31,7 @@ BREAK, FILE = b"\x1e", b"\x1d"
 LIMIT = 60
 NOBODY = 65534
 
-# How many versions of an earlier format are migrated, which takes more than a second, and at most how many rows the other tables have.
+# How many versions of an earlier format are migrated, in more than 0.3 s, and at most how many rows the other tables have.
 VERSIONS, OTHER_ROWS = 40_000, 10
 
 # What the file of `MESSAGES` holds: nothing is due before minute 115.
@@ -253,11 +254,23 @@ def write_many(file):
     database.close()
 
 
+def run_in_steps(*line):
+    """How a command line ends that is stopped three times for more than a second, however fast it is, and what it writes."""
+    with subprocess.Popen([PROGRAM, *line], stdin=subprocess.DEVNULL, stdout=subprocess.PIPE, stderr=subprocess.PIPE, text=True) as process:
+        for _ in range(3):
+            time.sleep(0.1)
+            process.send_signal(signal.SIGSTOP)
+            time.sleep(1.1)
+            process.send_signal(signal.SIGCONT)
+        text, shown = process.communicate(timeout=LIMIT)
+    return process.returncode, text, shown
+
+
 def shows_opening(folder):
     """Returns whether `--progress` shows the rows while a file is migrated, each version three times, and `feed` and `serve` take it."""
     file = os.path.join(folder, "many.db")
     write_many(file)
-    status, text, shown = run("feed", "--progress", "--windows", WINDOWS, "--db", file)
+    status, text, shown = run_in_steps("feed", "--progress", "--windows", WINDOWS, "--db", file)
     counts = [int(count) for count in re.findall(r"npacd: (\d+) rows\n", shown)]
     is_rising = all(one < next_one for one, next_one in zip(counts, counts[1:]))
     is_counted = bool(counts) and is_rising and counts[-1] <= 3 * VERSIONS + OTHER_ROWS
