@@ -67,6 +67,10 @@ fn flag_after<'a, const N: usize>(bytes: &'a [u8], key: &[u8; N]) -> Option<(boo
 }
 
 // Reads the body of a query.
+//
+// Not inlined: in its caller, each step of the loop over the text would also clear the results of
+// the other calls.
+#[inline(never)]
 fn plain_query(body: &[u8]) -> Option<ApiCall<'_>>
     ensures { IfSome result (λ asked. IsAsked Route.Query body.now (api_call_model asked)) }
 {

@@ -58,6 +58,8 @@ mod sending;
 #[cfg(test)]
 mod settling;
 #[cfg(test)]
+mod shared_downloads;
+#[cfg(test)]
 mod stores;
 #[cfg(test)]
 mod supplied_minutes;

@@ -22,15 +22,15 @@ const WINDOWS: Windows = Windows {
 };
 
 #[derive(Clone, Copy)]
-struct Sample {
-    carrier: Spid,
-    lrn: Lrn,
-    code: CodeId,
-    block: BlockId,
-    subject: Subject,
+pub struct Sample {
+    pub carrier: Spid,
+    pub lrn: Lrn,
+    pub code: CodeId,
+    pub block: BlockId,
+    pub subject: Subject,
 }
 
-fn make_sample() -> Option<Sample> {
+pub fn make_sample() -> Option<Sample> {
     Some(Sample {
         carrier: Spid::read("A001")?,
         lrn: Lrn::read("2025440000")?,
@@ -40,7 +40,7 @@ fn make_sample() -> Option<Sample> {
     })
 }
 
-fn version_row(sample: &Sample) -> VersionRow {
+pub fn version_row(sample: &Sample) -> VersionRow {
     let version = Version {
         subject: sample.subject,
         old_provider: sample.carrier,
@@ -67,10 +67,10 @@ fn version_row(sample: &Sample) -> VersionRow {
     }
 }
 
-const KEY: BroadcastKey = BroadcastKey { id: 1, attempt: 1 };
+pub const KEY: BroadcastKey = BroadcastKey { id: 1, attempt: 1 };
 
 // Adds a version in force and its broadcast, pending for one carrier.
-fn add_version(changes: &mut Changes, sample: &Sample) -> Option<()> {
+pub fn add_version(changes: &mut Changes, sample: &Sample) -> Option<()> {
     changes.versions = Few::One([(1, version_row(sample))]);
     let sent = Broadcast::send(Minute::ZERO, sample.subject, Action::Create, None);
     changes.broadcasts = Few::One([(KEY, sent)]);
@@ -104,7 +104,7 @@ fn sample_changes(alloc: Global, sample: &Sample) -> Option<Changes> {
 }
 
 // Returns the key of a download for another carrier.
-fn another_wait() -> Option<WaitKey> {
+pub fn another_wait() -> Option<WaitKey> {
     Some(WaitKey {
         carrier: Spid::read("B001")?,
         minute: Minute::ZERO,
@@ -200,7 +200,7 @@ fn is_sample_read(alloc: Global) -> Option<bool> {
 }
 
 // Returns the first result, or the second if an allocation of the test or of a read was refused.
-fn with_retry(first: Option<bool>, second: Option<bool>) -> Option<bool> {
+pub fn with_retry(first: Option<bool>, second: Option<bool>) -> Option<bool> {
     match first {
         None => second,
         result => result,

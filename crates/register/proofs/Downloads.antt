@@ -7,3 +7,4 @@ pub mod Fetched
 pub mod Queued
 pub mod Receipts
 pub mod Marked
+pub mod Shared

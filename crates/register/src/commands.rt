@@ -98,13 +98,14 @@ fn decide<S: Store>(
 }
 
 /// Executes a request whose subjects are settled: decides it, then commits its changes in one
-/// commit.
+/// commit. Empties `changes` first, which keeps its buffer from one request to the next.
 ///
 /// Inlined into the calls of the register, because a reply is large and each return moves it.
 #[inline(always)]
 pub fn execute<S: Store>(
     alloc: Global,
     store: &mut S,
+    changes: &mut Changes,
     caller: Spid,
     request: Request<'_>,
 ) -> Result<Reply, Refusal>
@@ -118,8 +119,8 @@ pub fn execute<S: Store>(
         (IsAvailable result) (ReportsOnceSettled (S.IsUsable store.new) (S.content store.old)
         (RequestFrom caller.number (request_of request.entry)) (result ≡ Err Refusal.Storage)) }
 {
-    let mut changes = Changes::none(alloc);
-    let reply = decide(alloc, store, &mut changes, caller, request)?;
-    store.commit(&changes)?;
+    changes.clear();
+    let reply = decide(alloc, store, changes, caller, request)?;
+    store.commit(changes)?;
     Ok(reply)
 }

@@ -273,6 +273,16 @@ impl<S: Alter> Store for SqlStore<S> {
         counted(&mut self.failures, &mut self.group, done)
     }
 
+    // Each statement finds its rows by key, so one call would save little.
+    fn take_shared(
+        &mut self,
+        _carrier: Spid,
+        _id: u64,
+        _attempt: u64,
+    ) -> Result<Option<VersionRow>, StoreFault> {
+        Ok(None)
+    }
+
     // The first commit begins the transaction, so that a group of look-ups costs nothing.
     fn begin_group(&mut self) -> Result<bool, StoreFault> {
         let is_first = self.group == Group::None;

@@ -136,10 +136,10 @@ compared None s = refl
 compared (Some t) s = refl
 
 -- Holds if there is a row, of this subject.
-abbrev IsAwaited : Option Waiting → Subject → Type 0
+abbrev pub IsAwaited : Option Waiting → Subject → Type 0
 IsAwaited o s = (w : Waiting) × (o ≡ Some w) × (w.0 ≡ s)
 
-awaited-is : (c : ℕ) (s : Subject) (o : Option Waiting) → awaited o c ≡ Some s → IsAwaited o s
+pub awaited-is : (c : ℕ) (s : Subject) (o : Option Waiting) → awaited o c ≡ Some s → IsAwaited o s
 awaited-is c s None e = let f : None ≡ Some s = e in cc
 awaited-is c s (Some w) e = (w, refl, by_cases (list_any (λ k. c == k) w.1) e)
   where

@@ -1,22 +1,19 @@
 -- Whether a broadcast is pending for another registered carrier: only those of its row matter.
 use Rattle.std.proofs.Common.{◌≡◌, ℕ, Bool, true, false, List, [], ◌∷◌, map, refl, ap, sym, ◌∙◌, ◌&&◌, ◌||◌}
 use Rattle.std.specs.Prelude.{filter, not, is_some, ◌==◌}
-use Rattle.std.specs.Cmp.{nat_cmp_total}
-use Rattle.std.specs.FinMap.{get, keys, nat_cmp-IsAntisymmetric}
+use Rattle.std.specs.FinMap.{FinMap, get, keys}
 use Rattle.std.specs.List.{list_all, list_any}
-use Rattle.std.specs.Ordering.{on, nat_cmp}
-use Rattle.std.specs.BTreeMap as tree
+use Rattle.std.specs.Ordering.{nat_cmp}
 use Rattle.numbers.specs.declared.spid.Spid.{Spid}
+use Rattle.numbers.specs.Subjects.{Subject}
+use Rattle.model.specs.Content.{wait_cmp}
 use Rattle.model.specs.Versions.{is_among}
 use Rattle.settle.specs.Reads.{is_last_wait}
-use Rattle.settle.specs.Abstraction.{spid_of, wait_key_of}
-use Rattle.settle.specs.declared.rows.WaitKey.{WaitKey}
+use Rattle.settle.specs.Abstraction.{spid_of}
 use Rattle.settle.proofs.Among.{among-filtered, among_keys}
-use Rattle.store.specs.Tables.{content_of, is_another}
-use Rattle.store.specs.WaitRows.{download_of, wait_for}
-use Rattle.store.specs.declared.tables.Tables.{Tables}
-use Rattle.store.proofs.Maps.{get-map_of}
-use Rattle.numbers.proofs.Small.{or_right, same_number, numbers_turned, equal_number, and_both, true_both, mapped_there, same_truth}
+use Rattle.store.specs.Sharing.{waits_content}
+use Rattle.store.specs.WaitRows.{Download, wait_for, is_another}
+use Rattle.numbers.proofs.Small.{or_right, same_number, numbers_turned, equal_number, and_both, true_both, same_truth}
 
 -- ---- lists of numbers
 
@@ -96,24 +93,15 @@ alone own waits registered ks cs are wait =
         ∙ is.1) (wait found.0 ∙ found.1))
         is.0
 
-pub last-is : (t : Tables) (wait : WaitKey) (cs : List Spid) →
-    ((k : ℕ) → is_some (get t.waits (wait_for (download_of (wait_key_of wait)) k))
-    ≡ list_any (λ (c : Spid). k == c.number) cs) →
-    not (list_any (is_another t wait.carrier) cs) ≡ is_last_wait (content_of t) (wait_key_of wait)
-last-is t wait cs waits =
+pub last-is : (registered : FinMap nat_cmp (Unit {0})) (waits : FinMap wait_cmp Subject)
+    (own : Spid) (d : Download) (cs : List Spid) →
+    ((k : ℕ) → is_some (get waits (wait_for d k)) ≡ list_any (λ (c : Spid). k == c.number) cs) →
+    not (list_any (is_another registered own) cs)
+    ≡ is_last_wait (waits_content registered waits) (wait_for d own.number)
+last-is registered waits own d cs wait =
     ap not (sym
-    (any-seen (λ k. not (k == wait.carrier.number) && is_some (get (content_of t).carriers k))
-    (is_another t wait.carrier) another cs))
-    ∙ sym (alone wait.carrier.number
-    (λ k. is_some (get t.waits (wait_for (download_of (wait_key_of wait)) k)))
-    (λ k. is_some (get (content_of t).carriers k)) (keys (content_of t).carriers) (map spid_of cs)
-    (among_keys (content_of t).carriers)
-    (λ k. waits k ∙ among-seen k cs))
-  where
-    another : (c : Spid)
-        → (not (c.number == wait.carrier.number) && is_some (get (content_of t).carriers c.number))
-        ≡ is_another t wait.carrier c
-    another c = ap (λ b. not (c.number == wait.carrier.number) && b)
-        (ap is_some (get-map_of spid_of (λ (u : Unit {0}). u) nat_cmp_total nat_cmp-IsAntisymmetric
-        t.carriers c) ∙ mapped_there (λ (u : Unit {0}). u)
-        (tree.get (on spid_of nat_cmp) t.carriers c))
+    (any-seen (λ k. not (k == own.number) && is_some (get registered k))
+    (is_another registered own) (λ c. refl) cs))
+    ∙ sym (alone own.number (λ k. is_some (get waits (wait_for d k)))
+    (λ k. is_some (get registered k)) (keys registered) (map spid_of cs) (among_keys registered)
+    (λ k. wait k ∙ among-seen k cs))

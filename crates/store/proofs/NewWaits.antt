@@ -1,5 +1,5 @@
 -- Downloads that are added, and taken back.
-use Rattle.std.proofs.Common.{◌≡◌, List, [], ◌∷◌, ◌++◌, map, Some, None, ap, sym, ◌∙◌}
+use Rattle.std.proofs.Common.{◌≡◌, List, [], ◌∷◌, ◌++◌, map, Some, None, ap, sym, ◌∙◌, subst}
 use Rattle.std.specs.FinMap.{FinMap, get}
 use Rattle.numbers.specs.Subjects.{Subject}
 use Rattle.numbers.specs.Abstraction.{subject_of}
@@ -14,16 +14,12 @@ use Rattle.store.specs.Batch.{AreNew}
 use Rattle.store.proofs.Maps.{set-back}
 use Rattle.store.proofs.Changed.{set_wait}
 
--- One download more.
-pub new-more : (es : List (WaitKeyImpl × SubjectImpl)) (e : WaitKeyImpl × SubjectImpl)
-    (old mid new : FinMap wait_cmp Subject) → AreNew es old mid → get mid (wait_key_of e.0) ≡ None
-    → new ≡ set mid (wait_key_of e.0) (Some (subject_of e.1)) → AreNew (es ++ e ∷ []) old new
-new-more [] e old mid new same none put = (
-  ap (λ m. get m (wait_key_of e.0)) (sym same) ∙ none,
-  put ∙ ap (λ m. set m (wait_key_of e.0) (Some (subject_of e.1))) same,
-)
-new-more (d ∷ ds) e old mid new first none put =
-    (first.0, new-more ds e _ mid new first.1 none put)
+-- More downloads.
+pub new-then : (es more : List (WaitKeyImpl × SubjectImpl)) (old mid new : FinMap wait_cmp Subject)
+    → AreNew es old mid → AreNew more mid new → AreNew (es ++ more) old new
+new-then [] more old mid new same later = subst (λ m. AreNew more m new) same later
+new-then (e ∷ es) more old mid new first later =
+    (first.0, new-then es more _ mid new first.1 later)
 
 -- The last download deleted again.
 pub new-less : (es : List (WaitKeyImpl × SubjectImpl)) (e : WaitKeyImpl × SubjectImpl)

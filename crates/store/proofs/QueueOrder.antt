@@ -18,9 +18,14 @@ use Rattle.std.proofs.lemmas.List.Kept.{IsStrictlySortedBy-filter}
 use Rattle.numbers.specs.Subjects.{Subject}
 use Rattle.model.specs.Content.{WaitKey, wait_cmp}
 use Rattle.delivery.specs.declared.download.DownloadKey.{DownloadKey as DownloadKeyImpl}
+use Rattle.settle.specs.Abstraction.{wait_key_of}
+use Rattle.settle.specs.declared.rows.WaitKey.{WaitKey as WaitKeyImpl}
+use Rattle.numbers.specs.Abstraction.{subject_of}
+use Rattle.numbers.specs.declared.ported.Subject.{Subject as SubjectImpl}
+use Rattle.store.specs.Batch.{AreNew}
 use Rattle.store.specs.Maps.{set, seen_entries}
 use Rattle.store.specs.WaitRows.{Download, download_cmp, download_of, wait_for, Waiting, waits_of, rows_of, awaited}
-use Rattle.store.specs.QueueRows.{queue_key_of, order_of, Order, HasKeysOf, IsOrderKey, IsCursor, AreCursors, cursor_in}
+use Rattle.store.specs.QueueRows.{queue_key_of, order_of, Order, HasKeysOf, IsOrderKey, IsCursor, AreCursors, cursor_in, AreUpTo, AreOf}
 use Rattle.store.specs.declared.keys.RowKey.{RowKey as RowKeyImpl}
 use Rattle.store.specs.declared.waiting.Waiting.{Waiting as WaitingImpl}
 use Rattle.store.proofs.Maps.{entry-of, get-set}
@@ -264,7 +269,7 @@ less-before a b e = by_cases (download_cmp a b) e
     by_cases Equal f = refl
     by_cases Greater f = f
 
-before-both : (a b c : Download) → is_le (download_cmp a b) ≡ true
+pub before-both : (a b c : Download) → is_le (download_cmp a b) ≡ true
     → is_le (download_cmp b c) ≡ true → is_le (download_cmp a c) ≡ true
 before-both a b c e f =
     numbers a.minute a.id a.attempt b.minute b.id b.attempt c.minute c.id c.attempt e f
@@ -370,3 +375,90 @@ cursors-put (Ok v) cursors old new k s put same are = subst (AreCursors cursors)
 cursors-put (Err e) cursors old new k s put same are =
     subst (AreCursors cursors) (sym same)
     (cursors-kept cursors (set old k (Some s)) old (λ q there. more-put old k q s there) are)
+
+-- ---- the latest cursor
+
+-- A cursor that is set to a key up to `latest` leaves all up to it.
+pub up-to-set : (old new : List (ℕ × DownloadKeyImpl)) (carrier : ℕ) (o : Option DownloadKeyImpl)
+    (latest : Download) → IsCursorSet old new carrier o
+    → IfSome o (λ k. is_le (download_cmp (queue_key_of k) latest) ≡ true) → AreUpTo old latest
+    → AreUpTo new latest
+up-to-set old new carrier o latest is low are c =
+    subst (λ x. IfSome x (λ k. is_le (download_cmp (queue_key_of k) latest) ≡ true)) (sym (is c))
+    (by_cases (carrier == c))
+  where
+    by_cases : (b : Bool) → IfSome (cond b o (cursor_in old c))
+        (λ k. is_le (download_cmp (queue_key_of k) latest) ≡ true)
+    by_cases true = low
+    by_cases false = are c
+
+-- The same for an insertion, which may fail.
+pub up-to-moved : {V E : Type 0} (r : Result V E) (old new : List (ℕ × DownloadKeyImpl))
+    (carrier : ℕ) (k : DownloadKeyImpl) (latest : Download)
+    → OnOk r (IsCursorSet old new carrier (Some k)) → OnErr r (new ≡ old)
+    → is_le (download_cmp (queue_key_of k) latest) ≡ true → AreUpTo old latest
+    → AreUpTo new latest
+up-to-moved (Err e) old new carrier k latest is same low are =
+    subst (λ cs. AreUpTo cs latest) (sym same) are
+up-to-moved (Ok v) old new carrier k latest is same low are =
+    up-to-set old new carrier (Some k) latest is low are
+
+-- Cursors up to a key are up to a later one.
+pub up-to-later : (cursors : List (ℕ × DownloadKeyImpl)) (latest later : Download)
+    → is_le (download_cmp latest later) ≡ true → AreUpTo cursors latest → AreUpTo cursors later
+up-to-later cursors latest later low are c = by_cases (cursor_in cursors c) (are c)
+  where
+    by_cases : (o : Option DownloadKeyImpl)
+        → IfSome o (λ k. is_le (download_cmp (queue_key_of k) latest) ≡ true)
+        → IfSome o (λ k. is_le (download_cmp (queue_key_of k) later) ≡ true)
+    by_cases None is = tt
+    by_cases (Some k) is = before-both (queue_key_of k) latest later is low
+
+-- A cursor up to `latest` is not after the cursor that it is moved back from.
+pub up-to-at : (cursors : List (ℕ × DownloadKeyImpl)) (carrier : ℕ) (k : DownloadKeyImpl)
+    (latest : Download) → cursor_in cursors carrier ≡ Some k → AreUpTo cursors latest
+    → is_le (download_cmp (queue_key_of k) latest) ≡ true
+up-to-at cursors carrier k latest there are =
+    subst (λ o. IfSome o (λ x. is_le (download_cmp (queue_key_of x) latest) ≡ true)) there
+    (are carrier)
+
+-- The cursors hold with a new download that is not before the latest one.
+pub put-after : (cursors : List (ℕ × DownloadKeyImpl)) (latest : Download) (k : WaitKey)
+    (waits : FinMap wait_cmp Subject) (s : Subject)
+    → is_le (download_cmp latest (download_of k)) ≡ true → AreUpTo cursors latest
+    → AreCursors cursors waits → AreCursors cursors (set waits k (Some s))
+put-after cursors latest k waits s after low are carrier =
+    by_cases (cursor_in cursors carrier) (low carrier) (are carrier)
+  where
+    by_cases : (o : Option DownloadKeyImpl)
+        → IfSome o (λ c. is_le (download_cmp (queue_key_of c) latest) ≡ true)
+        → IfSome o (λ c. IsCursor waits carrier (queue_key_of c))
+        → IfSome o (λ c. IsCursor (set waits k (Some s)) carrier (queue_key_of c))
+    by_cases None early is = tt
+    by_cases (Some c) early is =
+        λ q mine there. tie q mine there (eq_by_cmp wait_cmp k q) refl
+      where
+        tie : (q : WaitKey) → q.carrier ≡ carrier
+            → is_some (get (set waits k (Some s)) q) ≡ true
+            → (b : Bool) → eq_by_cmp wait_cmp k q ≡ b
+            → is_le (download_cmp (queue_key_of c) (download_of q)) ≡ true
+        tie q mine there true e =
+            subst (λ x. is_le (download_cmp (queue_key_of c) (download_of x)) ≡ true)
+            (wait_exact k q (tied (wait_cmp k q) e))
+            (before-both (queue_key_of c) latest (download_of k) early after)
+        tie q mine there false e =
+            is q mine (sym (ap is_some (get-set wait_total wait_exact waits k (Some s) q
+            ∙ ap (λ b. cond b (Some s) (get waits q)) e)) ∙ there)
+
+-- The same for all downloads of one broadcast.
+pub all-after : (cursors : List (ℕ × DownloadKeyImpl)) (latest d : Download)
+    (es : List (WaitKeyImpl × SubjectImpl)) (old new : FinMap wait_cmp Subject)
+    → is_le (download_cmp latest d) ≡ true → AreUpTo cursors latest → AreOf d es
+    → AreNew es old new → AreCursors cursors old → AreCursors cursors new
+all-after cursors latest d [] old new after low of put are =
+    subst (AreCursors cursors) (sym put) are
+all-after cursors latest d (e ∷ es) old new after low of put are =
+    all-after cursors latest d es (set old (wait_key_of e.0) (Some (subject_of e.1))) new after low
+    of.1 put.1
+    (put-after cursors latest (wait_key_of e.0) old (subject_of e.1)
+    (subst (λ x. is_le (download_cmp latest x) ≡ true) (sym of.0) after) low are)

@@ -1,6 +1,6 @@
 -- The downloads of the code's rows when one is added or deleted.
 use Rattle.std.proofs.Common.{◌≡◌, ℕ, Bool, true, false, cond, List, [], ◌∷◌, Option, Some, None, refl, ap, sym, ◌∙◌, arith}
-use Rattle.std.specs.Prelude.{◌==◌, ◌&&◌, Result, Ok, Err, IfOk, OnOk, OnErr, option_map}
+use Rattle.std.specs.Prelude.{◌==◌, ◌&&◌, Result, Ok, Err, IfOk, OnOk, OnErr, is_some, option_map}
 use Rattle.std.specs.List.{list_any}
 use Rattle.std.specs.Ordering.{on, eq_by_cmp, is_eq, nat_cmp, ordering_then}
 use Rattle.std.specs.Map.{lookup}
@@ -78,6 +78,10 @@ by-order old new b w is q =
     sym (hash-at new q) ∙ is q ∙ (λ i. cond (same-at b q i) w (hash-at old q i))
 
 -- ---- a look-up
+
+pub none-from : {X : Type 0} (o : Option X) → is_some o ≡ false → o ≡ None
+none-from None e = refl
+none-from (Some x) e = let f : true ≡ false = e in cc
 
 -- The row of a download's broadcast.
 pub row-at : (rows : List (RowKeyImpl × WaitingImpl)) (b : RowKeyImpl) (k : WaitKey)

@@ -61,6 +61,15 @@ IsKey old new s d b = (t : Subject) (q : Download)
 abbrev pub IsSameIndex : (old new : Index) → Type 0
 IsSameIndex old new = (t : Subject) (q : Download) → new t q ≡ old t q
 
+-- Holds if the index has only this broadcast of the subject, and the broadcast is the version's
+-- with
+-- this attempt.
+pub record IsOnly (about : Index) (s : Subject) (version sent : ℕ)
+    (key : DownloadKeyImpl) : Type 0 where
+  pub id : key.id ≡ version
+  pub attempt : key.attempt ≡ sent
+  pub only : (q : Download) → about s q ≡ eq_by_cmp download_cmp (queue_key_of key) q
+
 -- ---- a broadcast in both indexes
 
 -- Holds if the broadcast is added to both indexes.

@@ -1,5 +1,5 @@
 -- The order of pending downloads, and the carriers' cursors in it.
-use Rattle.std.specs.Prelude.{◌≡◌, ◌==◌, ℕ, true, List, [], ◌∷◌, Option, Some, None, IfSome, cond, is_some, option_map}
+use Rattle.std.specs.Prelude.{◌≡◌, ◌==◌, ℕ, true, List, [], ◌∷◌, Option, Some, None, IfSome, cond, is_some, option_map, ⊤}
 use Rattle.std.specs.Ordering.{nat_cmp, is_le, eq_by_cmp}
 use Rattle.std.specs.Map.{lookup}
 use Rattle.std.specs.BTreeMap.{BTreeMap}
@@ -12,6 +12,8 @@ use Rattle.model.specs.declared.words.Action.{Action}
 use Rattle.model.specs.Content.{BroadcastRow, broadcast_cmp, broadcast_key, WaitKey, wait_cmp}
 use Rattle.delivery.specs.declared.download.Download.{Download as DownloadImpl}
 use Rattle.delivery.specs.declared.download.DownloadKey.{DownloadKey as DownloadKeyImpl}
+use Rattle.settle.specs.Abstraction.{wait_key_of}
+use Rattle.settle.specs.declared.rows.WaitKey.{WaitKey as WaitKeyImpl}
 use Rattle.store.specs.Maps.{map_of, set}
 use Rattle.store.specs.WaitRows.{Download, download_cmp, download_of, wait_for, Waiting}
 
@@ -49,6 +51,16 @@ cursor_in cursors carrier = lookup (λ c. carrier == c) cursors
 abbrev pub AreCursors : List (ℕ × DownloadKeyImpl) → FinMap wait_cmp Subject → Type 0
 AreCursors cursors waits = (carrier : ℕ)
     → IfSome (cursor_in cursors carrier) (λ k. IsCursor waits carrier (queue_key_of k))
+
+-- Holds if no cursor is after `latest`.
+abbrev pub AreUpTo : List (ℕ × DownloadKeyImpl) → (latest : Download) → Type 0
+AreUpTo cursors latest = (carrier : ℕ) → IfSome (cursor_in cursors carrier)
+    (λ k. is_le (download_cmp (queue_key_of k) latest) ≡ true)
+
+-- Holds if the downloads are all of this broadcast.
+abbrev pub AreOf : Download → List (WaitKeyImpl × SubjectImpl) → Type 0
+AreOf d [] = ⊤
+AreOf d (e ∷ es) = (download_of (wait_key_of e.0) ≡ d) × AreOf d es
 
 -- ---- a carrier's downloads
 

@@ -1,6 +1,6 @@
 -- The carriers for which each broadcast is pending, one row a broadcast, and the downloads that the
 -- rows mean.
-use Rattle.std.specs.Prelude.{◌≡◌, ℕ, Bool, true, List, [], ◌∷◌, ◌++◌, map, Option, Some, None, ◌==◌, cond, option_map, ◌⊎◌, refl}
+use Rattle.std.specs.Prelude.{◌≡◌, ℕ, Bool, true, List, [], ◌∷◌, ◌++◌, map, Option, Some, None, ◌==◌, ◌&&◌, not, is_some, cond, option_map, ◌⊎◌, refl}
 use Rattle.std.specs.List.{list_any}
 use Rattle.std.specs.declared.cmp.Ordering.{Ordering}
 use Rattle.std.specs.Ordering.{nat_cmp, ordering_then, on}
@@ -103,6 +103,20 @@ AreAbout rows about = (d : Download) (w : Waiting) → get rows d ≡ Some w →
 abbrev pub AboutIsNeeded : FinMap download_cmp Waiting → Index → Type 0
 AboutIsNeeded rows about = (s : Subject) (d : Download) → about s d ≡ true
     → option_map (λ (w : Waiting). w.0) (get rows d) ≡ Some s
+
+-- ---- registered carriers
+
+-- Whether the carrier is another one than `own`, and registered.
+abbrev pub is_another : FinMap nat_cmp (Unit {0}) → (own carrier : Spid) → Bool
+is_another registered own carrier =
+    not (carrier.number == own.number)
+    && is_some (get registered (spid_of carrier))
+
+-- Whether the carrier is among these, and another registered one is too.
+abbrev pub is_shared : FinMap nat_cmp (Unit {0}) → (own : Spid) → List Spid → Bool
+is_shared registered own carriers =
+    list_any (λ (k : Spid). own.number == k.number) carriers
+    && list_any (is_another registered own) carriers
 
 -- ---- one row changed
 

@@ -1,12 +1,13 @@
 //! The pending broadcasts of each subject.
-ghost use Rattle.std.specs.Prelude.{◌≡◌, true, false, IfOk, OnOk, OnErr, filter};
+ghost use Rattle.std.specs.Prelude.{◌≡◌, true, false, IfSome, IfOk, OnOk, OnErr, filter};
 ghost use Rattle.std.specs.List.Sorted.{IsStrictlySortedBy};
 ghost use Rattle.std.specs.Ordering.{eq_by_cmp, on};
 ghost use Rattle.numbers.specs.Abstraction.{subject_of, key_of};
 ghost use Rattle.settle.specs.Lists.{items_of};
 ghost use Rattle.store.specs.QueueRows.{queue_key_of};
 ghost use Rattle.store.specs.WaitRows.{Download as BroadcastModel, download_cmp, is_for};
-ghost use Rattle.store.specs.About.{has, key_in, keys_in, about_of, IsKey, IsSameIndex, IsPresence};
+ghost use Rattle.store.specs.About.{has, key_in, keys_in, about_of, IsKey, IsOnly, IsSameIndex, IsPresence};
+ghost use Rattle.store.specs.Ranks.{subject_at};
 
 use crate::keys::{Rank, RowKey, is_subject};
 use crate::short::ShortMinute;
@@ -127,6 +128,26 @@ pub fn remove_broadcast(about: &mut HashMap<u64, Broadcasts>, subject: Subject, 
         if broadcasts.remove(key) {
             let _ = about.remove(&rank);
         }
+    }
+}
+
+/// Returns the key of the only broadcast of the subject at this place, if it has this version's id
+/// and this attempt.
+pub fn only_broadcast(
+    about: &HashMap<u64, Broadcasts>,
+    rank: Rank,
+    id: u64,
+    attempt: u64,
+) -> Option<DownloadKey>
+    ensures { IfSome result (IsOnly (about_of about.now.entries) (subject_at rank) id attempt) }
+{
+    let Some(Broadcasts::One(minute, own, sent)) = about.get(&rank.number) else {
+        return None;
+    };
+    if *own == id && *sent == attempt {
+        Some(key_with(*minute, id, attempt))
+    } else {
+        None
     }
 }
 

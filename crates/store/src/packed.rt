@@ -8,8 +8,11 @@ ghost use Rattle.numbers.specs.Abstraction.{minute_of, routing_of, subject_of};
 ghost use Rattle.model.specs.Abstraction.{status_of};
 ghost use Rattle.numbers.specs.declared.cic.Cic.{Cic};
 ghost use Rattle.store.specs.PackedRows.{cic_at, minute_at, routing_at, status_at, subject_in};
+ghost use Rattle.store.specs.Ranks.{subject_at};
 ghost use Rattle.store.specs.ShortNumbers.{short_of};
+ghost use Rattle.version.specs.Acknowledging.{is_sending};
 
+use crate::keys::Rank;
 use crate::short::{Short, ShortMinute, Truths, Wide};
 use model::{Side, Status};
 use numbers::{BlockId, Cic, Line, Lrn, Minute, Routing, Spid, Subject};
@@ -273,6 +276,40 @@ impl PackedRow {
         ensures { subject_of result ≡ self.now.subject }
     {
         subject_in(self.block, self.line)
+    }
+
+    /// Returns the subject's place in the order of subjects.
+    pub fn rank(&self) -> Rank
+        ensures { subject_at result ≡ self.now.subject }
+    {
+        let block = u64::from(self.block.number) * 1001;
+        Rank {
+            number: if self.line < WHOLE_BLOCK {
+                block + 1 + u64::from(self.line)
+            } else {
+                block
+            },
+        }
+    }
+
+    /// Returns whether the version has been broadcast and awaits the answers.
+    pub fn is_sending(&self) -> bool
+        ensures { result ≡ is_sending self.now.status }
+    {
+        match self.kind {
+            Kind::SendingCreate | Kind::SendingDelete => true,
+            Kind::SendingModify => routing_at(self.detail).is_some(),
+            Kind::Pending
+            | Kind::Conflict
+            | Kind::CancelledByOld
+            | Kind::CancelledByNew
+            | Kind::Active
+            | Kind::PartialFailure
+            | Kind::Failed
+            | Kind::DisconnectPending
+            | Kind::Old
+            | Kind::Canceled => false,
+        }
     }
 
     /// Returns the subject if the version is in force.

@@ -1,8 +1,9 @@
 //! The rows of broadcasts, packed.
 //!
 //! A packed row takes 20 bytes, a `Broadcast` 64. Fields lie in their order, so the widest are first.
-ghost use Rattle.std.specs.Prelude.{◌≡◌};
+ghost use Rattle.std.specs.Prelude.{◌≡◌, true, false};
 ghost use Rattle.settle.specs.Abstraction.{broadcast_row_of};
+ghost use Rattle.settle.specs.Sharing.{answered_row};
 ghost use Rattle.store.specs.BroadcastRows.{is_open_in, is_acknowledged_in, packed_row_of};
 
 use crate::packed::{packed_routing, packed_subject, routing_at, subject_in};
@@ -50,6 +51,17 @@ impl Progress {
             Progress::Unanswered | Progress::ClosedUnanswered => false,
         }
     }
+
+    // Returns the progress after one more acknowledgement.
+    fn answered(self) -> Progress
+        ensures open { is_open_in result ≡ is_open_in self }
+        ensures acknowledged { is_acknowledged_in result ≡ true }
+    {
+        match self {
+            Progress::Unanswered | Progress::Answered => Progress::Answered,
+            Progress::ClosedUnanswered | Progress::ClosedAnswered => Progress::ClosedAnswered,
+        }
+    }
 }
 
 /// A broadcast's row, packed.
@@ -77,6 +89,13 @@ impl PackedBroadcast {
             action: row.action,
             progress: Progress::of(row.is_open, row.is_acknowledged),
         }
+    }
+
+    /// Marks the broadcast as acknowledged by some recipient.
+    pub fn mark(&mut self)
+        ensures { packed_row_of self.new ≡ answered_row false (packed_row_of self.old) }
+    {
+        self.progress = self.progress.answered();
     }
 
     /// Returns the row, unpacked.

@@ -1,20 +1,25 @@
 //! The carriers' queues of pending downloads.
-ghost use Rattle.std.specs.Prelude.{◌≡◌, ◌==◌, ℕ, Some, None, IfSome, IfOk, OnOk, OnErr, is_some, option_map};
+ghost use Rattle.std.specs.Prelude.{◌≡◌, ◌==◌, ℕ, Some, None, IfSome, IfNone, IfOk, OnOk, OnErr, is_some, option_map, ◌≤◌, true, length, take};
 ghost use Rattle.std.specs.List.{list_any};
 ghost use Rattle.numbers.specs.declared.spid.Spid.{Spid as SpidImpl};
-ghost use Rattle.store.specs.WaitRows.{download_of, wait_for};
+ghost use Rattle.store.specs.WaitRows.{Download as DownloadModel, download_cmp, download_of, wait_for};
 ghost use Rattle.std.specs.FinMap.{FinMap, get, empty};
+ghost use Rattle.std.specs.Ordering.{is_le};
 ghost use Rattle.numbers.specs.Abstraction.{subject_of};
 ghost use Rattle.numbers.specs.Subjects.{Subject as SubjectModel};
-ghost use Rattle.model.specs.Content.{wait_cmp, empty_content};
+ghost use Rattle.model.specs.Content.{wait_cmp, wait_key, empty_content};
 ghost use Rattle.settle.specs.Lists.{items_of};
 ghost use Rattle.settle.specs.Reads.{AreWaitingSubjects, AreFirst, AreWaitsAbout};
 ghost use Rattle.settle.specs.Abstraction.{spid_of, wait_key_of};
+ghost use Rattle.store.specs.Batch.{AreNew};
 ghost use Rattle.store.specs.Maps.{set};
 ghost use Rattle.store.specs.BroadcastRows.{broadcasts_of};
-ghost use Rattle.store.specs.QueueRows.{queue_key_of, AreCursors, IsCursor};
+ghost use Rattle.store.specs.QueueRows.{queue_key_of, AreCursors, IsCursor, AreUpTo};
+ghost use Rattle.store.specs.Ranks.{subject_at};
+ghost use Rattle.store.specs.Sharing.{TakesWait};
 
-use crate::keys::{BroadcastId, queue_key};
+use crate::carriers::Carriers;
+use crate::keys::{BroadcastId, Rank, queue_key};
 use crate::packed_broadcast::PackedBroadcast;
 use crate::waits::Waits;
 use delivery::{Download, DownloadKey};
@@ -38,6 +43,8 @@ pub struct Queues {
     // By the number of the carrier. Without a cursor a carrier's queue is read from the first
     // broadcast on.
     cursors: HashMap<u32, DownloadKey>,
+    // No cursor is after it, so that a download from it on moves no cursor back.
+    latest: DownloadKey,
 }
 
 impl Model for Queues {
@@ -45,7 +52,7 @@ impl Model for Queues {
     ghost use Rattle.numbers.specs.Subjects.{Subject};
     ghost use Rattle.model.specs.Content.{wait_cmp};
     ghost use Rattle.store.specs.WaitRows.{coded_waits};
-    ghost use Rattle.store.specs.QueueRows.{AreCursors};
+    ghost use Rattle.store.specs.QueueRows.{queue_key_of, AreCursors, AreUpTo};
 
     ghost Value = { FinMap wait_cmp Subject };
 
@@ -53,7 +60,8 @@ impl Model for Queues {
 
     ghost view = { λ q. q.waits };
 
-    ghost invariant = { λ q. AreCursors q.cursors.entries q.waits };
+    ghost invariant = { λ q. AreCursors q.cursors.entries q.waits
+        × AreUpTo q.cursors.entries (queue_key_of q.latest) };
 }
 
 // The least key that a broadcast can have.
@@ -65,15 +73,29 @@ const FIRST: DownloadKey = DownloadKey {
 
 // Moves the carrier's cursor back to a new download, if the download is before it.
 fn move_back(cursors: &mut HashMap<u32, DownloadKey>, key: WaitKey)
-    ensures { (waits : FinMap wait_cmp SubjectModel) (s : SubjectModel)
+    ensures cursors { (waits : FinMap wait_cmp SubjectModel) (s : SubjectModel)
         → AreCursors cursors.old.entries waits
         → AreCursors cursors.new.entries (set waits (wait_key_of key) (Some s)) }
+    ensures latest { (latest : DownloadModel) → AreUpTo cursors.old.entries latest
+        → AreUpTo cursors.new.entries latest }
 {
     let own = queue_key(key);
     if let Some(cursor) = cursors.get_mut(&key.carrier.number) {
         if own < *cursor {
             *cursor = own;
         }
+    }
+}
+
+// Moves the cursor of each download's carrier back to the download, if the download is before it.
+fn move_all_back(cursors: &mut HashMap<u32, DownloadKey>, downloads: &[(WaitKey, Subject)])
+    ensures cursors { (old new : FinMap wait_cmp SubjectModel) → AreNew downloads.now old new
+        → AreCursors cursors.old.entries old → AreCursors cursors.new.entries new }
+    ensures latest { (latest : DownloadModel) → AreUpTo cursors.old.entries latest
+        → AreUpTo cursors.new.entries latest }
+{
+    for (key, _) in downloads {
+        move_back(cursors, *key);
     }
 }
 
@@ -94,6 +116,9 @@ fn move_cursor(waits: &Waits, cursors: &mut HashMap<u32, DownloadKey>, carrier: 
     requires { AreCursors cursors.old.entries waits.now }
     ensures cursors { AreCursors cursors.new.entries waits.now }
     ensures own { IsCursor waits.now carrier.number (queue_key_of result) }
+    ensures latest { (latest : DownloadModel) → AreUpTo cursors.old.entries latest
+        → is_le (download_cmp (queue_key_of result) latest) ≡ true
+        → AreUpTo cursors.new.entries latest }
 {
     let cursor = cursor_of(cursors, carrier);
     let first = waits.first_from(cursor, carrier);
@@ -111,7 +136,21 @@ impl Queues {
         Queues {
             waits: Waits::new(alloc),
             cursors: HashMap::new(alloc),
+            latest: FIRST,
         }
+    }
+
+    // Moves the carrier's cursor to its first pending download, and returns a key that no download
+    // pending for the carrier is before.
+    fn start_of(&mut self, carrier: Spid) -> DownloadKey
+        ensures own { IsCursor self.new carrier.number (queue_key_of result) }
+        ensures same { self.new ≡ self.old }
+    {
+        let start = move_cursor(&self.waits, &mut self.cursors, carrier);
+        if self.latest < start {
+            self.latest = start;
+        }
+        start
     }
 
     /// Returns the subject of a pending download.
@@ -141,8 +180,32 @@ impl Queues {
             (self.new ≡ set self.old (wait_key_of key) (Some (subject_of subject))) }
         ensures err { OnErr result (self.new ≡ self.old) }
     {
-        move_back(&mut self.cursors, key);
-        self.waits.put(key, subject)
+        let before = self.waits.put(key, subject)?;
+        // A new download is seldom before a cursor.
+        if queue_key(key) < self.latest {
+            move_back(&mut self.cursors, key);
+        }
+        Ok(before)
+    }
+
+    /// Adds the downloads, from the first one on, that are of the broadcast of `key` and of
+    /// `subject`, with ascending carriers. Returns how many it added: none if the broadcast has a
+    /// row. Changes nothing if an allocation fails.
+    pub fn put_run(
+        &mut self,
+        key: WaitKey,
+        subject: Subject,
+        downloads: &[(WaitKey, Subject)],
+    ) -> Result<usize, AllocError>
+        ensures inside { IfOk result (λ count. count ≤ length downloads.now) }
+        ensures new { IfOk result (λ count. AreNew (take count downloads.now) self.old self.new) }
+        ensures refused { OnErr result (self.new ≡ self.old) }
+    {
+        let count = self.waits.put_run(key, subject, downloads)?;
+        if queue_key(key) < self.latest {
+            move_all_back(&mut self.cursors, &downloads[..count]);
+        }
+        Ok(count)
     }
 
     /// Deletes a download, if it is pending.
@@ -150,6 +213,26 @@ impl Queues {
         ensures { self.new ≡ set self.old (wait_key_of key) None }
     {
         self.waits.delete(key);
+    }
+
+    /// Deletes the carrier's download of the only broadcast of the subject at this place, and returns
+    /// its minute. Returns `None` and changes nothing unless the broadcast has this version's id and
+    /// this attempt, and is pending for the carrier and for another registered one.
+    pub fn take_shared(
+        &mut self,
+        registered: &Carriers,
+        rank: Rank,
+        carrier: Spid,
+        id: u64,
+        attempt: u64,
+    ) -> Option<Minute>
+        ensures none { IfNone result (self.new ≡ self.old) }
+        ensures some { IfSome result
+            (λ minute. TakesWait registered.now self.old self.new (subject_at rank)
+            (wait_key carrier.number minute.number id attempt)) }
+    {
+        self.waits
+            .take_shared(registered, rank, carrier, id, attempt)
     }
 
     /// Returns the downloads of the subject that are pending for the carrier, earliest first.
@@ -173,7 +256,7 @@ impl Queues {
             subjects.items) }
         ensures same { self.new ≡ self.old }
     {
-        let start = move_cursor(&self.waits, &mut self.cursors, carrier);
+        let start = self.start_of(carrier);
         self.waits.subjects_from(alloc, start, carrier)
     }
 
@@ -193,7 +276,7 @@ impl Queues {
             }) (spid_of carrier) many downloads.items) }
         ensures same { self.new ≡ self.old }
     {
-        let start = move_cursor(&self.waits, &mut self.cursors, carrier);
+        let start = self.start_of(carrier);
         self.waits
             .front_from(alloc, broadcasts, start, carrier, many)
     }

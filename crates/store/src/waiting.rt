@@ -5,10 +5,13 @@ ghost use Rattle.std.specs.Option.{option_to_list};
 ghost use Rattle.numbers.specs.Abstraction.{subject_of};
 ghost use Rattle.numbers.specs.declared.spid.Spid.{Spid};
 ghost use Rattle.store.specs.PackedRows.{subject_in};
-ghost use Rattle.store.specs.WaitRows.{subject_of_row, spids_of, waiting_of, awaited, IsFirst, IsAdded, IsWithout};
+ghost use Rattle.store.specs.WaitRows.{subject_of_row, spids_of, waiting_of, awaited, is_another, is_shared, IsFirst, IsAdded, IsWithout};
+ghost use Rattle.store.specs.Runs.{carriers_in};
 
+use crate::carriers::Carriers;
 use crate::packed::{packed_subject, subject_in};
 use numbers::{BlockId, Spid, Subject};
+use settle::WaitKey;
 use std::alloc::{AllocError, Global};
 
 // The number of carriers that a row gets room for with its third one, so that most rows grow once.
@@ -33,6 +36,15 @@ pub fn is_among(carrier: Spid, carriers: &[Spid]) -> bool
     ensures { result ≡ list_any (λ (k : Spid). carrier.number == k.number) carriers.now }
 {
     carriers.iter().any(|each| carrier.number == each.number)
+}
+
+/// Returns whether a registered carrier other than `own` is among `carriers`.
+pub fn is_another_registered(registered: &Carriers, own: Spid, carriers: &[Spid]) -> bool
+    ensures { result ≡ list_any (is_another registered.now own) carriers.now }
+{
+    carriers
+        .iter()
+        .any(|each| *each != own && registered.contains(*each))
 }
 
 // Returns the carrier unless it is `removed`.
@@ -123,7 +135,41 @@ fn push_carrier(alloc: Global, carrier: Spid, row: &mut Waiting) -> Result<(), A
     Ok(())
 }
 
+// Returns the carriers of the downloads, in order.
+fn carriers_in(alloc: Global, downloads: &[(WaitKey, Subject)]) -> Result<Vec<Spid>, AllocError>
+    ensures { IfOk result (λ carriers. carriers.items ≡ carriers_in downloads.now) }
+{
+    let mut carriers = Vec::with_capacity(alloc, downloads.len())?;
+    for (key, _) in downloads {
+        carriers.push(key.carrier)?;
+    }
+    Ok(carriers)
+}
+
 impl Waiting {
+    /// Creates the row of a broadcast that is pending for the carriers of all `downloads`.
+    pub fn of_all(
+        alloc: Global,
+        subject: Subject,
+        downloads: &[(WaitKey, Subject)],
+    ) -> Result<Waiting, AllocError>
+        ensures subject { IfOk result (λ row. subject_of_row row ≡ subject_of subject) }
+        ensures carriers { IfOk result (λ row. spids_of row ≡ carriers_in downloads.now) }
+    {
+        let (block, line) = packed_subject(subject);
+        match downloads {
+            [] => Ok(Waiting::Nobody(line, block)),
+            [(only, _)] => Ok(Waiting::One(line, block, [only.carrier])),
+            [(first, _), (second, _)] => {
+                Ok(Waiting::Two(line, block, [first.carrier, second.carrier]))
+            }
+            _ => {
+                let all = carriers_in(alloc, downloads)?;
+                Ok(Waiting::Many(line, block, Box::new(alloc, all)?))
+            }
+        }
+    }
+
     /// Creates the row of a broadcast that is pending for one carrier.
     pub fn of(carrier: Spid, subject: Subject) -> Waiting
         ensures { IsFirst carrier.number (subject_of subject) (waiting_of result) }
@@ -174,6 +220,14 @@ impl Waiting {
         } else {
             None
         }
+    }
+
+    /// Returns whether the broadcast is pending for the carrier and for another registered one.
+    pub fn is_shared(&self, registered: &Carriers, carrier: Spid) -> bool
+        ensures { result ≡ is_shared registered.now carrier (spids_of self.now) }
+    {
+        let carriers = self.carriers();
+        is_among(carrier, carriers) && is_another_registered(registered, carrier, carriers)
     }
 
     /// Adds a carrier, and returns the subject if the carrier was there already. A broadcast has

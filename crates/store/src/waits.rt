@@ -1,27 +1,34 @@
 //! The pending downloads.
-ghost use Rattle.std.specs.Prelude.{◌≡◌, ◌==◌, ℕ, Some, None, IfSome, IfOk, OnOk, OnErr, is_some, option_map};
+ghost use Rattle.std.specs.Prelude.{◌≡◌, ◌==◌, ℕ, Some, None, IfSome, IfNone, IfOk, OnOk, OnErr, is_some, option_map, ◌≤◌, length, take};
 ghost use Rattle.std.specs.List.{list_any};
 ghost use Rattle.std.specs.FinMap.{get, empty};
 ghost use Rattle.std.specs.Ordering.{on, nat_cmp};
 ghost use Rattle.std.specs.BTreeMap.{keys, IsOrdered};
 ghost use Rattle.numbers.specs.Abstraction.{subject_of, key_of};
 ghost use Rattle.numbers.specs.declared.spid.Spid.{Spid as SpidImpl};
-ghost use Rattle.model.specs.Content.{empty_content};
+ghost use Rattle.model.specs.Content.{empty_content, wait_key};
 ghost use Rattle.settle.specs.Lists.{items_of};
 ghost use Rattle.settle.specs.Reads.{AreWaitingSubjects, AreFirst, AreWaitsAbout};
 ghost use Rattle.settle.specs.Abstraction.{spid_of, wait_key_of};
 ghost use Rattle.store.specs.Maps.{set};
 ghost use Rattle.store.specs.BroadcastRows.{broadcasts_of};
-ghost use Rattle.store.specs.QueueRows.{queue_key_of, order_of, sent_of, download_at, pending_at, IsCursor};
+ghost use Rattle.store.specs.QueueRows.{queue_key_of, order_of, sent_of, download_at, pending_at, IsCursor, AreOf};
 ghost use Rattle.store.specs.About.{about_of, AreKeysAdded, AreKeysKept, AreKeysRemoved};
+ghost use Rattle.store.specs.Ranks.{subject_at};
+ghost use Rattle.store.specs.Sharing.{TakesWait};
+ghost use Rattle.store.specs.Batch.{AreNew};
 ghost use Rattle.store.specs.WaitRows.{row_key_of, download_of, wait_for};
 
-use crate::about::{Broadcasts, add_broadcast, pending_among, rank_of, remove_broadcast};
-use crate::keys::{BroadcastId, RowKey, queue_key};
+use crate::about::{
+    Broadcasts, add_broadcast, only_broadcast, pending_among, rank_of, remove_broadcast,
+};
+use crate::carriers::Carriers;
+use crate::keys::{BroadcastId, Rank, RowKey, queue_key};
 use crate::packed_broadcast::PackedBroadcast;
+use crate::runs::run_length;
 use crate::waiting::Waiting;
 use delivery::{Download, DownloadKey};
-use numbers::{Spid, Subject};
+use numbers::{Minute, Spid, Subject};
 use settle::{Few, WaitKey};
 use std::alloc::{AllocError, Global};
 use std::collections::{BTreeMap, HashMap};
@@ -217,6 +224,37 @@ impl Waits {
         }
     }
 
+    /// Adds the downloads, from the first one on, that are of the broadcast of `key` and of
+    /// `subject`, with ascending carriers. Returns how many it added: none if the broadcast has a
+    /// row. Changes nothing if an allocation fails.
+    pub fn put_run(
+        &mut self,
+        key: WaitKey,
+        subject: Subject,
+        downloads: &[(WaitKey, Subject)],
+    ) -> Result<usize, AllocError>
+        ensures inside { IfOk result (λ count. count ≤ length downloads.now) }
+        ensures new { IfOk result (λ count. AreNew (take count downloads.now) self.old self.new) }
+        ensures same { IfOk result (λ count.
+            AreOf (download_of (wait_key_of key)) (take count downloads.now)) }
+        ensures refused { OnErr result (self.new ≡ self.old) }
+    {
+        let broadcast = broadcast_of(key);
+        if self.rows.contains_key(&broadcast) {
+            return Ok(0);
+        }
+        let count = run_length(key, subject, downloads);
+        let row = Waiting::of_all(self.alloc, subject, &downloads[..count])?;
+        add_keys(&mut self.about, &mut self.order, self.alloc, subject, key)?;
+        match self.rows.insert(broadcast, row) {
+            Ok(_) => Ok(count),
+            Err(_) => {
+                remove_keys(&mut self.about, &mut self.order, subject, key);
+                Err(AllocError)
+            }
+        }
+    }
+
     /// Deletes a download, if it is pending.
     pub fn delete(&mut self, key: WaitKey)
         ensures { self.new ≡ set self.old (wait_key_of key) None }
@@ -231,6 +269,35 @@ impl Waits {
             let _ = self.rows.remove(&broadcast);
             remove_keys(&mut self.about, &mut self.order, subject, key);
         }
+    }
+
+    /// Deletes the carrier's download of the only broadcast of the subject at this place, and returns
+    /// its minute. Returns `None` and changes nothing unless the broadcast has this version's id and
+    /// this attempt, and is pending for the carrier and for another registered one.
+    pub fn take_shared(
+        &mut self,
+        registered: &Carriers,
+        rank: Rank,
+        carrier: Spid,
+        id: u64,
+        attempt: u64,
+    ) -> Option<Minute>
+        ensures none { IfNone result (self.new ≡ self.old) }
+        ensures some { IfSome result
+            (λ minute. TakesWait registered.now self.old self.new (subject_at rank)
+            (wait_key carrier.number minute.number id attempt)) }
+    {
+        let key = only_broadcast(&self.about, rank, id, attempt)?;
+        let row = self.rows.get_mut(&RowKey {
+            minute: key.minute.number,
+            id,
+            attempt,
+        })?;
+        if !row.is_shared(registered, carrier) {
+            return None;
+        }
+        row.take(carrier);
+        Some(key.minute)
     }
 
     /// Returns the downloads of the subject that are pending for the carrier, earliest first.

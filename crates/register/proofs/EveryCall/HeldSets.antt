@@ -81,6 +81,13 @@ module _ (st : State) (c : Content) (clock : ClockRow) (represents : Represents 
       (is ∙ ap (λ (x : WindowSet). x.number) present_now)
       ∙ present-is st.windows st.history ∙ ap (λ x. Some x) (sym present_now))
 
+  -- The windows of the set are those of its number.
+  pub are_held : AreHeld c clock set.number set.windows
+  are_held = record {
+    present = λ is. ap (λ (x : WindowSet). x.windows) (same_set is);
+    earlier = λ other. stored;
+  }
+
   -- The windows read by the set's number are its windows.
   pub held_read : (w : Windows) → AreHeld c clock set.number w → w ≡ set.windows
   held_read w are = by_cases (set.number == clock.present.number) refl

@@ -86,6 +86,15 @@ means_fault old new input seen result fault is stays =
     by_cases Storage = stays
     by_cases NoMemory = stays
 
+-- A call that is refused as the call is that it makes.
+pub refused_as : {A : Type 0} (old new : Content) (input made : Input) (seen : A → Reply)
+    (result : Result A Refusal) (refusal : Refusal) → result ≡ Err refusal → input ≡ made
+    → SimulatesStep old new made (refused_with (number_of refusal))
+    → SimulatesStep old new input (replied seen result)
+refused_as old new input made seen result refusal is same answers =
+    subst (λ r. SimulatesStep old new input (replied seen r)) (sym is)
+    (subst (λ i. SimulatesStep old new i (refused_with (number_of refusal))) (sym same) answers)
+
 pub keeps_fault : {A : Type 0} (old new : Content) (input : Input) (seen : A
     → Reply) (result : Result A Refusal) (fault : StoreFault) → result ≡ Err (refusal_of fault)
     → new ≡ old → SimulatesStep old new input (replied seen result)

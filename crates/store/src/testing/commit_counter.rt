@@ -10,7 +10,8 @@ use std::cell::Cell;
 use version::NumberInUse;
 use windows::Windows;
 
-/// A store over another one that counts its calls of `commit` in a shared cell.
+/// A store over another one that counts its calls of `commit`, and those of `take_shared` that change
+/// something, in a shared cell.
 ///
 /// Not proved: the count.
 #[derive(Drop)]
@@ -129,6 +130,19 @@ impl<S: Store> Store for CommitCounter<'_, S> {
     fn commit(&mut self, changes: &Changes) -> Result<(), StoreFault> {
         self.commits.set(self.commits.get().saturating_add(1));
         self.store.commit(changes)
+    }
+
+    fn take_shared(
+        &mut self,
+        carrier: Spid,
+        id: u64,
+        attempt: u64,
+    ) -> Result<Option<VersionRow>, StoreFault> {
+        let taken = self.store.take_shared(carrier, id, attempt);
+        if let Ok(Some(_)) = &taken {
+            self.commits.set(self.commits.get().saturating_add(1));
+        }
+        taken
     }
 
     fn begin_group(&mut self) -> Result<bool, StoreFault> {

@@ -259,6 +259,19 @@ impl<S: Store> Store for Flaky<S> {
         counted(&mut self.failures, self.store.commit(changes))
     }
 
+    fn take_shared(
+        &mut self,
+        carrier: Spid,
+        id: u64,
+        attempt: u64,
+    ) -> Result<Option<VersionRow>, StoreFault> {
+        self.count_down()?;
+        counted(
+            &mut self.failures,
+            self.store.take_shared(carrier, id, attempt),
+        )
+    }
+
     fn begin_group(&mut self) -> Result<bool, StoreFault> {
         self.count_down()?;
         counted(&mut self.failures, self.store.begin_group())
