@@ -31,6 +31,19 @@ impl<T> Few<T> {
         }
     }
 
+    /// Deletes all items.
+    pub fn clear(&mut self)
+    where
+        T: Drop,
+        ensures { items_of self.new ≡ [] }
+    {
+        match self {
+            // An empty list is left as it is: writing it costs as much as writing two items.
+            Few::Empty => {}
+            _ => *self = Few::Empty,
+        }
+    }
+
     /// Returns the items in order.
     pub fn as_slice(&self) -> &[T]
         ensures { result.now ≡ items_of self.now }
