@@ -9,11 +9,13 @@ use Rattle.std.specs.FinMap.{get, nat_cmp-IsAntisymmetric}
 use Rattle.model.specs.Content.{Content, VersionRow}
 use Rattle.store.specs.Tables.{content_of, with_version, SubjectVersion, DueVersion, subject_version, subject_version_of, due_version, due_version_of, AreIndexed, KeepIndexes, KeepOtherVersions, AreKeysOf, AreNoKeys, AreUnneeded, HaveKeys, HasRowKeys, IndexKey, id_of, HasIndexKey, IsKeyOf, IsOneOf}
 use Rattle.store.specs.SubjectRows.{versions_of}
+use Rattle.store.specs.DueRows.{due_in}
 use Rattle.store.specs.Tables.IndexKey.{InForceKey, OpenKey, DeadlineKey}
 use Rattle.store.specs.declared.keys.VersionKeys.{VersionKeys}
 use Rattle.store.specs.declared.tables.Tables.{Tables}
 use Rattle.store.proofs.IndexKeys.{stands-kept, stands-other, stands-has, rest-own, rest-other, rest-either}
 use Rattle.store.proofs.SubjectIndexes.{key-other, key-there}
+use Rattle.store.proofs.DueRows.{due-other, due-there}
 use Rattle.store.proofs.Maps.{get-set}
 use Rattle.store.proofs.Orders.{subject_version_total, subject_version_exact, due_version_total, due_version_exact}
 
@@ -26,9 +28,7 @@ stands-in old new keeps (InForceKey k) had =
     new.holds.keys
     keeps.0 k had
 stands-in old new keeps (OpenKey k) had = keeps.1 k had
-stands-in old new keeps (DeadlineKey k) had =
-    stands-kept due_version_of due_version_total due_version_exact old.deadlines new.deadlines
-    keeps.2 k had
+stands-in old new keeps (DeadlineKey k) had = keeps.2 k had
 
 -- All keys but these stay in the indexes.
 pub stands-beside : (old new : Tables) (keys : VersionKeys) → KeepOtherVersions keys old new
@@ -41,9 +41,7 @@ stands-beside old new keys keeps (InForceKey k) other had =
 stands-beside old new keys keeps (OpenKey k) other had =
     keeps.1 k had (key-other keys.opened k other)
 stands-beside old new keys keeps (DeadlineKey k) other had =
-    stands-other due_version_of due_version_total due_version_exact old.deadlines new.deadlines
-    keys.deadline keeps.2 k (λ t is e. other (ap (option_map due_version_of) is
-    ∙ ap (λ l. Some l) e)) had
+    keeps.2 k had (due-other keys.deadline k other)
 
 pub all-kept : (t : Tables) → KeepIndexes t t
 all-kept t = (λ k had. had, λ k had. had, λ k had. had)
@@ -63,8 +61,7 @@ one-there t keys have (InForceKey k) =
 one-there t keys have (OpenKey k) =
     key-there (versions_of t.opens.ids.entries) keys.opened k have.opened
 one-there t keys have (DeadlineKey k) =
-    stands-has due_version_of due_version_total due_version_exact t.deadlines keys.deadline k
-    have.deadline
+    due-there (due_in t.deadlines.ids) keys.deadline k have.deadline
 
 -- ---- the keys of a row
 

@@ -1,5 +1,6 @@
 -- What a commit reserves before it writes, and what each of its parts writes.
-use Rattle.std.specs.Prelude.{◌≡◌, ◌≢◌, ◌<◌, ◌≤◌, ℕ, length, List, [], ◌∷◌, None, Some, IfSome, ⊤}
+use Rattle.std.specs.Prelude.{◌≡◌, ◌≢◌, ◌==◌, ◌<◌, ◌≤◌, ℕ, length, List, [], ◌∷◌, Option, None, Some, IfSome, option_map, ⊤}
+use Rattle.std.specs.Ordering.{nat_cmp}
 use Rattle.std.specs.HashMap.{spare}
 use Rattle.std.specs.FinMap.{FinMap, get}
 use Rattle.numbers.specs.Subjects.{Subject}
@@ -7,7 +8,8 @@ use Rattle.numbers.specs.Abstraction.{subject_of}
 use Rattle.numbers.specs.declared.ported.Subject.{Subject as SubjectImpl}
 use Rattle.model.specs.Content.{VersionRow, wait_cmp}
 use Rattle.settle.specs.Abstraction.{wait_key_of}
-use Rattle.settle.specs.Changes.{Changes, no_changes, changes_of}
+use Rattle.model.specs.Windows.{Windows, WindowSet}
+use Rattle.settle.specs.Changes.{Changes, no_changes, changes_of, put_row}
 use Rattle.settle.specs.Lists.{items_of}
 use Rattle.settle.specs.declared.changes.Changes.{Changes as ChangesImpl}
 use Rattle.settle.specs.declared.rows.WaitKey.{WaitKey as WaitKeyImpl}
@@ -60,6 +62,14 @@ abbrev pub AreNew : List (WaitKeyImpl × SubjectImpl) → FinMap wait_cmp Subjec
 AreNew [] old new = new ≡ old
 AreNew (e ∷ es) old new = (get old (wait_key_of e.0) ≡ None)
     × AreNew es (set old (wait_key_of e.0) (Some (subject_of e.1))) new
+
+-- Holds if the row is written under its number, if there is one.
+abbrev pub IsRowPut : {Y : Type 0} → Option (ℕ × Y) → (old new : FinMap nat_cmp Y) → Type 0
+IsRowPut row old new = (k : ℕ) → get new k ≡ put_row ◌==◌ row k (get old k)
+
+-- Holds if the windows of the set are written under its number, if there is a set.
+abbrev pub IsSetPut : Option WindowSet → (old new : FinMap nat_cmp Windows) → Type 0
+IsSetPut set = IsRowPut (option_map (λ (s : WindowSet). (s.number, s.windows)) set)
 
 -- The rows of versions only.
 abbrev pub of_versions : List (ℕ × VersionRow) → Changes

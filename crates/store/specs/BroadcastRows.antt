@@ -1,5 +1,5 @@
 -- The rows of broadcasts by their keys.
-use Rattle.std.specs.Prelude.{◌≡◌, ◌==◌, ◌&&◌, Bool, true, false, List, map, Option, Some, None, cond, option_map}
+use Rattle.std.specs.Prelude.{◌≡◌, ◌==◌, ◌&&◌, ◌+◌, ◌*◌, ◌%◌, ◌^◌, ℕ, Bool, true, false, List, map, Option, Some, None, cond, option_map}
 use Rattle.std.specs.Ordering.{on}
 use Rattle.std.specs.BTreeMap as tree
 use Rattle.std.specs.BTreeMap.{BTreeMap}
@@ -20,6 +20,10 @@ use Rattle.store.specs.declared.packed_broadcast.Progress.TheVariants.{Unanswere
 
 abbrev pub broadcast_id_of : BroadcastId → BroadcastKey
 broadcast_id_of k = record { id = k.id; attempt = k.attempt }
+
+-- One number of a broadcast, to be hashed.
+abbrev pub mixed : (id attempt : ℕ) → ℕ
+mixed id attempt = (id + (attempt * 2 ^ 40) % 2 ^ 64) % 2 ^ 64
 
 -- Whether two keys of the code are the same.
 abbrev pub same_id : BroadcastId → BroadcastId → Bool

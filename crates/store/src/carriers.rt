@@ -31,7 +31,7 @@ impl Model for Carriers {
     ghost invariant = { λ c. AreAscending c.all.items };
 }
 
-// Returns the place of the carrier with this number, or the place at which to insert it.
+// Returns the place of the carrier with this number, or the place where it belongs.
 fn place_of(all: &[Spid], number: u32) -> Result<usize, usize>
     requires { AreAscending all.now }
     ensures found { OnOk result (get (registered_in all.now) number ≡ Some tt) }

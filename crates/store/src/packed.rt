@@ -316,14 +316,22 @@ impl PackedRow {
     pub fn holds(&self) -> Option<Subject>
         ensures { option_map subject_of result ≡ self.now.holds }
     {
-        self.truths.third().then_some(self.subject())
+        if self.truths.third() {
+            Some(self.subject())
+        } else {
+            None
+        }
     }
 
     /// Returns the subject if the version is open.
     pub fn opens(&self) -> Option<Subject>
         ensures { option_map subject_of result ≡ self.now.opens }
     {
-        self.truths.fourth().then_some(self.subject())
+        if self.truths.fourth() {
+            Some(self.subject())
+        } else {
+            None
+        }
     }
 
     /// Returns the routing.

@@ -16,34 +16,6 @@ use Rattle.store.specs.Tables.{content_of}
 use Rattle.store.proofs.Numbers.{number-written, seen-row, seen-set, if-mapped}
 use Rattle.store.proofs.commit.write.Goals as goal
 
-pub write_row-requires : goal.write_row-requires
-write_row-requires c =
-    if-mapped (0 < spare c.args.tables.now.lrns) (λ e. (lrn_of e.0, e.1)) c.args.changes.now.lrn
-    c.map-lrn.result
-    (search rules)
-    c.requires.room.lrns
-
-pub write_row-requires-2 : goal.write_row-requires-2
-write_row-requires-2 c =
-    if-mapped (0 < spare c.args.tables.now.codes) (λ e. (code_of e.0, e.1))
-    c.args.changes.now.code c.map-code.result
-    (search rules)
-    c.requires.room.codes
-
-pub write_row-requires-3 : goal.write_row-requires-3
-write_row-requires-3 c =
-    if-mapped (0 < spare c.args.tables.now.blocks) (λ e. (block_of e.0, e.1))
-    c.args.changes.now.block c.map-block.result
-    (search rules)
-    c.requires.room.blocks
-
-pub write_row-requires-4 : goal.write_row-requires-4
-write_row-requires-4 c =
-    if-mapped (0 < spare c.args.tables.now.sets) (λ s. (s.number, s.windows))
-    c.args.changes.now.set c.map-set.result
-    (search rules)
-    c.requires.room.sets
-
 pub write_broadcasts-requires : goal.write_broadcasts-requires
 write_broadcasts-requires c =
     subst (λ (es : List (BroadcastKey × Broadcast)). length es
@@ -53,19 +25,19 @@ pub write_versions-requires-clause-reserved : goal.write_versions-requires-claus
 write_versions-requires-clause-reserved c =
     let old = c.args.tables.now in
     subst (λ vs. AreReserved vs (record old {
-      lrns = c.write_row.new.table;
-      codes = c.write_row-2.new.table;
-      blocks = c.write_row-3.new.table;
-      sets = c.write_row-4.new.table;
+      lrns = c.write_rare_rows.new.lrns;
+      codes = c.write_rare_rows.new.codes;
+      blocks = c.write_rare_rows.new.blocks;
+      sets = c.write_rare_rows.new.sets;
       clock = c.move_clock.new.row;
       broadcasts = c.delete_broadcasts.new.table;
       waits = c.delete_waits.new.waits;
     })) (sym c.as_slice-4.ensures) (all-later (items_of c.args.changes.now.versions) old (record
     old {
-      lrns = c.write_row.new.table;
-      codes = c.write_row-2.new.table;
-      blocks = c.write_row-3.new.table;
-      sets = c.write_row-4.new.table;
+      lrns = c.write_rare_rows.new.lrns;
+      codes = c.write_rare_rows.new.codes;
+      blocks = c.write_rare_rows.new.blocks;
+      sets = c.write_rare_rows.new.sets;
       clock = c.move_clock.new.row;
       broadcasts = c.delete_broadcasts.new.table;
       waits = c.delete_waits.new.waits;
@@ -77,22 +49,9 @@ returns-clause-written c =
     let later = c.write_versions.ensures.written in
     record {
       carriers = later.carriers;
-      lrns = λ k. later.lrns k
-          ∙ number-written spid_of old.lrns c.write_row.new.table c.map-lrn.result
-          c.write_row.ensures k
-          ∙ ap (λ o. put_row ◌==◌ o k (get (number_map spid_of old.lrns) k))
-          (seen-row lrn_of spid_of c.args.changes.now.lrn c.map-lrn.result (search rules));
-      codes = λ k. later.codes k
-          ∙ number-written spid_of old.codes c.write_row-2.new.table c.map-code.result
-          c.write_row-2.ensures k
-          ∙ ap (λ o. put_row ◌==◌ o k (get (number_map spid_of old.codes) k))
-          (seen-row code_of spid_of c.args.changes.now.code c.map-code.result (search rules));
-      blocks = λ k. later.blocks k
-          ∙ number-written block_row_of old.blocks c.write_row-3.new.table c.map-block.result
-          c.write_row-3.ensures k
-          ∙ ap (λ o. put_row ◌==◌ o k (get (number_map block_row_of old.blocks) k))
-          (seen-row block_of block_row_of c.args.changes.now.block c.map-block.result
-          (search rules));
+      lrns = λ k. later.lrns k ∙ c.write_rare_rows.ensures.lrns k;
+      codes = λ k. later.codes k ∙ c.write_rare_rows.ensures.codes k;
+      blocks = λ k. later.blocks k ∙ c.write_rare_rows.ensures.blocks k;
       versions = λ k. later.versions k
           ∙ ap (λ vs. put_rows ◌==◌ vs k (get (content_of old).versions k)) c.as_slice-4.ensures;
       broadcasts = λ k. later.broadcasts k ∙ c.delete_broadcasts.ensures k
@@ -106,10 +65,6 @@ returns-clause-written c =
       waits = λ k. later.waits k ∙ c.delete_waits.ensures k
           ∙ ap (λ ks. delete_rows same_wait (map wait_key_of ks) k (get (content_of old).waits k))
           c.as_slice-3.ensures;
-      sets = λ k. later.sets k
-          ∙ number-written windows_of old.sets c.write_row-4.new.table c.map-set.result
-          c.write_row-4.ensures k
-          ∙ ap (λ o. put_row ◌==◌ o k (get (number_map windows_of old.sets) k))
-          (seen-set c.args.changes.now.set c.map-set.result (search rules));
+      sets = λ k. later.sets k ∙ c.write_rare_rows.ensures.sets k;
       clock = later.clock ∙ c.move_clock.ensures;
     }
