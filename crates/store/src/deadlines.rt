@@ -1,5 +1,5 @@
 //! The index that finds versions by their deadlines.
-ghost use Rattle.std.specs.Prelude.{◌≡◌, ◌≢◌, ◌<◌, Some, IfSome, IfNone, OnOk, true, false, length, is_some};
+ghost use Rattle.std.specs.Prelude.{◌≡◌, ◌≢◌, ◌<◌, Some, IfSome, IfNone, OnOk, true, false, length, is_some, take, []};
 ghost use Rattle.std.proofs.Props.{props};
 ghost use Rattle.std.specs.Ordering.{nat_cmp};
 ghost use Rattle.std.specs.BTreeMap as tree;
@@ -36,6 +36,7 @@ fn take_last(ids: &mut Vec<u64>, id: u64)
 }
 
 // Adds the key. Changes nothing if an allocation fails.
+#[inline(never)]
 fn add_id(
     ids: &mut BTreeMap<u64, Vec<u64>>,
     alloc: Global,
@@ -58,6 +59,7 @@ fn add_id(
 }
 
 // Deletes the key if it was the last to be added to its minute.
+#[inline(never)]
 fn remove_id(ids: &mut BTreeMap<u64, Vec<u64>>, key: DueVersion)
     ensures others { (q : DueVersionModel) → due_in ids.old q ≡ true → due_version_of key ≢ q
         → due_in ids.new q ≡ true }
@@ -74,6 +76,7 @@ fn remove_id(ids: &mut BTreeMap<u64, Vec<u64>>, key: DueVersion)
 fn truncate_ids(ids: &mut BTreeMap<u64, Vec<u64>>, minute: u64, count: usize)
     ensures kept { KeepsFirst ids.old ids.new minute count }
     ensures adds { KeepsDue (due_in ids.new) (due_in ids.old) }
+    ensures own { ids_due ids.new minute ≡ take count (ids_due ids.old minute) }
 {
     if let Some(own) = ids.get_mut(&minute) {
         own.truncate(count);
@@ -109,7 +112,8 @@ impl Deadlines {
     /// Takes note that no key has an earlier minute than this one.
     pub fn raise(&mut self, minute: u64)
         requires { IsLeastMinute (due_in self.old.ids) minute }
-        ensures { self.new.ids ≡ self.old.ids }
+        ensures same { self.new.ids ≡ self.old.ids }
+        ensures least { self.new.least ≡ minute }
     {
         self.least = minute;
     }
@@ -118,6 +122,7 @@ impl Deadlines {
     pub fn put(&mut self, key: Option<DueVersion>) -> Result<(), AllocError>
         ensures there { OnOk result (HasDue (due_in self.new.ids) key) }
         ensures keeps { KeepsDue (due_in self.old.ids) (due_in self.new.ids) }
+        ensures adds { KeepsOtherDue (due_in self.new.ids) (due_in self.old.ids) key }
     {
         match key {
             None => Ok(()),
@@ -131,6 +136,7 @@ impl Deadlines {
     /// Deletes the key, if there is one and it was the last to be added to its minute.
     pub fn delete(&mut self, key: Option<DueVersion>)
         ensures others { KeepsOtherDue (due_in self.old.ids) (due_in self.new.ids) key }
+        ensures adds { KeepsDue (due_in self.new.ids) (due_in self.old.ids) }
         ensures last { TakesLastDue self.old.ids self.new.ids key }
     {
         if let Some(key) = key {
@@ -140,7 +146,9 @@ impl Deadlines {
 
     /// Deletes the ids of a minute after the first `count`.
     pub fn truncate(&mut self, minute: u64, count: usize)
-        ensures { KeepsFirst self.old.ids self.new.ids minute count }
+        ensures kept { KeepsFirst self.old.ids self.new.ids minute count }
+        ensures adds { KeepsDue (due_in self.new.ids) (due_in self.old.ids) }
+        ensures own { ids_due self.new.ids minute ≡ take count (ids_due self.old.ids minute) }
     {
         truncate_ids(&mut self.ids, minute, count);
     }
@@ -148,6 +156,8 @@ impl Deadlines {
     /// Deletes a minute with all its ids.
     pub fn remove(&mut self, minute: u64)
         ensures rest { KeepsFirst self.old.ids self.new.ids minute 0 }
+        ensures adds { KeepsDue (due_in self.new.ids) (due_in self.old.ids) }
+        ensures own { ids_due self.new.ids minute ≡ [] }
         ensures fewer { is_some (tree.get nat_cmp self.old.ids minute) ≡ true
             → tree.btree_map_len self.new.ids < tree.btree_map_len self.old.ids }
     {

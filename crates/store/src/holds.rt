@@ -69,6 +69,8 @@ impl Holds {
             self.new.keys key }
         ensures gone { Lacks (on subject_version_of subject_version_cmp) self.new.keys key }
     {
-        delete_key(&mut self.keys, key);
+        if key.is_some() {
+            delete_key(&mut self.keys, key);
+        }
     }
 }

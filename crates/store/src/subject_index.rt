@@ -60,6 +60,7 @@ impl Ids {
 // ---- ids
 
 // Adds the version. Changes nothing if an allocation fails.
+#[inline(never)]
 fn add_id(ids: &mut HashMap<u64, Ids>, alloc: Global, key: SubjectVersion) -> Result<(), AllocError>
     ensures ok { OnOk result
         (IsKey (versions_of ids.old.entries) (versions_of ids.new.entries)
@@ -78,6 +79,7 @@ fn add_id(ids: &mut HashMap<u64, Ids>, alloc: Global, key: SubjectVersion) -> Re
 }
 
 // Deletes the version.
+#[inline(never)]
 fn remove_id(ids: &mut HashMap<u64, Ids>, key: SubjectVersion)
     ensures { IsKey (versions_of ids.old.entries) (versions_of ids.new.entries)
         (subject_version_of key) false }
@@ -106,6 +108,7 @@ fn insert_line(lines: &mut Vec<Line>, line: Line) -> Result<(), AllocError>
 
 // Adds the line of the number at the place, if a number is at it, to its block's list. Changes
 // nothing if an allocation fails.
+#[inline(never)]
 fn add_line(
     lines: &mut HashMap<u64, Vec<Line>>,
     alloc: Global,

@@ -1,19 +1,17 @@
-use Rattle.std.proofs.Common.{rules, ◌<◌, ◌≤◌, List, length, map, ◌∙◌, ap, sym, subst, arith}
+use Rattle.std.proofs.Common.{◌≤◌, List, length, map, ◌∙◌, ap, sym, subst, arith}
 use Rattle.std.specs.Prelude.{◌==◌}
 use Rattle.std.specs.FinMap.{get}
 use Rattle.std.specs.HashMap.{spare}
-use Rattle.settle.specs.Abstraction.{spid_of, lrn_of, code_of, block_of, block_row_of, broadcast_key_of, broadcast_row_of, wait_key_of}
-use Rattle.settle.specs.Changes.{changes_of, put_row, put_rows, delete_rows, same_broadcast, same_wait}
+use Rattle.settle.specs.Abstraction.{broadcast_key_of, broadcast_row_of, wait_key_of}
+use Rattle.settle.specs.Changes.{changes_of, put_rows, delete_rows, same_broadcast, same_wait}
 use Rattle.settle.specs.Lists.{items_of}
 use Rattle.settle.specs.declared.rows.BroadcastKey.{BroadcastKey}
 use Rattle.delivery.specs.declared.broadcast.Broadcast.{Broadcast}
 use Rattle.store.specs.Batch.{AreReserved}
 use Rattle.store.proofs.Reserved.{all-later}
 use Rattle.store.proofs.VersionKeys.{all-kept}
-use Rattle.version.specs.Abstraction.{windows_of}
-use Rattle.store.specs.Maps.{number_map, seen_entries}
+use Rattle.store.specs.Maps.{seen_entries}
 use Rattle.store.specs.Tables.{content_of}
-use Rattle.store.proofs.Numbers.{number-written, seen-row, seen-set, if-mapped}
 use Rattle.store.proofs.commit.write.Goals as goal
 
 pub write_broadcasts-requires : goal.write_broadcasts-requires
