@@ -1,5 +1,5 @@
 //! Tests of a register in a file: what a stop at each call of the files leaves, which files are
-//! refused, and which are migrated. Tests of the program too.
+//! refused, and which are migrated.
 #![tactic(auto)]
 
 #[cfg(test)]
@@ -21,11 +21,7 @@ mod messages;
 #[cfg(test)]
 mod migrations;
 #[cfg(test)]
-mod minutes;
-#[cfg(test)]
 mod operations;
-#[cfg(test)]
-mod program;
 #[cfg(test)]
 mod protective_number;
 #[cfg(test)]

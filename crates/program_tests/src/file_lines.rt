@@ -1,8 +1,8 @@
 //! Tests command lines of bulk files, exports and audits, executed whole, with files that the test
 //! makes.
-use super::command_lines::{LineCase, NO_OUTPUT, first_wrong_line, words_in};
-use super::one_by_one::{CUT, LAST};
+use crate::command_lines::{LineCase, NO_OUTPUT, first_wrong_line, words_in};
 use crate::messages::WINDOWS;
+use crate::one_by_one::{CUT, LAST};
 use cli::run;
 use std::env::Env;
 use std::io::{ErrorKind, Read, Write};

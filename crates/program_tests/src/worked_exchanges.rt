@@ -1,6 +1,6 @@
 //! Tests worked exchanges over a real listener, with a minute supplied for each request.
-use super::one_by_one::{connect_client, new_listener, new_register, read_responses};
 use crate::messages::encode_request;
+use crate::one_by_one::{connect_client, new_listener, new_register, read_responses};
 use api::Ticks;
 use cli::serve_next;
 use numbers::Minute;

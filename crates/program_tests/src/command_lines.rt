@@ -1,6 +1,6 @@
 //! Tests command lines, executed whole, with files that the test makes.
-use super::one_by_one::{CUT, FIRST, LAST, new_listener};
 use crate::messages::WINDOWS;
+use crate::one_by_one::{CUT, FIRST, LAST, new_listener};
 use cli::parse::{CommandLine, Parsed, ServeLimits, Subcommand, WindowsSource, parse};
 use cli::{run, words_of};
 use std::alloc::{AllocError, Global};

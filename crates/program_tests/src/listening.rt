@@ -1,5 +1,5 @@
 //! Tests the patience with a client of a single connection.
-use super::one_by_one::{
+use crate::one_by_one::{
     FIRST, FIRST_ROWS, connect_client, new_listener, new_register, read_responses,
 };
 use api::{End, NoTicks, Served};
