@@ -1,10 +1,11 @@
 -- The order of broadcasts when a row changes, its part from a cursor on, and the cursors.
-use Rattle.std.proofs.Common.{◌≡◌, ◌⊎◌, inl, inr, ℕ, Bool, true, false, cond, List, [], ◌∷◌, Option, Some, None, refl, ap, sym, ◌∙◌, subst, arith}
-use Rattle.std.specs.Prelude.{◌==◌, is_some, filter, IfSome, Result, Ok, Err, OnOk, OnErr}
+use Rattle.std.proofs.Common.{◌≡◌, inl, inr, ℕ, ◌<◌, Bool, true, false, cond, List, [], ◌∷◌, ◌++◌, length, take, zero, suc, ◌+◌, ◌-◌, Option, Some, None, refl, ap, sym, ◌∙◌, subst, arith}
+use Rattle.std.specs.Prelude.{◌==◌, ◌&&◌, ◌||◌, is_some, filter, get_or, IfSome, Result, Ok, Err, OnOk, OnErr}
 use Rattle.std.specs.declared.cmp.Ordering.{Ordering}
 use Rattle.std.specs.declared.cmp.Ordering.TheVariants.{Less, Equal, Greater}
 use Rattle.std.specs.declared.ops.Bound.TheVariants.{Included, Unbounded}
-use Rattle.std.specs.List.{AllByRecursion}
+use Rattle.std.specs.List.{AllByRecursion, slice_get}
+use Rattle.std.specs.Option.{option_eq, option_to_list}
 use Rattle.std.specs.List.Sorted.{IsStrictlySortedBy}
 use Rattle.std.specs.Ordering.{on, is_le, is_lt, eq_by_cmp, nat_cmp, ordering_then}
 use Rattle.std.specs.Cmp.{tied_itself}
@@ -14,6 +15,8 @@ use Rattle.std.specs.BTreeMap.{BTreeMap, is_at}
 use Rattle.std.specs.BTreeMap.Range.{entries_between, range_contains}
 use Rattle.std.specs.FinMap.{FinMap, get, get-empty, from_entries}
 use Rattle.std.proofs.lemmas.Bool.Decides.{nat_tests}
+use Rattle.std.proofs.lemmas.List.Folds.{list_any-append, list_any_more}
+use Rattle.std.proofs.lemmas.Option.{slice_get_within, get_or_from_slice_get}
 use Rattle.std.proofs.lemmas.List.Kept.{IsStrictlySortedBy-filter}
 use Rattle.numbers.specs.Subjects.{Subject}
 use Rattle.model.specs.Content.{WaitKey, wait_cmp}
@@ -23,11 +26,14 @@ use Rattle.settle.specs.declared.rows.WaitKey.{WaitKey as WaitKeyImpl}
 use Rattle.numbers.specs.Abstraction.{subject_of}
 use Rattle.numbers.specs.declared.ported.Subject.{Subject as SubjectImpl}
 use Rattle.store.specs.Batch.{AreNew}
-use Rattle.store.specs.Maps.{set, seen_entries}
+use Rattle.store.specs.About.{has_in}
+use Rattle.store.specs.Maps.{set, IsSet, seen_entries}
 use Rattle.store.specs.WaitRows.{Download, download_cmp, download_of, wait_for, Waiting, waits_of, rows_of, awaited}
-use Rattle.store.specs.QueueRows.{queue_key_of, order_of, Order, HasKeysOf, IsOrderKey, IsCursor, AreCursors, cursor_in, AreUpTo, AreOf}
+use Rattle.store.specs.QueueRows.{queue_key_of, order_of, Order, has_key, is_among, HasKeysOf, KeepsKeys, KeepsOtherKeys, IsCursor, AreCursors, cursor_in, AreUpTo, AreOf}
+use Rattle.store.specs.declared.queue_order.QueueOrder.{QueueOrder as QueueOrderImpl}
 use Rattle.store.specs.declared.keys.RowKey.{RowKey as RowKeyImpl}
 use Rattle.store.specs.declared.waiting.Waiting.{Waiting as WaitingImpl}
+use Rattle.store.proofs.AboutListed.{more-set}
 use Rattle.store.proofs.Maps.{entry-of, get-set}
 use Rattle.store.proofs.Listed.{Among}
 use Rattle.store.proofs.QueueListed.{HasAll}
@@ -35,55 +41,204 @@ use Rattle.store.proofs.SubjectsListed.{found-entry, filtered-among}
 use Rattle.store.proofs.RowsFlat.{download_total, download_exact, get-waits_of}
 use Rattle.store.proofs.RowsChanged.{IsRow}
 use Rattle.model.proofs.KeyOrders.{wait_total, wait_exact}
-use Rattle.numbers.proofs.Small.{tied, true_both, equal_number, number_equal}
-
-pub no-keys : (rows : List (RowKeyImpl × WaitingImpl)) (order : BTreeMap DownloadKeyImpl (Unit {0}))
-    → rows ≡ [] → order.entries ≡ [] → HasKeysOf (rows_of rows) (order_of order)
-no-keys rows order none nothing d =
-    ap (λ es. is_some (get (from_entries {R = download_cmp} (seen_entries queue_key_of
-    (λ (u : Unit {0}). u) es)) d)) nothing
-    ∙ ap is_some (get-empty download_cmp d) ∙ sym (ap is_some (get-empty download_cmp d))
-    ∙ ap (λ es. is_some (get (rows_of es) d)) (sym none)
+use Rattle.numbers.proofs.Small.{impossible, tied, and_both, true_both, equal_number, number_equal, or_true, or_false}
 
 -- ---- a row changed
 
+-- Without rows, no key is needed.
+pub no-keys : (rows : List (RowKeyImpl × WaitingImpl)) (order : Order) → rows ≡ []
+    → HasKeysOf (rows_of rows) order
+no-keys rows order none d there =
+    impossible (sym there ∙ ap (λ es. is_some (get (rows_of es) d)) none
+    ∙ ap is_some (get-empty download_cmp d))
+
 module _ (rows : FinMap download_cmp Waiting) (order : Order) (keys : HasKeysOf rows order)
     (d : Download) where
-  -- Writing a row and its key, or deleting both, keeps the keys those of the rows.
-  pub keys-changed : (new : FinMap download_cmp Waiting) (next : Order) (w : Option Waiting)
-      (v : Option (Unit {0})) → IsRow rows new d w → IsOrderKey order next d v
-      → is_some v ≡ is_some w → HasKeysOf new next
-  keys-changed new next w v row key same q =
-      ap is_some (key q) ∙ by_cases (eq_by_cmp download_cmp d q) ∙ sym (ap is_some (row q))
+  -- The row of another broadcast has its key.
+  other : (new : FinMap download_cmp Waiting) (w : Option Waiting) (q : Download)
+      → IsRow rows new d w → eq_by_cmp download_cmp d q ≡ false → is_some (get new q) ≡ true
+      → order q ≡ true
+  other new w q row t is =
+      keys q (sym (ap is_some (row q ∙ ap (λ b. cond b w (get rows q)) t)) ∙ is)
+
+  -- Writing a row and adding its key keeps the keys those of the rows.
+  pub keys-added : (new : FinMap download_cmp Waiting) (next : Order) (w : Option Waiting)
+      → IsRow rows new d w → next d ≡ true → KeepsKeys order next → HasKeysOf new next
+  keys-added new next w row there keeps q is = by_cases (eq_by_cmp download_cmp d q) refl
     where
-      by_cases : (b : Bool) → is_some (cond b v (get order q)) ≡ is_some (cond b w (get rows q))
-      by_cases true = same
-      by_cases false = keys q
+      by_cases : (b : Bool) → eq_by_cmp download_cmp d q ≡ b → next q ≡ true
+      by_cases true t = ap next (sym (download_exact d q (tied _ t))) ∙ there
+      by_cases false t = keeps q (other new w q row t is)
+
+  -- Deleting a row and its key leaves the other rows their keys.
+  pub keys-removed : (new : FinMap download_cmp Waiting) (next : Order) → IsRow rows new d None
+      → KeepsOtherKeys d order next → HasKeysOf new next
+  keys-removed new next row keeps q is = by_cases (eq_by_cmp download_cmp d q) refl
+    where
+      by_cases : (b : Bool) → eq_by_cmp download_cmp d q ≡ b → next q ≡ true
+      by_cases true t =
+          impossible (sym is ∙ ap is_some (row q ∙ ap (λ b. cond b None (get rows q)) t))
+      by_cases false t = keeps q t (other new None q row t is)
 
   -- A row that is written again has its key.
   pub keys-stay : (new : FinMap download_cmp Waiting) (was now : Waiting)
       → IsRow rows new d (Some now) → get rows d ≡ Some was → HasKeysOf new order
-  keys-stay new was now row there q =
-      keys q ∙ by_cases (eq_by_cmp download_cmp d q) refl ∙ sym (ap is_some (row q))
-    where
-      by_cases : (b : Bool) → eq_by_cmp download_cmp d q ≡ b
-          → is_some (get rows q) ≡ is_some (cond b (Some now) (get rows q))
-      by_cases true t =
-          ap is_some (ap (get rows) (sym (download_exact d q (tied _ t))) ∙ there)
-      by_cases false t = refl
+  keys-stay new was now row there =
+      keys-added new order (Some now) row (keys d (ap is_some there)) (λ q is. is)
 
-  -- Deleting the key of no row changes nothing.
-  pub keys-kept : (next : Order) → get rows d ≡ None
-      → (next ≡ order) ⊎ IsOrderKey order next d None → HasKeysOf rows next
-  keys-kept next none (inl same) = subst (HasKeysOf rows) (sym same) keys
-  keys-kept next none (inr gone) =
-      λ q. ap is_some (gone q) ∙ by_cases q (eq_by_cmp download_cmp d q) refl
+  -- Deleting the key of no row leaves the rows their keys.
+  pub keys-kept : (next : Order) → get rows d ≡ None → KeepsOtherKeys d order next
+      → HasKeysOf rows next
+  keys-kept next none keeps q is = by_cases (eq_by_cmp download_cmp d q) refl
     where
-      by_cases : (q : Download) (b : Bool) → eq_by_cmp download_cmp d q ≡ b
-          → is_some (cond b None (get order q)) ≡ is_some (get rows q)
-      by_cases q true t =
-          sym (ap is_some (ap (get rows) (sym (download_exact d q (tied _ t))) ∙ none))
-      by_cases q false t = keys q
+      by_cases : (b : Bool) → eq_by_cmp download_cmp d q ≡ b → next q ≡ true
+      by_cases true t =
+          impossible (sym is ∙ ap is_some (ap (get rows) (sym (download_exact d q (tied _ t)))
+          ∙ none))
+      by_cases false t = keeps q t (keys q is)
+
+  -- Adding a key without a row and deleting it leaves the rows their keys.
+  pub keys-back : (mid next : Order) → get rows d ≡ None → KeepsKeys order mid
+      → KeepsOtherKeys d mid next → HasKeysOf rows next
+  keys-back mid next none adds keeps =
+      keys-kept next none (λ q apart is. keeps q apart (adds q is))
+
+-- ---- the keys of the order itself
+
+-- An option that equals a value has an equal value.
+pub some-equal : {A : Type 0} (eq : A → A → Bool) (o : Option A) (y : A)
+    → option_eq eq o (Some y) ≡ true → (x : A) × (o ≡ Some x) × (eq x y ≡ true)
+some-equal eq None y e = impossible (sym e)
+some-equal eq (Some x) y e = (x, refl, e)
+
+-- Keys with equal fields are the same broadcast's.
+pub same-key : (x y : DownloadKeyImpl)
+    → ((x.minute.number == y.minute.number) && ((x.id == y.id) && (x.attempt == y.attempt))) ≡ true
+    → queue_key_of x ≡ queue_key_of y
+same-key x y e =
+    let first = and_both _ _ e in
+    let second = and_both _ _ first.1 in
+    (λ i. record {
+      minute = equal_number x.minute.number y.minute.number first.0 i;
+      id = equal_number x.id y.id second.0 i;
+      attempt = equal_number x.attempt y.attempt second.1 i;
+    })
+
+-- The element that is popped is the last.
+pub ending : {A : Type 0} (xs front : List A) (n : ℕ) (o : Option A) (x : A) → n ≡ length xs
+    → xs ≡ front ++ option_to_list o → slice_get xs (n - 1) ≡ Some x
+    → (0 < n → o ≡ Some (get_or xs (n - 1) x)) → xs ≡ front ++ (x ∷ [])
+ending xs front n o x long all there last =
+    let within : n - 1 < length xs = slice_get_within xs (n - 1) x there in
+    all ∙ ap (λ r. front ++ option_to_list r) (last (omega arith)
+    ∙ ap (λ y. Some y) (get_or_from_slice_get xs (n - 1) x x there))
+
+-- Deleting the last recent key leaves each key that differs from it.
+pub popped : (sorted : BTreeMap DownloadKeyImpl (Unit {0})) (old new : List DownloadKeyImpl)
+    (k : DownloadKeyImpl) (d : Download) → old ≡ new ++ (k ∷ [])
+    → eq_by_cmp download_cmp (queue_key_of k) d ≡ false
+    → (is_some (get (order_of sorted) d) || is_among old d) ≡ true
+    → (is_some (get (order_of sorted) d) || is_among new d) ≡ true
+popped sorted old new k d more apart is =
+    sym (ap (λ b. is_some (get (order_of sorted) d) || b) (ap (λ ks. is_among ks d) more
+    ∙ list_any-append (λ x. eq_by_cmp download_cmp (queue_key_of x) d) new (k ∷ [])
+    ∙ ap (λ b. is_among new d || (b || false)) apart ∙ or_false (is_among new d)))
+    ∙ is
+
+module _ (old new : BTreeMap DownloadKeyImpl (Unit {0})) (key : DownloadKeyImpl)
+    (keys : List DownloadKeyImpl) (d : Download)
+    (is : IsSet (on queue_key_of download_cmp) old new key None) where
+  -- Deleting a sorted key leaves the others.
+  pub removed-keeps : eq_by_cmp download_cmp (queue_key_of key) d ≡ false
+      → (is_some (get (order_of old) d) || is_among keys d) ≡ true
+      → (is_some (get (order_of new) d) || is_among keys d) ≡ true
+  removed-keeps apart there =
+      ap (λ b. b || is_among keys d) (more-set old new key None is d
+      ∙ ap (λ b. cond b false (is_some (get (order_of old) d))) apart)
+      ∙ there
+
+  -- Deleting a sorted key adds none.
+  pub removed-adds : (is_some (get (order_of new) d) || is_among keys d) ≡ true
+      → (is_some (get (order_of old) d) || is_among keys d) ≡ true
+  removed-adds there =
+      by_cases (eq_by_cmp download_cmp (queue_key_of key) d) (is_some (get (order_of old) d))
+      (sym (ap (λ b. b || is_among keys d) (more-set old new key None is d)) ∙ there)
+    where
+      by_cases : (b c : Bool) → (cond b false c || is_among keys d) ≡ true
+          → (c || is_among keys d) ≡ true
+      by_cases b true e = refl
+      by_cases true false e = e
+      by_cases false false e = e
+
+-- Holds if `new` has the keys of `old`, these keys and no others.
+abbrev pub AreSorted : (old new : BTreeMap DownloadKeyImpl (Unit {0})) → List DownloadKeyImpl
+    → Type 0
+AreSorted old new keys = (d : Download) → is_some (get (order_of new) d)
+    ≡ (is_some (get (order_of old) d) || is_among keys d)
+
+-- One more key is sorted.
+pub more-sorted : (old mid new : BTreeMap DownloadKeyImpl (Unit {0})) (keys : List DownloadKeyImpl)
+    (i : ℕ) (k : DownloadKeyImpl) → AreSorted old mid (take i keys) → i < length keys
+    → k ≡ get_or keys i k → IsSet (on queue_key_of download_cmp) mid new k (Some tt)
+    → AreSorted old new (take (i + 1) keys)
+more-sorted old mid new keys i k so_far less at is d =
+    more-set mid new k (Some tt) is d
+    ∙ by_cases (eq_by_cmp download_cmp (queue_key_of k) d)
+    ∙ ap (λ b. is_some (get (order_of old) d) || b)
+    (ap (λ x. is_among (take i keys) d || eq_by_cmp download_cmp (queue_key_of x) d) at
+    ∙ sym (list_any_more (λ x. eq_by_cmp download_cmp (queue_key_of x) d) keys i k less))
+  where
+    by_cases : (b : Bool) → cond b true (is_some (get (order_of mid) d))
+        ≡ (is_some (get (order_of old) d) || (is_among (take i keys) d || b))
+    by_cases true =
+        sym (ap (λ b. is_some (get (order_of old) d) || b) (or_true (is_among (take i keys) d))
+        ∙ or_true (is_some (get (order_of old) d)))
+    by_cases false =
+        so_far d ∙ ap (λ b. is_some (get (order_of old) d) || b)
+        (sym (or_false (is_among (take i keys) d)))
+
+-- The same if a map has equal entries.
+pub same-sorted : (old mid new : BTreeMap DownloadKeyImpl (Unit {0})) (keys : List DownloadKeyImpl)
+    → AreSorted old mid keys → new.entries ≡ mid.entries → AreSorted old new keys
+same-sorted old mid new keys are same d =
+    ap (λ es. is_some (get (from_entries {R = download_cmp} (seen_entries queue_key_of
+    (λ (u : Unit {0}). u) es)) d)) same
+    ∙ are d
+
+-- A key among the first ones is among all.
+among-taken : (i : ℕ) (keys : List DownloadKeyImpl) (d : Download)
+    → is_among (take i keys) d ≡ true → is_among keys d ≡ true
+among-taken zero keys d is = impossible (sym is)
+among-taken (suc i) [] d is = is
+among-taken (suc i) (k ∷ keys) d is =
+    by_cases (eq_by_cmp download_cmp (queue_key_of k) d) (among-taken i keys d) is
+  where
+    by_cases : (b : Bool) → (is_among (take i keys) d ≡ true → is_among keys d ≡ true)
+        → (b || is_among (take i keys) d) ≡ true → (b || is_among keys d) ≡ true
+    by_cases true later e = refl
+    by_cases false later e = later e
+
+-- Sorting some keys adds none.
+pub sorted-adds : (old new : BTreeMap DownloadKeyImpl (Unit {0})) (keys : List DownloadKeyImpl)
+    (i : ℕ) → AreSorted old new (take i keys) → (d : Download)
+    → (is_some (get (order_of new) d) || is_among keys d) ≡ true
+    → (is_some (get (order_of old) d) || is_among keys d) ≡ true
+sorted-adds old new keys i are d is =
+    by_cases (is_some (get (order_of old) d)) (is_some (get (order_of new) d)) (are d) is
+  where
+    by_cases : (b c : Bool) → c ≡ (b || is_among (take i keys) d)
+        → (c || is_among keys d) ≡ true → (b || is_among keys d) ≡ true
+    by_cases true c e f = refl
+    by_cases false true e f = among-taken i keys d (sym e)
+    by_cases false false e f = f
+
+-- If each key is sorted, the key of each row is.
+pub all-sorted : (rows : FinMap download_cmp Waiting) (old new : QueueOrderImpl)
+    → HasKeysOf rows (has_key old) → KeepsKeys (has_key old) (has_key new)
+    → new.recent.items ≡ [] → HasKeysOf rows (has_in new.sorted)
+all-sorted rows old new keys keeps none d is =
+    sym (ap (λ ks. has_in new.sorted d || is_among ks d) none ∙ or_false (has_in new.sorted d))
+    ∙ keeps d (keys d is)
 
 -- ---- the part of the order from a cursor on
 
@@ -118,12 +273,12 @@ module _ (order : BTreeMap DownloadKeyImpl (Unit {0})) (start : DownloadKeyImpl)
 
   -- Each broadcast that is pending for the carrier is in the part.
   part-whole : (rows : FinMap download_cmp Waiting) (carrier : ℕ)
-      → HasKeysOf rows (order_of order) → IsCursor (waits_of rows) carrier (queue_key_of start)
+      → HasKeysOf rows (has_in order) → IsCursor (waits_of rows) carrier (queue_key_of start)
       → HasAll (waits_of rows) carrier part
   part-whole rows carrier keys cursor k mine there =
       let stands : is_some (get (order_of order) (download_of k)) ≡ true =
-      keys (download_of k) ∙ awaited-there k.carrier (get rows (download_of k))
-      (ap is_some (sym (get-waits_of rows k)) ∙ there) in
+      keys (download_of k) (awaited-there k.carrier (get rows (download_of k))
+      (ap is_some (sym (get-waits_of rows k)) ∙ there)) in
       let q = entry-of queue_key_of (λ (u : Unit {0}). u) download_total download_exact order
       (download_of k) stands in
       let e = found-entry (is_at (on queue_key_of download_cmp q.0)) order.entries q.2 in
@@ -139,7 +294,7 @@ module _ (order : BTreeMap DownloadKeyImpl (Unit {0})) (start : DownloadKeyImpl)
 
   -- The part rises, and has all that is pending for the carrier.
   pub part-is : (rows : FinMap download_cmp Waiting) (carrier : ℕ) (waits : FinMap wait_cmp Subject)
-      → HasKeysOf rows (order_of order) → waits_of rows ≡ waits
+      → HasKeysOf rows (has_in order) → waits_of rows ≡ waits
       → tree.IsOrdered (on queue_key_of download_cmp) order
       → IsCursor waits carrier (queue_key_of start) → HasAll waits carrier part
       × IsStrictlySortedBy (on queue_key_of download_cmp) (keys_of part)

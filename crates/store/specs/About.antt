@@ -1,6 +1,6 @@
 -- The index of pending broadcasts by subject: a hash table with the keys of each subject's
 -- broadcasts.
-use Rattle.std.specs.Prelude.{◌≡◌, ◌==◌, ◌&&◌, ◌⊎◌, ℕ, Bool, true, false, List, [], ◌∷◌, Option, Some, None, cond, is_some}
+use Rattle.std.specs.Prelude.{◌≡◌, ◌==◌, ◌&&◌, ℕ, Bool, true, false, List, [], ◌∷◌, Option, Some, None, cond, is_some}
 use Rattle.std.specs.Ordering.{eq_by_cmp}
 use Rattle.std.specs.Map.{lookup}
 use Rattle.std.specs.BTreeMap as tree
@@ -8,7 +8,7 @@ use Rattle.std.specs.FinMap.{get}
 use Rattle.numbers.specs.Subjects.{Subject, subject_key}
 use Rattle.delivery.specs.declared.download.DownloadKey.{DownloadKey as DownloadKeyImpl}
 use Rattle.store.specs.WaitRows.{Download, download_cmp, Index}
-use Rattle.store.specs.QueueRows.{queue_key_of, order_of, Order, IsOrderKey}
+use Rattle.store.specs.QueueRows.{queue_key_of, order_of, Order, KeepsKeys, KeepsOtherKeys}
 use Rattle.store.specs.declared.about.Broadcasts.{Broadcasts}
 use Rattle.store.specs.declared.about.Broadcasts.TheVariants.{One, More}
 use Rattle.store.specs.declared.short.ShortMinute.{ShortMinute}
@@ -75,15 +75,15 @@ pub record IsOnly (about : Index) (s : Subject) (version sent : ℕ)
 -- Holds if the broadcast is added to both indexes.
 abbrev pub AreKeysAdded : Subject → Download → (about next : Index) → (order after : Order) → Type 0
 AreKeysAdded s d about next order after =
-    IsKey about next s d true × IsOrderKey order after d (Some tt)
+    IsKey about next s d true × ((after d ≡ true) × KeepsKeys order after)
 
--- Holds if the broadcast is deleted from both indexes.
+-- Holds if the broadcast is deleted from the index by subjects. It may stay in the order.
 abbrev pub AreKeysRemoved : Subject → Download → (about next : Index) → (order after : Order)
     → Type 0
 AreKeysRemoved s d about next order after =
-    IsKey about next s d false × IsOrderKey order after d None
+    IsKey about next s d false × KeepsOtherKeys d order after
 
--- Holds if the indexes stay, except that the broadcast may be deleted from the order.
+-- Holds if the indexes stay, except that the order may have the broadcast or not.
 abbrev pub AreKeysKept : Download → (about next : Index) → (order after : Order) → Type 0
 AreKeysKept d about next order after =
-    IsSameIndex about next × ((after ≡ order) ⊎ IsOrderKey order after d None)
+    IsSameIndex about next × KeepsOtherKeys d order after

@@ -1,6 +1,7 @@
 -- The order of pending downloads, and the carriers' cursors in it.
-use Rattle.std.specs.Prelude.{◌≡◌, ◌==◌, ℕ, true, List, [], ◌∷◌, Option, Some, None, IfSome, cond, is_some, option_map, ⊤}
+use Rattle.std.specs.Prelude.{◌≡◌, ◌==◌, ◌||◌, ℕ, Bool, true, false, List, [], ◌∷◌, Option, Some, None, IfSome, cond, is_some, option_map, ⊤}
 use Rattle.std.specs.Ordering.{nat_cmp, is_le, eq_by_cmp}
+use Rattle.std.specs.List.{list_any}
 use Rattle.std.specs.Map.{lookup}
 use Rattle.std.specs.BTreeMap.{BTreeMap}
 use Rattle.std.specs.FinMap.{FinMap, get}
@@ -16,6 +17,7 @@ use Rattle.settle.specs.Abstraction.{wait_key_of}
 use Rattle.settle.specs.declared.rows.WaitKey.{WaitKey as WaitKeyImpl}
 use Rattle.store.specs.Maps.{map_of, set}
 use Rattle.store.specs.WaitRows.{Download, download_cmp, download_of, wait_for, Waiting}
+use Rattle.store.specs.declared.queue_order.QueueOrder.{QueueOrder as QueueOrderImpl}
 
 -- The key of a broadcast in queue order.
 abbrev pub queue_key_of : DownloadKeyImpl → Download
@@ -24,17 +26,30 @@ queue_key_of k = record { minute = k.minute.number; id = k.id; attempt = k.attem
 abbrev pub order_of : BTreeMap DownloadKeyImpl (Unit {0}) → FinMap download_cmp (Unit {0})
 order_of m = map_of queue_key_of (λ u. u) m
 
--- Holds if the order has the key of each row, and no other key.
-abbrev pub HasKeysOf : FinMap download_cmp Waiting → FinMap download_cmp (Unit {0}) → Type 0
-HasKeysOf rows order = (d : Download) → is_some (get order d) ≡ is_some (get rows d)
+-- Whether the broadcast is among these keys.
+abbrev pub is_among : List DownloadKeyImpl → Download → Bool
+is_among keys d = list_any (λ k. eq_by_cmp download_cmp (queue_key_of k) d) keys
 
+-- Whether the order has the broadcast's key.
+abbrev pub has_key : QueueOrderImpl → Download → Bool
+has_key o d = is_some (get (order_of o.sorted) d) || is_among o.recent.items d
+
+-- Whether an order has a broadcast's key.
 abbrev pub Order : Type 0
-Order = FinMap download_cmp (Unit {0})
+Order = Download → Bool
 
--- Holds if only one key of the order changes, to `v`.
-abbrev pub IsOrderKey : Order → Order → Download → Option (Unit {0}) → Type 0
-IsOrderKey old new d v = (q : Download) → get new q ≡ cond (eq_by_cmp download_cmp d q) v
-    (get old q)
+-- Holds if the order has the key of each row.
+abbrev pub HasKeysOf : FinMap download_cmp Waiting → Order → Type 0
+HasKeysOf rows order = (d : Download) → is_some (get rows d) ≡ true → order d ≡ true
+
+-- Holds if `new` has each key of `old`.
+abbrev pub KeepsKeys : (old new : Order) → Type 0
+KeepsKeys old new = (q : Download) → old q ≡ true → new q ≡ true
+
+-- Holds if `new` has each key of `old` except this one, which it may have or not.
+abbrev pub KeepsOtherKeys : Download → (old new : Order) → Type 0
+KeepsOtherKeys d old new =
+    (q : Download) → eq_by_cmp download_cmp d q ≡ false → old q ≡ true → new q ≡ true
 
 -- ---- cursors
 

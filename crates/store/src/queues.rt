@@ -112,10 +112,15 @@ fn cursor_of(cursors: &HashMap<u32, DownloadKey>, carrier: Spid) -> DownloadKey
 
 // Moves the carrier's cursor to its first pending download, and returns the download's key. If none
 // is pending, moves it to the last broadcast. If an allocation fails, the cursor stays.
-fn move_cursor(waits: &Waits, cursors: &mut HashMap<u32, DownloadKey>, carrier: Spid) -> DownloadKey
-    requires { AreCursors cursors.old.entries waits.now }
-    ensures cursors { AreCursors cursors.new.entries waits.now }
-    ensures own { IsCursor waits.now carrier.number (queue_key_of result) }
+fn move_cursor(
+    waits: &mut Waits,
+    cursors: &mut HashMap<u32, DownloadKey>,
+    carrier: Spid,
+) -> DownloadKey
+    requires { AreCursors cursors.old.entries waits.old }
+    ensures same { waits.new ≡ waits.old }
+    ensures cursors { AreCursors cursors.new.entries waits.old }
+    ensures own { IsCursor waits.old carrier.number (queue_key_of result) }
     ensures latest { (latest : DownloadModel) → AreUpTo cursors.old.entries latest
         → is_le (download_cmp (queue_key_of result) latest) ≡ true
         → AreUpTo cursors.new.entries latest }
@@ -146,7 +151,7 @@ impl Queues {
         ensures own { IsCursor self.new carrier.number (queue_key_of result) }
         ensures same { self.new ≡ self.old }
     {
-        let start = move_cursor(&self.waits, &mut self.cursors, carrier);
+        let start = move_cursor(&mut self.waits, &mut self.cursors, carrier);
         if self.latest < start {
             self.latest = start;
         }

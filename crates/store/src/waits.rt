@@ -12,7 +12,7 @@ ghost use Rattle.settle.specs.Reads.{AreWaitingSubjects, AreFirst, AreWaitsAbout
 ghost use Rattle.settle.specs.Abstraction.{spid_of, wait_key_of};
 ghost use Rattle.store.specs.Maps.{set};
 ghost use Rattle.store.specs.BroadcastRows.{broadcasts_of};
-ghost use Rattle.store.specs.QueueRows.{queue_key_of, order_of, sent_of, download_at, pending_at, IsCursor, AreOf};
+ghost use Rattle.store.specs.QueueRows.{queue_key_of, has_key, sent_of, download_at, pending_at, IsCursor, AreOf};
 ghost use Rattle.store.specs.About.{about_of, AreKeysAdded, AreKeysKept, AreKeysRemoved};
 ghost use Rattle.store.specs.Ranks.{subject_at};
 ghost use Rattle.store.specs.Sharing.{TakesWait};
@@ -25,6 +25,7 @@ use crate::about::{
 use crate::carriers::Carriers;
 use crate::keys::{BroadcastId, Rank, RowKey, queue_key};
 use crate::packed_broadcast::PackedBroadcast;
+use crate::queue_order::QueueOrder;
 use crate::runs::run_length;
 use crate::waiting::Waiting;
 use delivery::{Download, DownloadKey};
@@ -44,7 +45,7 @@ pub struct Waits {
     alloc: Global,
     rows: HashMap<RowKey, Waiting>,
     about: HashMap<u64, Broadcasts>,
-    order: BTreeMap<DownloadKey, ()>,
+    order: QueueOrder,
 }
 
 impl Model for Waits {
@@ -54,7 +55,7 @@ impl Model for Waits {
     ghost use Rattle.store.specs.WaitRows.{AreAbout, AboutIsNeeded, waits_of, rows_of};
     ghost use Rattle.store.specs.WaitRows.{coded_waits};
     ghost use Rattle.store.specs.About.{about_of};
-    ghost use Rattle.store.specs.QueueRows.{HasKeysOf, order_of};
+    ghost use Rattle.store.specs.QueueRows.{HasKeysOf, has_key};
 
     ghost Value = { FinMap wait_cmp Subject };
 
@@ -64,7 +65,7 @@ impl Model for Waits {
 
     ghost invariant = { λ w. (AreAbout (rows_of w.rows.entries) (about_of w.about.entries)
         × AboutIsNeeded (rows_of w.rows.entries) (about_of w.about.entries))
-        × HasKeysOf (rows_of w.rows.entries) (order_of w.order) };
+        × HasKeysOf (rows_of w.rows.entries) (has_key w.order) };
 }
 
 // Returns the key of the download's broadcast.
@@ -93,43 +94,44 @@ fn wait_key(key: DownloadKey, carrier: Spid) -> WaitKey
 // Adds the download's broadcast to both indexes, or to none if an allocation fails.
 fn add_keys(
     about: &mut HashMap<u64, Broadcasts>,
-    order: &mut BTreeMap<DownloadKey, ()>,
+    order: &mut QueueOrder,
     alloc: Global,
     subject: Subject,
     key: WaitKey,
 ) -> Result<(), AllocError>
     ensures ok { OnOk result
         (AreKeysAdded (subject_of subject) (download_of (wait_key_of key))
-        (about_of about.old.entries) (about_of about.new.entries) (order_of order.old)
-        (order_of order.new)) }
+        (about_of about.old.entries) (about_of about.new.entries) (has_key order.old)
+        (has_key order.new)) }
     ensures err { OnErr result
         (AreKeysKept (download_of (wait_key_of key)) (about_of about.old.entries)
-        (about_of about.new.entries) (order_of order.old) (order_of order.new)) }
+        (about_of about.new.entries) (has_key order.old) (has_key order.new)) }
 {
     let own = queue_key(key);
-    let _ = order.insert(own, ())?;
+    order.put(own)?;
     match add_broadcast(about, alloc, subject, own) {
         Ok(_) => Ok(()),
         Err(_) => {
-            let _ = order.remove(&own);
+            order.delete(own);
             Err(AllocError)
         }
     }
 }
 
-// Deletes the download's broadcast from both indexes.
+// Deletes the download's broadcast from both indexes. If an allocation fails, the order may keep
+// it.
 fn remove_keys(
     about: &mut HashMap<u64, Broadcasts>,
-    order: &mut BTreeMap<DownloadKey, ()>,
+    order: &mut QueueOrder,
     subject: Subject,
     key: WaitKey,
 )
     ensures { AreKeysRemoved (subject_of subject) (download_of (wait_key_of key))
-        (about_of about.old.entries) (about_of about.new.entries) (order_of order.old)
-        (order_of order.new) }
+        (about_of about.old.entries) (about_of about.new.entries) (has_key order.old)
+        (has_key order.new) }
 {
     remove_broadcast(about, subject, queue_key(key));
-    let _ = order.remove(&queue_key(key));
+    order.delete(queue_key(key));
 }
 
 // Returns the download with what its broadcast says of it, if the broadcast is there.
@@ -175,7 +177,7 @@ impl Waits {
             alloc,
             rows: HashMap::new(alloc),
             about: HashMap::new(alloc),
-            order: BTreeMap::new(alloc),
+            order: QueueOrder::new(alloc),
         }
     }
 
@@ -319,12 +321,17 @@ impl Waits {
 
     /// Returns the key of the first broadcast from `start` on that is pending for the carrier. If
     /// none is, returns the last key of all broadcasts, or `start` if that key is before `start`.
-    pub fn first_from(&self, start: DownloadKey, carrier: Spid) -> DownloadKey
-        requires { IsCursor self.now carrier.number (queue_key_of start) }
-        ensures { IsCursor self.now carrier.number (queue_key_of result) }
+    /// If an allocation fails, returns `start`.
+    pub fn first_from(&mut self, start: DownloadKey, carrier: Spid) -> DownloadKey
+        requires { IsCursor self.old carrier.number (queue_key_of start) }
+        ensures own { IsCursor self.old carrier.number (queue_key_of result) }
+        ensures same { self.new ≡ self.old }
     {
+        if self.order.sort().is_err() {
+            return start;
+        }
         let mut last = start;
-        for (key, _) in self.order.range(start..) {
+        for (key, _) in self.order.sorted.range(start..) {
             last = *key;
             if self.get(wait_key(*key, carrier)).is_some() {
                 return last;
@@ -336,18 +343,20 @@ impl Waits {
     /// Returns the subjects with downloads pending for the carrier, ascending, without duplicates.
     /// All these downloads are from `start` on.
     pub fn subjects_from(
-        &self,
+        &mut self,
         alloc: Global,
         start: DownloadKey,
         carrier: Spid,
     ) -> Result<Vec<Subject>, AllocError>
-        requires { IsCursor self.now carrier.number (queue_key_of start) }
-        ensures { IfOk result (λ subjects.
-            AreWaitingSubjects (record empty_content { waits = self.now }) (spid_of carrier)
+        requires { IsCursor self.old carrier.number (queue_key_of start) }
+        ensures found { IfOk result (λ subjects.
+            AreWaitingSubjects (record empty_content { waits = self.old }) (spid_of carrier)
             subjects.items) }
+        ensures same { self.new ≡ self.old }
     {
+        self.order.sort()?;
         let mut subjects = BTreeMap::new(alloc);
-        for (key, _) in self.order.range(start..) {
+        for (key, _) in self.order.sorted.range(start..) {
             if let Some(subject) = self.get(wait_key(*key, carrier)) {
                 let _ = subjects.insert(subject, ())?;
             }
@@ -376,22 +385,24 @@ impl Waits {
     /// Returns the first `many` downloads of the carrier's queue, or all if there are fewer. All
     /// pending ones are from `start` on.
     pub fn front_from(
-        &self,
+        &mut self,
         alloc: Global,
         broadcasts: &HashMap<BroadcastId, PackedBroadcast>,
         start: DownloadKey,
         carrier: Spid,
         many: usize,
     ) -> Result<Vec<Download>, AllocError>
-        requires { IsCursor self.now carrier.number (queue_key_of start) }
-        ensures { IfOk result (λ downloads.
+        requires { IsCursor self.old carrier.number (queue_key_of start) }
+        ensures found { IfOk result (λ downloads.
             AreFirst (record empty_content {
-              waits = self.now;
+              waits = self.old;
               broadcasts = broadcasts_of broadcasts.now;
             }) (spid_of carrier) many downloads.items) }
+        ensures same { self.new ≡ self.old }
     {
+        self.order.sort()?;
         let mut found = Vec::new(alloc);
-        for (key, _) in self.order.range(start..) {
+        for (key, _) in self.order.sorted.range(start..) {
             if found.len() == many {
                 return Ok(found);
             }

@@ -6,7 +6,7 @@ pub returns-then-ne-clause-cursors : goal.returns-then-ne-clause-cursors
 returns-then-ne-clause-cursors c =
     moved c.insert.result c.args.cursors.now.entries c.insert.new.self.entries
     c.args.carrier.number c.first_from-first.result c.args.waits.now (search rules) (search rules)
-    c.first_from-first.ensures c.requires
+    c.first_from-first.ensures.own c.requires
 
 pub returns-then-ne-clause-latest : goal.returns-then-ne-clause-latest
 returns-then-ne-clause-latest c = λ latest are low.

@@ -1,13 +1,13 @@
-use Rattle.std.proofs.Common.{rules, ◌≡◌, false, Some, None, refl, ap, sym, ◌∙◌, subst, [], map}
+use Rattle.std.proofs.Common.{rules, ◌≡◌, false, Some, None, ap, sym, ◌∙◌, subst, [], map}
 use Rattle.std.specs.FinMap.{FinMap, get}
 use Rattle.numbers.specs.Subjects.{Subject}
 use Rattle.model.specs.Content.{wait_cmp}
 use Rattle.settle.specs.Abstraction.{spid_of, wait_key_of}
 use Rattle.store.specs.Maps.{set}
 use Rattle.store.specs.About.{IsKey, about_of}
-use Rattle.store.specs.QueueRows.{HasKeysOf, order_of}
+use Rattle.store.specs.QueueRows.{HasKeysOf, has_key}
 use Rattle.store.specs.WaitRows.{download_of, spids_of, waiting_of, rows_of, waits_of}
-use Rattle.store.proofs.QueueOrder.{keys-stay, keys-changed}
+use Rattle.store.proofs.QueueOrder.{keys-stay, keys-removed}
 use Rattle.store.proofs.RowsChanged.{Agrees, agrees-kept, agrees-gone}
 use Rattle.store.proofs.WaitsKept.{row-at, wait-at, row-written, row-taken, without-waits, gone-waits, not-there}
 use Rattle.numbers.proofs.Small.{no_members}
@@ -38,10 +38,10 @@ invariant_of-self-then-is_empty c =
           (subst (λ s. IsKey (about_of c.self.inside.about.entries)
           (about_of c.remove_keys.new.about.entries) s (download_of (wait_key_of c.args.key)) false)
           (c.subject-subject.ensures ∙ c.take.ensures.same) c.remove_keys.ensures.0),
-      keys-changed (rows_of c.self.inside.rows.entries) (order_of c.self.inside.order)
+      keys-removed (rows_of c.self.inside.rows.entries) (has_key c.self.inside.order)
           c.self.invariant.1 (download_of (wait_key_of c.args.key))
-          (rows_of c.remove.new.self.entries) (order_of c.remove_keys.new.order) None None gone
-          c.remove_keys.ensures.1 refl,
+          (rows_of c.remove.new.self.entries) (has_key c.remove_keys.new.order) gone
+          c.remove_keys.ensures.1,
     )
 
 pub returns-then-is_empty : goal.returns-then-is_empty
@@ -75,7 +75,7 @@ invariant_of-self-else-is_empty c =
           (about_of c.self.inside.about.entries) (download_of (wait_key_of c.args.key))
           (waiting_of c.in-Some.row.now) (waiting_of c.take.new.self) row there
           c.take.ensures.same c.self.invariant.0,
-      keys-stay (rows_of c.self.inside.rows.entries) (order_of c.self.inside.order)
+      keys-stay (rows_of c.self.inside.rows.entries) (has_key c.self.inside.order)
           c.self.invariant.1 (download_of (wait_key_of c.args.key))
           (rows_of (c.get_mut.follows.lender c.take.new.self).entries)
           (waiting_of c.in-Some.row.now) (waiting_of c.take.new.self) row there,
@@ -99,5 +99,5 @@ returns-else-is_empty c =
 pub invariant_of-self : goal.invariant_of-self
 invariant_of-self c =
     subst (λ m. Agrees (rows_of m.entries) (about_of c.self.inside.about.entries)
-    × HasKeysOf (rows_of m.entries) (order_of c.self.inside.order))
+    × HasKeysOf (rows_of m.entries) (has_key c.self.inside.order))
     (sym c.get_mut.follows.holds-at-none) c.self.invariant

@@ -7,5 +7,5 @@ use Rattle.store.proofs.QueueListed.{HasAll}
 use Rattle.store.proofs.waits.Waits.first_from.Given as goal
 
 abbrev pub invariant-loop-key : goal.invariant-loop-key
-invariant-loop-key l = HasAll l.self l.carrier.number l.key-iterator
+invariant-loop-key l = HasAll l.fn.self l.carrier.number l.key-iterator
     × IsStrictlySortedBy (on queue_key_of download_cmp) (keys_of l.key-iterator)

@@ -1,4 +1,4 @@
-use Rattle.std.proofs.Common.{rules, ◌≡◌, true, Some, None, inr, refl, ap, sym, ◌∙◌, subst}
+use Rattle.std.proofs.Common.{rules, ◌≡◌, true, Some, None, ap, sym, ◌∙◌, subst}
 use Rattle.std.specs.FinMap.{FinMap, get}
 use Rattle.numbers.specs.Subjects.{Subject}
 use Rattle.numbers.specs.Abstraction.{subject_of}
@@ -6,10 +6,9 @@ use Rattle.model.specs.Content.{wait_cmp}
 use Rattle.settle.specs.Abstraction.{wait_key_of}
 use Rattle.store.specs.Maps.{set}
 use Rattle.store.specs.About.{IsKey, about_of}
-use Rattle.store.specs.QueueRows.{HasKeysOf, order_of}
+use Rattle.store.specs.QueueRows.{HasKeysOf, has_key}
 use Rattle.store.specs.WaitRows.{download_of, waiting_of, rows_of}
-use Rattle.store.proofs.Maps.{set-gone}
-use Rattle.store.proofs.QueueOrder.{keys-stay, keys-changed, keys-kept}
+use Rattle.store.proofs.QueueOrder.{keys-stay, keys-added, keys-kept, keys-back}
 use Rattle.store.proofs.RowsChanged.{Agrees, agrees-same, agrees-kept, agrees-new, agrees-back, row-same}
 use Rattle.store.proofs.WaitsKept.{IsPut, row-at, wait-at, row-written, if-ok-then, on-ok-from, subject-stays, added-waits, first-waits}
 use Rattle.store.proofs.Steps.{err-then}
@@ -34,7 +33,7 @@ invariant_of-self c =
           (subject-stays c.add.result c.args.key.carrier.number (subject_of c.args.subject)
           (waiting_of c.in-Some.row.now) (waiting_of c.add.new.self) c.add.ensures.added
           c.add.ensures.refused) c.self.invariant.0,
-      keys-stay (rows_of c.self.inside.rows.entries) (order_of c.self.inside.order)
+      keys-stay (rows_of c.self.inside.rows.entries) (has_key c.self.inside.order)
           c.self.invariant.1 (download_of (wait_key_of c.args.key))
           (rows_of (c.get_mut.follows.lender c.add.new.self).entries)
           (waiting_of c.in-Some.row.now) (waiting_of c.add.new.self) row there,
@@ -98,10 +97,11 @@ invariant_of-self-in-Ok c =
           (subst (λ s. IsKey (about_of c.self.inside.about.entries)
           (about_of c.add_keys.new.about.entries) s (download_of (wait_key_of c.args.key)) true)
           (sym c.of-row.ensures.same) c.in_ok-add_keys.ensures.ok.0),
-      keys-changed (rows_of c.self.inside.rows.entries) (order_of c.self.inside.order)
+      keys-added (rows_of c.self.inside.rows.entries) (has_key c.self.inside.order)
           c.self.invariant.1 (download_of (wait_key_of c.args.key))
-          (rows_of c.insert.new.self.entries) (order_of c.add_keys.new.order)
-          (Some (waiting_of c.of-row.result)) (Some tt) row c.in_ok-add_keys.ensures.ok.1 refl,
+          (rows_of c.insert.new.self.entries) (has_key c.add_keys.new.order)
+          (Some (waiting_of c.of-row.result)) row c.in_ok-add_keys.ensures.ok.1.0
+          c.in_ok-add_keys.ensures.ok.1.1,
     )
 
 pub returns-in-Ok-clause-before : goal.returns-in-Ok-clause-before
@@ -130,17 +130,15 @@ invariant_of-self-in-Err c =
     let none = row-at c.self.inside.rows.entries c.broadcast_of-broadcast.result
     (wait_key_of c.args.key) None c.broadcast_of-broadcast.ensures (search rules) in
     subst (λ es. Agrees (rows_of es) (about_of c.remove_keys.new.about.entries)
-    × HasKeysOf (rows_of es) (order_of c.remove_keys.new.order)) (sym same) (
+    × HasKeysOf (rows_of es) (has_key c.remove_keys.new.order)) (sym same) (
       agrees-back (rows_of c.self.inside.rows.entries) (about_of c.self.inside.about.entries)
           (about_of c.add_keys.new.about.entries) (about_of c.remove_keys.new.about.entries)
           (download_of (wait_key_of c.args.key)) (subject_of c.args.subject) none
           c.in_ok-add_keys.ensures.ok.0 c.remove_keys.ensures.0 c.self.invariant.0,
-      keys-kept (rows_of c.self.inside.rows.entries) (order_of c.self.inside.order)
+      keys-back (rows_of c.self.inside.rows.entries) (has_key c.self.inside.order)
           c.self.invariant.1 (download_of (wait_key_of c.args.key))
-          (order_of c.remove_keys.new.order) none
-          (inr (set-gone (order_of c.self.inside.order) (order_of c.add_keys.new.order)
-          (order_of c.remove_keys.new.order) (download_of (wait_key_of c.args.key)) (Some tt)
-          c.in_ok-add_keys.ensures.ok.1 c.remove_keys.ensures.1)),
+          (has_key c.add_keys.new.order) (has_key c.remove_keys.new.order) none
+          c.in_ok-add_keys.ensures.ok.1.1 c.remove_keys.ensures.1,
     )
 
 -- ---- nothing is added
@@ -150,12 +148,12 @@ invariant_of-self-in_err-add_keys c =
     let none = row-at c.self.inside.rows.entries c.broadcast_of-broadcast.result
     (wait_key_of c.args.key) None c.broadcast_of-broadcast.ensures (search rules) in
     subst (λ m. Agrees (rows_of m.entries) (about_of c.add_keys.new.about.entries)
-    × HasKeysOf (rows_of m.entries) (order_of c.add_keys.new.order))
+    × HasKeysOf (rows_of m.entries) (has_key c.add_keys.new.order))
     (sym c.get_mut.follows.holds-at-none) (
       agrees-same (rows_of c.self.inside.rows.entries) (about_of c.self.inside.about.entries)
           (about_of c.add_keys.new.about.entries) c.in_err-add_keys.ensures.err.0
           c.self.invariant.0,
-      keys-kept (rows_of c.self.inside.rows.entries) (order_of c.self.inside.order)
-          c.self.invariant.1 (download_of (wait_key_of c.args.key)) (order_of c.add_keys.new.order)
+      keys-kept (rows_of c.self.inside.rows.entries) (has_key c.self.inside.order)
+          c.self.invariant.1 (download_of (wait_key_of c.args.key)) (has_key c.add_keys.new.order)
           none c.in_err-add_keys.ensures.err.1,
     )

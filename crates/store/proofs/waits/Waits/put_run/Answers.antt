@@ -1,4 +1,4 @@
-use Rattle.std.proofs.Common.{rules, ◌≡◌, Some, None, true, inr, refl, take, map, sym, subst}
+use Rattle.std.proofs.Common.{rules, ◌≡◌, Some, None, true, take, map, sym, subst}
 use Rattle.std.specs.FinMap.{FinMap}
 use Rattle.std.specs.Map.{lookup}
 use Rattle.numbers.specs.Subjects.{Subject}
@@ -8,11 +8,10 @@ use Rattle.settle.specs.Abstraction.{spid_of, wait_key_of}
 use Rattle.store.specs.Batch.{AreNew}
 use Rattle.store.specs.Runs.{carriers_in, run_length}
 use Rattle.store.specs.About.{IsKey, about_of}
-use Rattle.store.specs.QueueRows.{AreOf, HasKeysOf, order_of}
+use Rattle.store.specs.QueueRows.{AreOf, HasKeysOf, has_key}
 use Rattle.store.specs.WaitRows.{Waiting, download_of, waiting_of, waits_of, rows_of}
-use Rattle.store.proofs.Maps.{set-gone}
 use Rattle.store.proofs.NewRuns.{IsRun, run-first, run-of, run-waits}
-use Rattle.store.proofs.QueueOrder.{keys-changed, keys-kept}
+use Rattle.store.proofs.QueueOrder.{keys-added, keys-kept, keys-back}
 use Rattle.store.proofs.RowsChanged.{IsRow, Agrees, agrees-same, agrees-new, agrees-back}
 use Rattle.store.proofs.WaitsKept.{same_key, none-from, row-at, row-written}
 use Rattle.store.proofs.waits.Waits.put_run.Goals as goal
@@ -34,9 +33,10 @@ invariant_of-self-in-Ok c =
           (subst (λ s. IsKey (about_of c.self.inside.about.entries)
           (about_of c.add_keys.new.about.entries) s d true) (sym c.in_ok-row.ensures.subject)
           c.in_ok-add_keys.ensures.ok.0),
-      keys-changed (rows_of rows) (order_of c.self.inside.order) c.self.invariant.1 d
-          (rows_of c.insert.new.self.entries) (order_of c.add_keys.new.order)
-          (Some (waiting_of c.in_ok-row.row)) (Some tt) row c.in_ok-add_keys.ensures.ok.1 refl,
+      keys-added (rows_of rows) (has_key c.self.inside.order) c.self.invariant.1 d
+          (rows_of c.insert.new.self.entries) (has_key c.add_keys.new.order)
+          (Some (waiting_of c.in_ok-row.row)) row c.in_ok-add_keys.ensures.ok.1.0
+          c.in_ok-add_keys.ensures.ok.1.1,
     )
 
 pub returns-in-Ok-clause-new : goal.returns-in-Ok-clause-new
@@ -72,16 +72,14 @@ invariant_of-self-in-Err c =
     let none = row-at rows b (wait_key_of c.args.key) None c.broadcast_of-broadcast.ensures
     (none-from (lookup (same_key b) rows) (search rules)) in
     subst (λ es. Agrees (rows_of es) (about_of c.remove_keys.new.about.entries)
-    × HasKeysOf (rows_of es) (order_of c.remove_keys.new.order)) (sym same) (
+    × HasKeysOf (rows_of es) (has_key c.remove_keys.new.order)) (sym same) (
       agrees-back (rows_of rows) (about_of c.self.inside.about.entries)
           (about_of c.add_keys.new.about.entries) (about_of c.remove_keys.new.about.entries) d
           (subject_of c.args.subject) none c.in_ok-add_keys.ensures.ok.0 c.remove_keys.ensures.0
           c.self.invariant.0,
-      keys-kept (rows_of rows) (order_of c.self.inside.order) c.self.invariant.1 d
-          (order_of c.remove_keys.new.order) none
-          (inr (set-gone (order_of c.self.inside.order) (order_of c.add_keys.new.order)
-          (order_of c.remove_keys.new.order) d (Some tt) c.in_ok-add_keys.ensures.ok.1
-          c.remove_keys.ensures.1)),
+      keys-back (rows_of rows) (has_key c.self.inside.order) c.self.invariant.1 d
+          (has_key c.add_keys.new.order) (has_key c.remove_keys.new.order) none
+          c.in_ok-add_keys.ensures.ok.1.1 c.remove_keys.ensures.1,
     )
 
 pub invariant_of-self : goal.invariant_of-self
@@ -94,8 +92,8 @@ invariant_of-self c =
       agrees-same (rows_of rows) (about_of c.self.inside.about.entries)
           (about_of c.add_keys.new.about.entries) c.in_err-add_keys.ensures.err.0
           c.self.invariant.0,
-      keys-kept (rows_of rows) (order_of c.self.inside.order) c.self.invariant.1 d
-          (order_of c.add_keys.new.order) none c.in_err-add_keys.ensures.err.1,
+      keys-kept (rows_of rows) (has_key c.self.inside.order) c.self.invariant.1 d
+          (has_key c.add_keys.new.order) none c.in_err-add_keys.ensures.err.1,
     )
 
 -- ---- what was added is of one broadcast

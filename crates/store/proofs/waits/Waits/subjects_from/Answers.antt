@@ -6,7 +6,7 @@ use Rattle.std.specs.FinMap.{get, empty}
 use Rattle.numbers.specs.Abstraction.{subject_of}
 use Rattle.store.specs.QueueRows.{queue_key_of, gathered, subjects_of}
 use Rattle.store.specs.WaitRows.{download_cmp, rows_of, wait_for}
-use Rattle.store.proofs.QueueOrder.{part-is}
+use Rattle.store.proofs.QueueOrder.{all-sorted, part-is}
 use Rattle.store.proofs.SubjectsListed.{gathered-step, subjects-are, if_ok}
 use Rattle.store.proofs.waits.Waits.subjects_from.Goals as goal
 
@@ -23,13 +23,15 @@ loop-key-preserved-in-Some-get c =
     (subjects_of c.loop-key.subjects)) (sym next)
     ∙ c.loop-key.invariant
 
-pub returns : goal.returns
-returns c =
+pub returns-clause-found : goal.returns-clause-found
+returns-clause-found c =
     let part : c.into_iter-key-iterator.result ≡ entries_between (on queue_key_of download_cmp)
-    (Included c.args.start) Unbounded c.self.inside.order.entries = search rules in
+    (Included c.args.start) Unbounded c.sort.new.self.sorted.entries = search rules in
     let end : c.loop-key.key-iterator ≡ [] = search rules in
-    let is = part-is c.self.inside.order c.args.start c.into_iter-key-iterator.result part
-    (rows_of c.self.inside.rows.entries) c.args.carrier.number c.args.self.now c.self.invariant.1
+    let is = part-is c.sort.new.self.sorted c.args.start c.into_iter-key-iterator.result part
+    (rows_of c.self.inside.rows.entries) c.args.carrier.number c.args.self.now
+    (all-sorted (rows_of c.self.inside.rows.entries) c.self.inside.order c.sort.new.self
+    c.self.invariant.1 c.sort.ensures.keeps c.in_ok-sort.ensures.sorted)
     c.self.view_is c.range-key-items.ensures.ordered c.requires in
     let all : subjects_of c.loop-key.subjects ≡ gathered c.args.self.now c.args.carrier.number
     c.into_iter-key-iterator.result empty =

@@ -3,7 +3,7 @@ use Rattle.std.specs.FinMap.{FinMap}
 use Rattle.numbers.specs.Subjects.{Subject}
 use Rattle.model.specs.Content.{wait_cmp, wait_key}
 use Rattle.store.specs.About.{about_of}
-use Rattle.store.specs.QueueRows.{order_of}
+use Rattle.store.specs.QueueRows.{has_key}
 use Rattle.store.specs.Ranks.{subject_at}
 use Rattle.store.specs.Sharing.{TakesWait}
 use Rattle.store.specs.WaitRows.{download_of, is_shared, rows_of, spids_of, waiting_of, waits_of}
@@ -32,7 +32,7 @@ invariant_of-self-then-not-is_shared c =
     let there = row-at old b k (Some was) refl (search rules) in (
       agrees-kept (rows_of old) (rows_of new) (about_of c.self.inside.about.entries)
           (download_of k) (waiting_of was) (waiting_of was) row there refl c.self.invariant.0,
-      keys-stay (rows_of old) (order_of c.self.inside.order) c.self.invariant.1 (download_of k)
+      keys-stay (rows_of old) (has_key c.self.inside.order) c.self.invariant.1 (download_of k)
           (rows_of new) (waiting_of was) (waiting_of was) row there,
     )
 
@@ -73,7 +73,7 @@ invariant_of-self-2 c =
       agrees-kept (rows_of old) (rows_of new) (about_of c.self.inside.about.entries)
           (download_of k) (waiting_of was) (waiting_of now) row there c.take.ensures.same
           c.self.invariant.0,
-      keys-stay (rows_of old) (order_of c.self.inside.order) c.self.invariant.1 (download_of k)
+      keys-stay (rows_of old) (has_key c.self.inside.order) c.self.invariant.1 (download_of k)
           (rows_of new) (waiting_of was) (waiting_of now) row there,
     )
 
