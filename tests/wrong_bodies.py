@@ -10,8 +10,8 @@ others that were not, until a check refuses none of them: what is left then is p
 
 The file tests/refused records the edits that did as they have to, each with a checksum of all that it depends on: the edit, the
 sources, definitions and proofs of its crate, and the contracts, definitions and cited lemmas of those below. The checksum is over tokens,
-so that neither a comment nor the layout of code sends an edit back to be tried. With --changed only edits without such a record are tried, so that the gate pays only for what
-changed. The file tests/untried names those that are new or stand on changed code, and wait to be tried over the sources as they are:
+so that neither a comment nor the layout of code nor a hint where to inline sends an edit back to be tried. With --changed only edits
+without such a record are tried, so that the gate pays only for what changed. The file tests/untried names those that are new or stand on changed code, and wait to be tried over the sources as they are:
 with --changed they are skipped and counted. One that does as it has to is taken out of that file.
 
 An edit is a file crates/NAME/wrong-bodies/*.edit, of the form of must-fail edits: a line 'file: src/lib.rt', then pairs of lines
@@ -38,6 +38,8 @@ WAITING = "tests/untried"
 NOTING = threading.Lock()
 # a text, a word, or a sign
 TOKEN = re.compile(r'"(?:\\.|[^"\\])*"|\w+|[^\w\s]')
+# a hint where to inline, which no proof sees
+HINT = re.compile(r"\s*#\[(?:inline(?:\(\w+\))?|cold)\]")
 
 
 @dataclass
@@ -135,13 +137,15 @@ def together(edits):
 # ---- the record
 
 def significant(path, text):
-    """Returns what the prover reads of a file: without comments and empty lines, and of code, whose layout means nothing, the tokens alone.
+    """Returns what the prover reads of a file: without comments, empty lines and hints where to inline, and of code, whose layout means
+    nothing, the tokens alone.
 
     A comment takes whole lines, in code and in definitions alike.
     """
     is_code = path.endswith(".rt")
     comment = "//" if is_code else "--"
-    lines = [line.rstrip() for line in text.split("\n") if line.strip() and not line.lstrip().startswith(comment)]
+    lines = [line.rstrip() for line in text.split("\n")
+             if line.strip() and not line.lstrip().startswith(comment) and not (is_code and HINT.fullmatch(line))]
     return " ".join(TOKEN.findall("\n".join(lines))) if is_code else "\n".join(lines)
 
 
