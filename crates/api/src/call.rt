@@ -195,6 +195,8 @@ fn answer_admitted<S: Store>(
 }
 
 // Makes a call if its caller may make it.
+// Inlined: every message passes here, and each call clears and moves its result.
+#[inline(always)]
 fn answer<S: Store>(
     register: &mut Register<S>,
     caller: Spid,
@@ -221,6 +223,8 @@ fn answer<S: Store>(
 }
 
 // Executes what a body asks.
+// Inlined: every message passes here, and each call clears and moves its result.
+#[inline(always)]
 fn answer_asked<S: Store>(
     alloc: Global,
     register: &mut Register<S>,
@@ -346,6 +350,8 @@ fn answer_parsed<S: Store>(
 }
 
 // Parses the body of a message on a route, and executes what it asks.
+// Inlined: every message passes here, and each call clears and moves its result.
+#[inline(always)]
 fn answer_body<S: Store>(
     alloc: Global,
     register: &mut Register<S>,
@@ -423,6 +429,8 @@ fn downloads_call(count: Option<u64>, body: &[u8]) -> Result<Call, MessageFault>
 }
 
 // Executes what a message asks on a route.
+// Inlined: every message passes here, and each call clears and moves its result.
+#[inline(always)]
 fn answer_message<S: Store>(
     alloc: Global,
     register: &mut Register<S>,
@@ -458,6 +466,8 @@ fn answer_message<S: Store>(
     }
 }
 
+// Inlined: every message passes here, and each call clears and moves its result.
+#[inline(always)]
 fn reply<S: Store>(
     alloc: Global,
     register: &mut Register<S>,
@@ -490,6 +500,8 @@ fn reply<S: Store>(
 /// Executes a message without a supplied minute, and writes its response. Reserves all memory of
 /// the response before execution; for a query, which changes nothing, after the look-up. `clock`
 /// says whether `POST /clock` is offered.
+// Inlined: every message passes here, and each call clears and moves its result.
+#[inline(always)]
 pub fn write_response<S: Store>(
     alloc: Global,
     register: &mut Register<S>,

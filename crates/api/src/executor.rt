@@ -76,6 +76,8 @@ pub struct Executor {
 // Moves the clock to the minute that `ticks` supplies, executes the message, and writes the
 // response to `response`. If the clock cannot be moved, that failure is the response and the
 // message is not executed.
+// Inlined: every message passes here, and each call clears and moves its result.
+#[inline(always)]
 fn tick_and_answer<S: Store, T: Ticks>(
     alloc: Global,
     register: &mut Register<S>,
@@ -233,6 +235,8 @@ impl Executor {
 
     // Answers what is next in the bytes, and leaves the response in `self.response`. Returns why
     // serving ends if it is the last one.
+    // Inlined: every message passes here, and each call clears and moves its result.
+    #[inline(always)]
     pub(crate) fn respond<S: Store, T: Ticks>(
         &mut self,
         register: &mut Register<S>,

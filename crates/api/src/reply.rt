@@ -129,6 +129,8 @@ fn put_donation(
     Ok(())
 }
 
+// Inlined: a reply is then not written to memory.
+#[inline(always)]
 fn put_shown(response: &mut ResponseBuffer, view: &VersionView)
     requires empty { IsEmpty response.old }
     requires capacity { HasCapacity 512 response.old }
@@ -170,6 +172,8 @@ fn put_set(response: &mut ResponseBuffer, now: Minute, number: u16)
 }
 
 /// Writes a reply. Fails only if it has more rows, downloads or ids than `bounds`.
+// Inlined: a reply is then not written to memory.
+#[inline(always)]
 pub fn put_reply(
     response: &mut ResponseBuffer,
     reply: &Reply,

@@ -82,6 +82,8 @@ fn plain_query(body: &[u8]) -> Option<ApiCall<'_>>
 }
 
 // Reads the body of an acknowledgement.
+// Inlined: a call is large, and each return moves it.
+#[inline(always)]
 fn plain_acknowledgement(body: &[u8]) -> Option<ApiCall<'_>>
     ensures { IfSome result (λ asked. IsAsked Route.Acknowledge body.now (api_call_model asked)) }
 {
@@ -144,6 +146,8 @@ fn port_at(bytes: &[u8], due: u64, creator: Creator) -> Option<Create>
 }
 
 // Reads the body of a create by the old provider.
+// Inlined: a call is large, and each return moves it.
+#[inline(always)]
 fn plain_old_provider_create(body: &[u8]) -> Option<ApiCall<'_>>
     ensures { IfSome result
         (λ asked. IsAsked Route.OldProviderCreate body.now (api_call_model asked)) }
@@ -155,6 +159,8 @@ fn plain_old_provider_create(body: &[u8]) -> Option<ApiCall<'_>>
 }
 
 // Reads the body of a create by the new provider, without a carrier identification code.
+// Inlined: a call is large, and each return moves it.
+#[inline(always)]
 fn plain_new_provider_create(body: &[u8]) -> Option<ApiCall<'_>>
     ensures { IfSome result
         (λ asked. IsAsked Route.NewProviderCreate body.now (api_call_model asked)) }
@@ -191,6 +197,8 @@ fn bare_command(path: VersionPath) -> Option<VersionCommand>
 }
 
 // Reads the body of a command on a version that has only an id.
+// Inlined: a call is large, and each return moves it.
+#[inline(always)]
 fn plain_command(path: VersionPath, body: &[u8]) -> Option<ApiCall<'_>>
     ensures { IfSome result
         (λ asked. IsAsked (Route.OnVersion path) body.now (api_call_model asked)) }
@@ -206,6 +214,8 @@ fn plain_command(path: VersionPath, body: &[u8]) -> Option<ApiCall<'_>>
 /// Returns what a body asks on a route, if it is that of a query, an acknowledgement, a create or a
 /// command on a version, and written plainly: in bytes, with the keys in order and without spaces
 /// and escapes. `None` does not imply that it asks nothing.
+// Inlined: a call is large, and each return moves it.
+#[inline(always)]
 pub fn plain_call(route: Route, body: &[u8]) -> Option<ApiCall<'_>>
     ensures { IfSome result (λ asked. IsAsked route body.now (api_call_model asked)) }
 {

@@ -143,6 +143,8 @@ fn lrn_of(routing: Option<Routing>) -> Option<Lrn>
 }
 
 // Writes the members `attempt` to `id` before the tail.
+// Inlined: the view is then not written to memory.
+#[inline(always)]
 fn prepend_counts(tail: &mut Tail<256>, view: &VersionView)
     requires { length tail.old + 90 ≤ 256 }
     ensures text { tail.new ≡ counts_text (view_of view.now) ++ tail.old }
@@ -159,6 +161,8 @@ fn prepend_counts(tail: &mut Tail<256>, view: &VersionView)
 }
 
 // Writes the members `lrn` to `old` before the tail.
+// Inlined: the view is then not written to memory.
+#[inline(always)]
 fn prepend_parties(tail: &mut Tail<256>, view: &VersionView)
     requires { length tail.old + 45 ≤ 256 }
     ensures text { tail.new ≡ parties_text (view_of view.now) ++ tail.old }
@@ -174,6 +178,8 @@ fn prepend_parties(tail: &mut Tail<256>, view: &VersionView)
 }
 
 // Writes the members `phase` to `since` before the tail.
+// Inlined: the view is then not written to memory.
+#[inline(always)]
 fn prepend_times(tail: &mut Tail<256>, view: &VersionView)
     requires { length tail.old + 64 ≤ 256 }
     ensures text { tail.new ≡ times_text (view_of view.now) ++ tail.old }
@@ -188,6 +194,8 @@ fn prepend_times(tail: &mut Tail<256>, view: &VersionView)
 }
 
 // Writes the members `status` and `subject` before the tail.
+// Inlined: the view is then not written to memory.
+#[inline(always)]
 fn prepend_state(tail: &mut Tail<256>, view: &VersionView)
     requires { length tail.old + 54 ≤ 256 }
     ensures text { tail.new ≡ state_text (view_of view.now) ++ tail.old }
@@ -202,6 +210,8 @@ fn prepend_state(tail: &mut Tail<256>, view: &VersionView)
 
 /// Appends the body with a version, of at most 400 bytes.
 #[tactic(auto, unfolding(crate::specs::Texts::view_text))]
+// Inlined: the view is then not written to memory.
+#[inline(always)]
 pub fn put_version(out: &mut String, view: &VersionView)
     requires { string_len out.old + 400 ≤ string_capacity out.old }
     ensures bytes { string_bytes out.new ≡ string_bytes out.old ++ view_text (view_of view.now) }

@@ -94,6 +94,8 @@ fn plain_text(bytes: &[u8]) -> &str
 }
 
 // Reads a text in quotes. Returns it and the bytes after it.
+// Inlined: each return moves what was read and the rest.
+#[inline(always)]
 pub(crate) fn text_at(bytes: &[u8]) -> Option<(&str, &[u8])>
     ensures utf8 { IfSome result (λ found. IsUtf8 found.0.now) }
     ensures text { IfSome result (λ found. bytes.now ≡ quoted found.0.now ++ found.1.now) }
@@ -105,6 +107,8 @@ pub(crate) fn text_at(bytes: &[u8]) -> Option<(&str, &[u8])>
 }
 
 // Reads a whole number without leading zeros. Returns it and the bytes after it.
+// Inlined: each return moves what was read and the rest.
+#[inline(always)]
 pub(crate) fn whole_at(bytes: &[u8]) -> Option<(u64, &[u8])>
     ensures { IfSome result (λ found. IsScalarThen bytes.now (WholeValue found.0) found.1.now) }
 {

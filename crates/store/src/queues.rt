@@ -223,6 +223,8 @@ impl Queues {
     /// Deletes the carrier's download of the only broadcast of the subject at this place, and returns
     /// its minute. Returns `None` and changes nothing unless the broadcast has this version's id and
     /// this attempt, and is pending for the carrier and for another registered one.
+    // Inlined: a row is large, and each return moves it.
+    #[inline(always)]
     pub fn take_shared(
         &mut self,
         registered: &Carriers,

@@ -13,6 +13,8 @@ use settle::VersionRow;
 /// - the carrier is registered, and the version has been broadcast and awaits the answers;
 /// - the broadcast is the only pending one of the version's subject;
 /// - the broadcast is pending for the carrier, and for another registered carrier too.
+// Inlined: a row is large, and each return moves it.
+#[inline(always)]
 pub fn take_shared(tables: &mut Tables, carrier: Spid, id: u64, attempt: u64) -> Option<VersionRow>
     requires { AreIndexed tables.old }
     ensures taken { TakesSharedOrNone (content_of tables.old) (content_of tables.new)
