@@ -11,10 +11,8 @@ use Rattle.std.specs.Str.{all_ascii_digits}
 use Rattle.std.proofs.Math.Seq.{drop-append_seam}
 use Rattle.http_messages.specs.Plain.{IsCallerThen, IsHeadAt, IsLengthAndEnd, IsRouteThen, is_visible}
 use Rattle.http_messages.specs.Parsing.{IsCaller, IsNamed, IsRequestOf}
-use Rattle.http_messages.specs.Table.{path_of}
 use Rattle.http_messages.specs.declared.message.Request.{Request}
 use Rattle.http_messages.specs.declared.paths.Method.TheVariants.{Post, Get}
-use Rattle.http_messages.specs.declared.paths.Route.TheVariants.{Acknowledge, Query}
 use Rattle.http_messages.proofs.NumberLemmas.{none_number}
 use Rattle.numbers.proofs.DigitLemmas.{utf8_small}
 use Rattle.numbers.specs.Spids.{is_spid_character}
