@@ -1,5 +1,5 @@
 -- Searches in an ascending list of carriers, and carriers that are added to it or removed from it.
-use Rattle.std.proofs.Common.{◌≡◌, ◌<◌, ◌≤◌, ℕ, zero, suc, Bool, true, false, cond, List, [], ◌∷◌, map, Option, Some, None, refl, ap, sym, ◌∙◌, subst, arith, length}
+use Rattle.std.proofs.Common.{◌≡◌, ◌≢◌, ◌<◌, ◌≤◌, ◌+◌, ◌-◌, ◌*◌, ◌/◌, ℕ, zero, suc, Bool, true, false, cond, List, [], ◌∷◌, map, Option, Some, None, refl, ap, sym, ◌∙◌, subst, arith, length}
 use Rattle.std.specs.Prelude.{◌==◌, filter, not, is_some, slice_index_or, Result, Ok, Err, OnOk, OnErr, IfErr, T, if◌then◌else◌}
 use Rattle.std.specs.declared.cmp.Ordering.TheVariants.{Less, Equal, Greater}
 use Rattle.std.specs.Cmp.{nat_cmp_total}
@@ -8,13 +8,18 @@ use Rattle.std.specs.FinMap.Entries.{below_all, by_order, where_key, find-put, f
 use Rattle.std.specs.List.{insert, HoldsAt}
 use Rattle.std.specs.List.Sorted.{IsBinarySearchResult, IsSearchInRange}
 use Rattle.std.specs.Ordering.{nat_cmp, eq_by_cmp, is_lt, ordering_index}
+use Rattle.std.proofs.lemmas.Bool.{eqb-true, eqb-false, leb-true, leb-false}
 use Rattle.std.proofs.lemmas.Bool.Decides.{nat_tests}
+use Rattle.std.proofs.lemmas.List.{get_or_default}
+use Rattle.std.proofs.Math.Dec.{eqb, leb}
+use Rattle.std.proofs.Math.Nat.{lt_of_not-le}
+use mir.Val.{bool_byte}
 use Rattle.std.proofs.lemmas.Cmp.{ranked}
 use Rattle.numbers.proofs.Small.{and_first, and_second}
 use Rattle.numbers.specs.declared.spid.Spid.{Spid}
 use Rattle.settle.specs.Abstraction.{spid_of}
 use Rattle.model.proofs.Lists.{filter-map}
-use Rattle.store.specs.Carriers.{carrier_entries, registered_in, AreAscending, IsPlaceFor}
+use Rattle.store.specs.Carriers.{carrier_entries, registered_in, AreAscending, IsOnlyPlace, IsPlaceFor}
 use Rattle.store.specs.Maps.{set}
 use Rattle.store.proofs.Changed.{set_number}
 use Rattle.store.proofs.Maps.{set-back, set-same}
@@ -53,6 +58,15 @@ numbers-rise (c ∷ cs) is zero (suc j) d le inside =
 numbers-rise (c ∷ cs) is (suc i) zero d le inside = absurd (omega (arith, le))
 numbers-rise (c ∷ cs) is (suc i) (suc j) d le inside =
     numbers-rise cs (and_second _ _ is) i j d (omega (arith, le)) (omega (arith, inside))
+
+numbers-climb : (cs : List Spid) → AreAscending cs → (i j : ℕ) (d : Spid) → i < j → j < length cs
+    → (slice_index_or cs i d).number < (slice_index_or cs j d).number
+numbers-climb [] is i j d lt inside = absurd (omega (arith, inside))
+numbers-climb (c ∷ cs) is i zero d lt inside = absurd (omega (arith, lt))
+numbers-climb (c ∷ cs) is zero (suc j) d lt inside =
+    below-at c.number cs j d (and_first _ _ is) (omega (arith, inside))
+numbers-climb (c ∷ cs) is (suc i) (suc j) d lt inside =
+    numbers-climb cs (and_second _ _ is) i j d (omega (arith, lt)) (omega (arith, inside))
 
 -- ---- the search
 
@@ -137,6 +151,94 @@ searched cs number (Err place) is inside parted =
       absent = get-registered cs number ∙ absent-at cs number place at;
       place = at;
     }
+
+-- ---- the search without branches
+
+by_contradiction : (n most : ℕ) → (most < n → ⊥) → n ≤ most
+by_contradiction n most wrong =
+    omega (arith, lt_of_not-le (λ (more : most + 1 ≤ n). wrong (omega (arith, more))))
+
+-- A carrier with the number is among so many from a place on.
+abbrev pub IsAmong : List Spid → (number place left : ℕ) → Type 0
+IsAmong cs number place left = (place + left ≤ length cs) × ((k : ℕ) (d : Spid) → k < length cs
+    → (slice_index_or cs k d).number ≡ number → (place ≤ k) × (k < place + left))
+
+module _ (cs : List Spid) (number place left : ℕ) (is : AreAscending cs) (many : 1 < left)
+    (among : IsAmong cs number place left) (e : Spid) where
+  abbrev mid : Spid
+  mid = slice_index_or cs (place + left / 2) e
+
+  middle : (d : Spid) → (slice_index_or cs (place + left / 2) d).number ≡ mid.number
+  middle d = ap (λ (c : Spid). c.number)
+      (get_or_default cs (place + left / 2) d e (omega (arith, many, among.0)))
+
+  upper : mid.number ≤ number → IsAmong cs number (place + left / 2) (left - left / 2)
+  upper le = (
+    omega (arith, many, among.0),
+    λ k d inside own. (
+      by_contradiction (place + left / 2) k (λ lt.
+          let before : place + left / 2 < length cs = omega (arith, many, among.0) in
+          let climbs = numbers-climb cs is k (place + left / 2) d lt before in
+          omega (arith, le, own, middle d, climbs)),
+      omega (arith, many, (among.1 k d inside own).1),
+    ),
+  )
+
+  lower : number < mid.number → IsAmong cs number place (left - left / 2)
+  lower lt = (
+    omega (arith, many, among.0),
+    λ k d inside own. (
+      (among.1 k d inside own).0,
+      by_contradiction (suc k) (place + (left - left / 2)) (λ after.
+          let behind : place + left / 2 ≤ k = omega (arith, many, after) in
+          let rises = numbers-rise cs is (place + left / 2) k d behind inside in
+          omega (arith, lt, own, middle d, rises)),
+    ),
+  )
+
+  halved-by : (b : Bool) → leb mid.number number ≡ b
+      → IsAmong cs number (place + left / 2 * bool_byte b) (left - left / 2)
+  halved-by true le = subst (λ p. IsAmong cs number p (left - left / 2))
+      (omega arith) (upper (leb-true mid.number number le))
+  halved-by false lt = subst (λ p. IsAmong cs number p (left - left / 2))
+      (omega arith) (lower (leb-false mid.number number lt))
+
+  pub halved : (n : ℕ) → n ≡ bool_byte (leb mid.number number)
+      → IsAmong cs number (place + left / 2 * n) (left - left / 2)
+  halved n is_n = subst (λ t. IsAmong cs number (place + left / 2 * t) (left - left / 2)) (sym is_n)
+      (halved-by (leb mid.number number) refl)
+
+unequal : (a b : ℕ) → a ≢ b → eq_by_cmp nat_cmp b a ≡ false
+unequal a b ne = grind (arith, nat_tests, ne)
+
+-- If no carrier of the list has the number, none is found.
+none-found : (cs : List Spid) (number : ℕ)
+    → ((k : ℕ) (d : Spid) → k < length cs → (slice_index_or cs k d).number ≢ number)
+    → is_some (get (registered_in cs) number) ≡ false
+none-found cs number none = ap is_some (get-registered cs number ∙ missing cs number
+    (λ k d inside. unequal (slice_index_or cs k d).number number (none k d inside)))
+
+pub none-behind : (cs : List Spid) (number place : ℕ) → length cs ≤ place
+    → IsOnlyPlace cs number place → is_some (get (registered_in cs) number) ≡ false
+none-behind cs number place behind only = none-found cs number
+    (λ k d inside own. omega (arith, only k d inside own, inside, behind))
+
+-- Whether the carrier at the only place for the number has it.
+found-by : (cs : List Spid) (number place : ℕ) (d : Spid) (b : Bool) → place < length cs
+    → IsOnlyPlace cs number place → eqb (slice_index_or cs place d).number number ≡ b
+    → is_some (get (registered_in cs) number) ≡ b
+found-by cs number place d true inside only same = ap is_some (get-registered cs number
+    ∙ subst (λ n. find nat_cmp n (carrier_entries cs) ≡ Some tt)
+    (eqb-true (slice_index_or cs place d).number number same) (find-at cs place d inside))
+found-by cs number place d false inside only same = none-found cs number (λ k e at own.
+    let own_place = ap (λ (c : Spid). c.number) (get_or_default cs place d e inside)
+    ∙ ap (λ n. (slice_index_or cs n e).number) (sym (only k e at own)) ∙ own in
+    eqb-false (slice_index_or cs place d).number number same own_place)
+
+pub found-there : (cs : List Spid) (number place : ℕ) (d : Spid) → place < length cs
+    → IsOnlyPlace cs number place
+    → eqb (slice_index_or cs place d).number number ≡ is_some (get (registered_in cs) number)
+found-there cs number place d inside only = sym (found-by cs number place d _ inside only refl)
 
 -- ---- a carrier added
 

@@ -2,7 +2,7 @@
 ghost use Rattle.std.specs.Prelude.{◌≡◌, Some, None, IfOk, IfErr, OnOk, OnErr, is_some, map, not};
 ghost use Rattle.std.specs.FinMap.{get, empty, keys};
 ghost use Rattle.settle.specs.Abstraction.{spid_of};
-ghost use Rattle.store.specs.Carriers.{registered_in, AreAscending, IsPlaceFor};
+ghost use Rattle.store.specs.Carriers.{registered_in, AreAscending, IsOnlyPlace, IsPlaceFor};
 ghost use Rattle.store.specs.Maps.{set};
 
 use numbers::Spid;
@@ -41,6 +41,22 @@ fn place_of(all: &[Spid], number: u32) -> Result<usize, usize>
     all.binary_search_by_key(&number, |each| each.number)
 }
 
+// Returns the only place where a carrier with this number can be.
+// Multiplies and does not branch, since nothing foretells which way a search turns.
+fn only_place(all: &[Spid], number: u32) -> usize
+    requires { AreAscending all.now }
+    ensures { IsOnlyPlace all.now number result }
+{
+    let mut place = 0;
+    let mut left = all.len();
+    'halves: while left > 1 {
+        let half = left / 2;
+        place += half * usize::from(all[place + half].number <= number);
+        left -= half;
+    }
+    place
+}
+
 impl Carriers {
     /// Creates an empty list of carriers.
     pub fn new(alloc: Global) -> Carriers
@@ -55,7 +71,10 @@ impl Carriers {
     pub fn contains(&self, carrier: Spid) -> bool
         ensures { result ≡ is_some (get self.now (spid_of carrier)) }
     {
-        place_of(&self.all, carrier.number).is_ok()
+        match self.all.get(only_place(&self.all, carrier.number)) {
+            Some(found) => found.number == carrier.number,
+            None => false,
+        }
     }
 
     /// Returns all carriers, ascending.

@@ -1,8 +1,9 @@
 //! The rows of versions, packed.
 //!
-//! A packed row takes 68 bytes, a `VersionRow` 152. Fields lie in their order, so the widest are
-//! first. None has eight bytes at once, so that the tag of an `Option` takes four only. A missing
-//! minute, code or routing is a number beyond all others.
+//! A packed row takes 68 bytes, a `VersionRow` 152. Fields lie in their order: what a query reads
+//! comes first, and mostly lies in one line of the processor's cache. None has eight bytes at once,
+//! so that the tag of an `Option` takes four only. A missing minute, code or routing is a number
+//! beyond all others.
 ghost use Rattle.std.specs.Prelude.{◌≡◌, option_map};
 ghost use Rattle.numbers.specs.Abstraction.{minute_of, routing_of, subject_of};
 ghost use Rattle.model.specs.Abstraction.{status_of};
@@ -56,23 +57,23 @@ pub enum Kind {
 /// A version's row, packed.
 #[derive(Drop)]
 pub struct PackedRow {
-    attempt: Wide,
-    old_provider: Spid,
-    new_provider: Spid,
     block: BlockId,
-    due: ShortMinute,
-    since: ShortMinute,
-    old_at: Short,
-    new_at: Short,
-    deadline: Short,
     routing: Short,
-    // The routing or the minute that is part of the status.
-    detail: Short,
     line: u16,
     held: u16,
     kind: Kind,
     // Whether its conflict is spent, whether it is protective, in force, and open.
     truths: Truths,
+    attempt: Wide,
+    old_provider: Spid,
+    new_provider: Spid,
+    deadline: Short,
+    // The routing or the minute that is part of the status.
+    detail: Short,
+    due: ShortMinute,
+    since: ShortMinute,
+    old_at: Short,
+    new_at: Short,
 }
 
 impl Model for PackedRow {
