@@ -224,6 +224,7 @@ fn plain_get(bytes: &[u8], router: &Router<Route>) -> Option<(Request, usize)>
 /// Reads a head that is written plainly: the method POST or GET, HTTP/1.1, `x-spid` with a
 /// provider, and for POST `content-length`, in lower case, with one space before each value.
 /// Returns what it asks and its length, or `None` for any other bytes.
+#[inline(always)]
 pub fn plain_head(bytes: &[u8], router: &Router<Route>) -> Option<(Request, usize)>
     requires { router.now ≡ table }
     ensures head { IfSome result (λ found. IsHeadAt bytes.now found.0 found.1) }
