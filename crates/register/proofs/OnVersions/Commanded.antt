@@ -41,7 +41,7 @@ use Rattle.settle.specs.Abstraction.{version_row_of}
 use Rattle.settle.specs.declared.rows.NumberedRow.{NumberedRow}
 use Rattle.settle.specs.declared.rows.VersionRow.TheInside.{Inside}
 use Rattle.register.specs.Refinement.{Refines}
-use Rattle.register.specs.Looking.{AreHeld, IsLookedUp}
+use Rattle.register.specs.Looking.{AreHeld}
 use Rattle.register.proofs.EveryCall.HeldSets.{row_held, windows-now}
 use Rattle.version.proofs.Commanded.{change_holds}
 use Rattle.requests.specs.Calls.{refused_with}
@@ -247,21 +247,25 @@ pub record HasRead (old : Content) (caller id : ℕ) (c : VersionCommand) (clock
   pub tells : AreCommandFacts old c (subject_of u.version.subject) u.version.new_provider.number
       facts
 
--- The facts were read of a content equal to the first.
-pub has_read : (old read : Content) (caller id : ℕ) (c : VersionCommand) (clock : ClockRow)
-    (held : Windows) (u : Inside) (facts : CommandFacts) → read ≡ old
-    → IsLookedUp old (is_some (get old.carriers caller)) id clock (version_row_of u) held
-    → AreCommandFacts read c (subject_of u.version.subject) u.version.new_provider.number facts
+-- Each was read of a content equal to the one before it.
+pub has_read : {old at_clock at_row at_held at_facts : Content} {caller id : ℕ}
+    {c : VersionCommand} {clock : ClockRow} {held : Windows} {u : Inside} {facts : CommandFacts}
+    → at_clock ≡ old → at_row ≡ at_clock → at_held ≡ at_row → at_facts ≡ at_held
+    → is_some (get old.carriers caller) ≡ true → at_clock.clock ≡ Some clock
+    → get at_row.versions id ≡ Some (version_row_of u) → AreHeld at_held clock u.version.held held
+    → AreCommandFacts at_facts c (subject_of u.version.subject) u.version.new_provider.number facts
     → HasRead old caller id c clock held u facts
-has_read old read caller id c clock held u facts same looked tells = record {
-  known = looked.known;
-  clock_is = looked.clock_is;
-  found = looked.found;
-  are_held = looked.are_held;
-  tells = subst (λ m. AreCommandFacts m c (subject_of u.version.subject)
-      u.version.new_provider.number facts)
-      same tells;
-}
+has_read {id = id} {c = c} {clock = clock} {held = held} {u = u} {facts = facts} of_clock of_row
+    of_held of_facts known clock_is found are_held tells = record {
+      known = known;
+      clock_is = ap (λ (m : Content). m.clock) (sym of_clock) ∙ clock_is;
+      found = ap (λ (m : Content). get m.versions id) (sym (of_row ∙ of_clock)) ∙ found;
+      are_held = subst (λ m. AreHeld m clock u.version.held held) (of_held ∙ of_row ∙ of_clock)
+          are_held;
+      tells = subst (λ m. AreCommandFacts m c (subject_of u.version.subject)
+          u.version.new_provider.number facts)
+          (of_facts ∙ of_held ∙ of_row ∙ of_clock) tells;
+    }
 
 module _ (old : Content) (caller id : ℕ) (c : VersionCommand) (clock : ClockRow) (held : Windows)
     (u : Inside) (facts : CommandFacts)
