@@ -158,7 +158,7 @@ by_contradiction : (n most : ℕ) → (most < n → ⊥) → n ≤ most
 by_contradiction n most wrong =
     omega (arith, lt_of_not-le (λ (more : most + 1 ≤ n). wrong (omega (arith, more))))
 
--- A carrier with the number is among so many from a place on.
+-- A carrier with the number is among the `left` carriers from `place` on.
 abbrev pub IsAmong : List Spid → (number place left : ℕ) → Type 0
 IsAmong cs number place left = (place + left ≤ length cs) × ((k : ℕ) (d : Spid) → k < length cs
     → (slice_index_or cs k d).number ≡ number → (place ≤ k) × (k < place + left))
