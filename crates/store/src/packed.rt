@@ -324,6 +324,14 @@ impl PackedRow {
         }
     }
 
+    /// Returns the subject's place if the version is in force.
+    pub fn held_rank(&self) -> Option<Rank>
+        ensures { option_map subject_at result ≡ self.now.holds }
+    {
+        let is_in_force = self.truths.third();
+        if is_in_force { Some(self.rank()) } else { None }
+    }
+
     /// Returns the subject if the version is open.
     pub fn opens(&self) -> Option<Subject>
         ensures { option_map subject_of result ≡ self.now.opens }
@@ -333,6 +341,14 @@ impl PackedRow {
         } else {
             None
         }
+    }
+
+    /// Returns the subject's place if the version is open.
+    pub fn open_rank(&self) -> Option<Rank>
+        ensures { option_map subject_at result ≡ self.now.opens }
+    {
+        let is_open = self.truths.fourth();
+        if is_open { Some(self.rank()) } else { None }
     }
 
     /// Returns the routing.
