@@ -10,13 +10,14 @@ ghost use Rattle.store.specs.About.{has, key_in, keys_in, about_of, IsKey, IsOnl
 ghost use Rattle.store.specs.Ranks.{subject_at};
 
 use crate::keys::{Rank, RowKey, is_subject};
+use crate::near::NearMap;
 use crate::short::ShortMinute;
 use crate::waiting::Waiting;
 use delivery::DownloadKey;
 use numbers::{Spid, Subject};
 use settle::Few;
 use std::alloc::{AllocError, Global};
-use std::collections::{BTreeMap, HashMap};
+use std::collections::BTreeMap;
 
 /// The pending broadcasts of one subject, in 24 bytes.
 ///
@@ -98,7 +99,7 @@ pub fn rank_of(subject: Subject) -> u64
 
 /// Adds a broadcast of the subject. Changes nothing if an allocation fails.
 pub fn add_broadcast(
-    about: &mut HashMap<u64, Broadcasts>,
+    about: &mut NearMap<u64, Broadcasts>,
     alloc: Global,
     subject: Subject,
     key: DownloadKey,
@@ -119,7 +120,7 @@ pub fn add_broadcast(
 }
 
 /// Deletes a broadcast of the subject.
-pub fn remove_broadcast(about: &mut HashMap<u64, Broadcasts>, subject: Subject, key: DownloadKey)
+pub fn remove_broadcast(about: &mut NearMap<u64, Broadcasts>, subject: Subject, key: DownloadKey)
     ensures { IsKey (about_of about.old.entries) (about_of about.new.entries)
         (subject_of subject) (queue_key_of key) false }
 {
@@ -134,7 +135,7 @@ pub fn remove_broadcast(about: &mut HashMap<u64, Broadcasts>, subject: Subject, 
 /// Returns the key of the only broadcast of the subject at this place, if it has this version's id
 /// and this attempt.
 pub fn only_broadcast(
-    about: &HashMap<u64, Broadcasts>,
+    about: &NearMap<u64, Broadcasts>,
     rank: Rank,
     id: u64,
     attempt: u64,
@@ -153,7 +154,7 @@ pub fn only_broadcast(
 
 // Returns whether the broadcast is of this subject and pending for the carrier.
 fn is_for(
-    rows: &HashMap<RowKey, Waiting>,
+    rows: &NearMap<RowKey, Waiting>,
     broadcast: DownloadKey,
     carrier: Spid,
     subject: Subject,
@@ -175,7 +176,7 @@ fn is_for(
 /// first.
 pub fn pending_among(
     alloc: Global,
-    rows: &HashMap<RowKey, Waiting>,
+    rows: &NearMap<RowKey, Waiting>,
     broadcasts: &Broadcasts,
     carrier: Spid,
     subject: Subject,

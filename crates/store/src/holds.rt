@@ -11,9 +11,11 @@ ghost use Rattle.store.specs.declared.keys.SubjectVersion.{SubjectVersion as Sub
 
 use crate::indexes::{delete_key, put_key};
 use crate::keys::{Rank, SubjectVersion};
+use crate::near::NearMap;
 use numbers::Subject;
 use std::alloc::{AllocError, Global};
-use std::collections::{BTreeMap, HashMap};
+use std::collections::BTreeMap;
+use std::hash::BuildHasherDefault;
 
 /// The versions in force by their subjects, and for each subject the last version that came into
 /// force, found by a hash.
@@ -25,7 +27,7 @@ pub struct Holds {
     /// The versions in the order of their subjects.
     pub keys: BTreeMap<SubjectVersion, ()>,
     /// The id of the last version by the number of its subject's rank.
-    pub last: HashMap<u64, u64>,
+    pub last: NearMap<u64, u64>,
     ghost have_last: { HaveLast keys last.entries } by { Prim.hlevel props },
 }
 
@@ -36,7 +38,7 @@ impl Holds {
     {
         Holds {
             keys: BTreeMap::new(alloc),
-            last: HashMap::new(alloc),
+            last: NearMap::with_hasher(alloc, BuildHasherDefault::new()),
         }
     }
 

@@ -20,6 +20,7 @@ ghost use Rattle.store.specs.Sharing.{TakesWait};
 
 use crate::carriers::Carriers;
 use crate::keys::{BroadcastId, Rank, queue_key};
+use crate::near::NearMap;
 use crate::packed_broadcast::PackedBroadcast;
 use crate::waits::Waits;
 use delivery::{Download, DownloadKey};
@@ -272,7 +273,7 @@ impl Queues {
     pub fn front(
         &mut self,
         alloc: Global,
-        broadcasts: &HashMap<BroadcastId, PackedBroadcast>,
+        broadcasts: &NearMap<BroadcastId, PackedBroadcast>,
         carrier: Spid,
         many: usize,
     ) -> Result<Vec<Download>, AllocError>

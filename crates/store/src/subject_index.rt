@@ -9,9 +9,11 @@ ghost use Rattle.store.specs.Ranks.{subject_at};
 ghost use Rattle.store.specs.SubjectRows.{has_id, ids_at, versions_of, has_line, lines_of, is_lined, AreLined, IsKey, IsIdSet, HasKey, LacksKey, KeepsKeys, KeepsOtherKeys};
 
 use crate::keys::{Rank, SubjectVersion};
+use crate::near::NearMap;
 use numbers::{BlockId, Line, Subject};
 use std::alloc::{AllocError, Global};
 use std::collections::{BTreeMap, HashMap};
+use std::hash::BuildHasherDefault;
 
 /// The ids of a subject's versions. Most subjects have one, so that more are boxed.
 #[derive(Drop)]
@@ -61,7 +63,7 @@ impl Ids {
 
 // Adds the version. Changes nothing if an allocation fails.
 #[inline(never)]
-fn add_id(ids: &mut HashMap<u64, Ids>, alloc: Global, key: SubjectVersion) -> Result<(), AllocError>
+fn add_id(ids: &mut NearMap<u64, Ids>, alloc: Global, key: SubjectVersion) -> Result<(), AllocError>
     ensures ok { OnOk result
         (IsKey (versions_of ids.old.entries) (versions_of ids.new.entries)
         (subject_version_of key) true) }
@@ -80,7 +82,7 @@ fn add_id(ids: &mut HashMap<u64, Ids>, alloc: Global, key: SubjectVersion) -> Re
 
 // Deletes the version.
 #[inline(never)]
-fn remove_id(ids: &mut HashMap<u64, Ids>, key: SubjectVersion)
+fn remove_id(ids: &mut NearMap<u64, Ids>, key: SubjectVersion)
     ensures { IsKey (versions_of ids.old.entries) (versions_of ids.new.entries)
         (subject_version_of key) false }
 {
@@ -141,7 +143,7 @@ fn add_line(
 pub struct SubjectIndex {
     alloc: Global,
     /// The ids of each subject's versions, by the number of the subject's rank.
-    pub ids: HashMap<u64, Ids>,
+    pub ids: NearMap<u64, Ids>,
     /// The lines of each block by the block's number. They ascend, so that a search finds one that is
     /// there.
     pub lines: HashMap<u64, Vec<Line>>,
@@ -155,7 +157,7 @@ impl SubjectIndex {
     {
         SubjectIndex {
             alloc,
-            ids: HashMap::new(alloc),
+            ids: NearMap::with_hasher(alloc, BuildHasherDefault::new()),
             lines: HashMap::new(alloc),
         }
     }

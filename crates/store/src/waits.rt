@@ -24,6 +24,7 @@ use crate::about::{
 };
 use crate::carriers::Carriers;
 use crate::keys::{BroadcastId, Rank, RowKey, queue_key};
+use crate::near::NearMap;
 use crate::packed_broadcast::PackedBroadcast;
 use crate::queue_order::QueueOrder;
 use crate::runs::run_length;
@@ -32,7 +33,8 @@ use delivery::{Download, DownloadKey};
 use numbers::{Minute, Spid, Subject};
 use settle::{Few, WaitKey};
 use std::alloc::{AllocError, Global};
-use std::collections::{BTreeMap, HashMap};
+use std::collections::BTreeMap;
+use std::hash::BuildHasherDefault;
 use std::marker::Model;
 
 /// The pending downloads: for each broadcast one row with its subject and carriers, and indexes of
@@ -43,8 +45,8 @@ use std::marker::Model;
 #[derive(Drop)]
 pub struct Waits {
     alloc: Global,
-    rows: HashMap<RowKey, Waiting>,
-    about: HashMap<u64, Broadcasts>,
+    rows: NearMap<RowKey, Waiting>,
+    about: NearMap<u64, Broadcasts>,
     order: QueueOrder,
 }
 
@@ -93,7 +95,7 @@ fn wait_key(key: DownloadKey, carrier: Spid) -> WaitKey
 
 // Adds the download's broadcast to both indexes, or to none if an allocation fails.
 fn add_keys(
-    about: &mut HashMap<u64, Broadcasts>,
+    about: &mut NearMap<u64, Broadcasts>,
     order: &mut QueueOrder,
     alloc: Global,
     subject: Subject,
@@ -121,7 +123,7 @@ fn add_keys(
 // Deletes the download's broadcast from both indexes. If an allocation fails, the order may keep
 // it.
 fn remove_keys(
-    about: &mut HashMap<u64, Broadcasts>,
+    about: &mut NearMap<u64, Broadcasts>,
     order: &mut QueueOrder,
     subject: Subject,
     key: WaitKey,
@@ -136,7 +138,7 @@ fn remove_keys(
 
 // Returns the download with what its broadcast says of it, if the broadcast is there.
 fn download_at(
-    broadcasts: &HashMap<BroadcastId, PackedBroadcast>,
+    broadcasts: &NearMap<BroadcastId, PackedBroadcast>,
     key: DownloadKey,
 ) -> Option<Download>
     ensures { option_map sent_of result ≡ download_at (broadcasts_of broadcasts.now) key }
@@ -175,8 +177,8 @@ impl Waits {
     {
         Waits {
             alloc,
-            rows: HashMap::new(alloc),
-            about: HashMap::new(alloc),
+            rows: NearMap::with_hasher(alloc, BuildHasherDefault::new()),
+            about: NearMap::with_hasher(alloc, BuildHasherDefault::new()),
             order: QueueOrder::new(alloc),
         }
     }
@@ -368,7 +370,7 @@ impl Waits {
     // `broadcasts`.
     fn pending_at(
         &self,
-        broadcasts: &HashMap<BroadcastId, PackedBroadcast>,
+        broadcasts: &NearMap<BroadcastId, PackedBroadcast>,
         key: DownloadKey,
         carrier: Spid,
     ) -> Option<Download>
@@ -387,7 +389,7 @@ impl Waits {
     pub fn front_from(
         &mut self,
         alloc: Global,
-        broadcasts: &HashMap<BroadcastId, PackedBroadcast>,
+        broadcasts: &NearMap<BroadcastId, PackedBroadcast>,
         start: DownloadKey,
         carrier: Spid,
         many: usize,
