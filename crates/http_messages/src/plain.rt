@@ -36,22 +36,22 @@ fn fixed_route_then<'a, const N: usize>(
     bytes: &'a [u8],
     path: &[u8; N],
     route: Route,
-) -> Option<(Route, &'a [u8])>
+) -> Option<(&'a [u8], Route)>
     requires route { path_of path.now ≡ Some route }
     requires some { 0 < length path.now }
     requires visible { list_all is_visible path.now ≡ true }
-    ensures { IfSome result (λ found. IsRouteThen bytes.now (Some found.0) found.1.now) }
+    ensures { IfSome result (λ found. IsRouteThen bytes.now (Some found.1) found.0.now) }
 {
     let rest = after(after(bytes, path)?, b" HTTP/1.1\r\nx-spid: ")?;
-    Some((route, rest))
+    Some((rest, route))
 }
 
 // Returns the route of one of the paths that begin with `/subscriptionVersion`, except the two of
 // acknowledged cancellations, and what follows `x-spid: `. Two letters tell the paths apart.
 #[inline(always)]
 #[tactic(auto, unfolding(crate::specs::Table::path_of))]
-fn version_route_then(bytes: &[u8]) -> Option<(Route, &[u8])>
-    ensures { IfSome result (λ found. IsRouteThen bytes.now (Some found.0) found.1.now) }
+fn version_route_then(bytes: &[u8]) -> Option<(&[u8], Route)>
+    ensures { IfSome result (λ found. IsRouteThen bytes.now (Some found.1) found.0.now) }
 {
     match bytes.get(20..22)? {
         [b'N', _] => fixed_route_then(
@@ -101,8 +101,8 @@ fn version_route_then(bytes: &[u8]) -> Option<(Route, &[u8])>
 // Returns the route of one of the paths that most messages have, and what follows `x-spid: `.
 #[inline(always)]
 #[tactic(auto, unfolding(crate::specs::Table::path_of))]
-fn frequent_route_then(bytes: &[u8]) -> Option<(Route, &[u8])>
-    ensures { IfSome result (λ found. IsRouteThen bytes.now (Some found.0) found.1.now) }
+fn frequent_route_then(bytes: &[u8]) -> Option<(&[u8], Route)>
+    ensures { IfSome result (λ found. IsRouteThen bytes.now (Some found.1) found.0.now) }
 {
     match bytes {
         [b'/', b'q', ..] => fixed_route_then(bytes, b"/query", Route::Query),
@@ -114,22 +114,22 @@ fn frequent_route_then(bytes: &[u8]) -> Option<(Route, &[u8])>
 
 // Returns the route of any path, and what follows `x-spid: `.
 #[inline(never)]
-fn any_route_then<'a>(bytes: &'a [u8], router: &Router<Route>) -> Option<(Option<Route>, &'a [u8])>
+fn any_route_then<'a>(bytes: &'a [u8], router: &Router<Route>) -> Option<(&'a [u8], Option<Route>)>
     requires { router.now ≡ table }
-    ensures { IfSome result (λ found. IsRouteThen bytes.now found.0 found.1.now) }
+    ensures { IfSome result (λ found. IsRouteThen bytes.now found.1 found.0.now) }
 {
     let (path, rest) = path_then(bytes)?;
-    Some((route_of(router, path), rest))
+    Some((rest, route_of(router, path)))
 }
 
 // Returns the route of the path, and what follows `x-spid: `.
 #[inline(always)]
-fn route_then<'a>(bytes: &'a [u8], router: &Router<Route>) -> Option<(Option<Route>, &'a [u8])>
+fn route_then<'a>(bytes: &'a [u8], router: &Router<Route>) -> Option<(&'a [u8], Option<Route>)>
     requires { router.now ≡ table }
-    ensures { IfSome result (λ found. IsRouteThen bytes.now found.0 found.1.now) }
+    ensures { IfSome result (λ found. IsRouteThen bytes.now found.1 found.0.now) }
 {
     match frequent_route_then(bytes) {
-        Some((route, rest)) => Some((Some(route), rest)),
+        Some((rest, route)) => Some((rest, Some(route))),
         None => any_route_then(bytes, router),
     }
 }
@@ -185,7 +185,7 @@ fn plain_post(bytes: &[u8], router: &Router<Route>) -> Option<(Request, usize)>
     ensures within { IfSome result (λ found. found.1 ≤ length bytes.now) }
     ensures small { IfSome result (λ found. found.0.length ≤ 1048576) }
 {
-    let (route, named) = route_then(after(bytes, b"POST ")?, router)?;
+    let (named, route) = route_then(after(bytes, b"POST ")?, router)?;
     let (caller, more) = caller_then(named)?;
     let (size, rest) = length_and_end(more)?;
     if size > BODY_LIMIT {
@@ -208,7 +208,7 @@ fn plain_get(bytes: &[u8], router: &Router<Route>) -> Option<(Request, usize)>
     ensures within { IfSome result (λ found. found.1 ≤ length bytes.now) }
     ensures small { IfSome result (λ found. found.0.length ≤ 1048576) }
 {
-    let (route, named) = route_then(after(bytes, b"GET ")?, router)?;
+    let (named, route) = route_then(after(bytes, b"GET ")?, router)?;
     let (caller, more) = caller_then(named)?;
     let rest = after(more, b"\r\n\r\n")?;
     let request = Request {

@@ -9,7 +9,7 @@ fn are_same<const N: usize>(text: &[u8; N], other: &[u8; N]) -> bool
     ensures { result ≡ true ↔ (text.now ≡ other.now) }
 {
     let Some((_, end)) = text.split_last_chunk::<8>() else {
-        return text == other;
+        return *text == *other;
     };
     let Some((_, other_end)) = other.split_last_chunk::<8>() else {
         return false;
@@ -20,14 +20,14 @@ fn are_same<const N: usize>(text: &[u8; N], other: &[u8; N]) -> bool
         let Some((other_word, others)) = right.split_first_chunk::<8>() else {
             return false;
         };
-        if word == other_word {
+        if *word == *other_word {
             left = more;
             right = others;
         } else {
             return false;
         }
     }
-    end == other_end
+    *end == *other_end
 }
 
 /// Returns what follows `start`, if the bytes begin with it.
