@@ -21,7 +21,7 @@ pub use fault::Failure;
 pub use fields::Fields;
 pub use flat::Flat;
 pub use forms::{ApiCall, api_call_of, body_asks_once};
-pub use plain::plain_call;
+pub use plain::{plain_acknowledgement, plain_call, plain_query};
 pub use reply::{
     DOWNLOAD_CAPACITY, ID_CAPACITY, ROW_CAPACITY, URI_CAPACITY, put_donated, put_downloads,
     put_failure, put_ids, put_looked_up, put_now, put_opened_code, put_registered,

@@ -6,13 +6,13 @@ ghost use Rattle.numbers.specs.Spids.{IsSpid};
 ghost use Rattle.numbers.specs.Texts.{lrn_text, spid_text, tn_text};
 ghost use Rattle.serde_json.specs.Data.{Data};
 ghost use Rattle.serde_json.specs.Find.{get as get_in};
+ghost use Rattle.requests.specs.Calls.{called_of};
 ghost use Rattle.version.specs.Commands.{command_model};
-ghost use Rattle.json_api.specs.Forms.{HasVersionCommand, IsTextOf, api_call_model};
+ghost use Rattle.json_api.specs.Forms.{HasVersionCommand, IsTextOf, RegisterCall, UriQuery};
 ghost use Rattle.json_api.specs.Plain.{ArePortTexts, IsAsked, IsPort, IsValueAfter};
 ghost use Rattle.json_api.specs.declared.flat.Scalar.TheVariants.{Flag as FlagValue, Text as TextValue, Whole as WholeValue};
 
 use crate::flat::Scalar;
-use crate::forms::ApiCall;
 use crate::scan::{scalar_at, text_at, whole_at};
 use http_messages::{Route, VersionPath, after};
 use numbers::{Lrn, Minute, Routing, Spid, Tn};
@@ -66,33 +66,36 @@ fn flag_after<'a, const N: usize>(bytes: &'a [u8], key: &[u8; N]) -> Option<(boo
     }
 }
 
-// Reads the body of a query.
+/// Returns the URI that the body of a query asks for, if it is written plainly: in bytes, without
+/// spaces and escapes. `None` does not imply that it asks nothing.
 //
 // Not inlined: in its caller, each step of the loop over the text would also clear the results of
 // the other calls.
 #[inline(never)]
-fn plain_query(body: &[u8]) -> Option<ApiCall<'_>>
-    ensures { IfSome result (λ asked. IsAsked Route.Query body.now (api_call_model asked)) }
+pub fn plain_query(body: &[u8]) -> Option<&str>
+    ensures { IfSome result (λ uri. IsAsked Route.Query body.now (UriQuery uri.now)) }
 {
     let (uri, rest) = text_after(body, b"{\"uri\":")?;
     if !is_end(rest) {
         return None;
     }
-    Some(ApiCall::Uri(uri))
+    Some(uri)
 }
 
-// Reads the body of an acknowledgement.
+/// Returns the call that the body of an acknowledgement asks for, if it is written plainly: with the
+/// keys in order and without spaces. `None` does not imply that it asks nothing.
 // Inlined: a call is large, and each return moves it.
 #[inline(always)]
-fn plain_acknowledgement(body: &[u8]) -> Option<ApiCall<'_>>
-    ensures { IfSome result (λ asked. IsAsked Route.Acknowledge body.now (api_call_model asked)) }
+pub fn plain_acknowledgement(body: &[u8]) -> Option<Call>
+    ensures { IfSome result
+        (λ call. IsAsked Route.Acknowledge body.now (RegisterCall (called_of call))) }
 {
     let (attempt, rest) = whole_after(body, b"{\"attempt\":")?;
     let (id, rest) = whole_after(rest, b",\"id\":")?;
     if !is_end(rest) {
         return None;
     }
-    Some(ApiCall::Call(Call::Acknowledge { id, attempt }))
+    Some(Call::Acknowledge { id, attempt })
 }
 
 // Reads the texts of the providers and of the number, which end the body of a create.
@@ -148,22 +151,22 @@ fn port_at(bytes: &[u8], due: u64, creator: Creator) -> Option<Create>
 // Reads the body of a create by the old provider.
 // Inlined: a call is large, and each return moves it.
 #[inline(always)]
-fn plain_old_provider_create(body: &[u8]) -> Option<ApiCall<'_>>
+fn plain_old_provider_create(body: &[u8]) -> Option<Call>
     ensures { IfSome result
-        (λ asked. IsAsked Route.OldProviderCreate body.now (api_call_model asked)) }
+        (λ call. IsAsked Route.OldProviderCreate body.now (RegisterCall (called_of call))) }
 {
     let (authorized, rest) = flag_after(body, b"{\"authorized\":")?;
     let (due, rest) = whole_after(rest, b",\"due\":")?;
     let create = port_at(rest, due, Creator::OldProvider { authorized })?;
-    Some(ApiCall::Call(Call::Command(Command::Create(create))))
+    Some(Call::Command(Command::Create(create)))
 }
 
 // Reads the body of a create by the new provider, without a carrier identification code.
 // Inlined: a call is large, and each return moves it.
 #[inline(always)]
-fn plain_new_provider_create(body: &[u8]) -> Option<ApiCall<'_>>
+fn plain_new_provider_create(body: &[u8]) -> Option<Call>
     ensures { IfSome result
-        (λ asked. IsAsked Route.NewProviderCreate body.now (api_call_model asked)) }
+        (λ call. IsAsked Route.NewProviderCreate body.now (RegisterCall (called_of call))) }
 {
     let (due, rest) = whole_after(body, b"{\"due\":")?;
     let (lrn, rest) = text_after(rest, b",\"lrn\":")?;
@@ -172,7 +175,7 @@ fn plain_new_provider_create(body: &[u8]) -> Option<ApiCall<'_>>
         cic: None,
     };
     let create = port_at(rest, due, Creator::NewProvider { routing })?;
-    Some(ApiCall::Call(Call::Command(Command::Create(create))))
+    Some(Call::Command(Command::Create(create)))
 }
 
 // Returns the command of a path whose body has only an id.
@@ -199,29 +202,27 @@ fn bare_command(path: VersionPath) -> Option<VersionCommand>
 // Reads the body of a command on a version that has only an id.
 // Inlined: a call is large, and each return moves it.
 #[inline(always)]
-fn plain_command(path: VersionPath, body: &[u8]) -> Option<ApiCall<'_>>
+fn plain_command(path: VersionPath, body: &[u8]) -> Option<Call>
     ensures { IfSome result
-        (λ asked. IsAsked (Route.OnVersion path) body.now (api_call_model asked)) }
+        (λ call. IsAsked (Route.OnVersion path) body.now (RegisterCall (called_of call))) }
 {
     let (id, rest) = whole_after(body, b"{\"id\":")?;
     let command = bare_command(path)?;
     if !is_end(rest) {
         return None;
     }
-    Some(ApiCall::Call(Call::Command(Command::OnVersion { id, command })))
+    Some(Call::Command(Command::OnVersion { id, command }))
 }
 
-/// Returns what a body asks on a route, if it is that of a query, an acknowledgement, a create or a
-/// command on a version, and written plainly: in bytes, with the keys in order and without spaces
-/// and escapes. `None` does not imply that it asks nothing.
+/// Returns the call that a body asks for on a route, if it is that of a create or of a command on a
+/// version, and written plainly: in bytes, with the keys in order and without spaces and escapes.
+/// `None` does not imply that it asks nothing.
 // Inlined: a call is large, and each return moves it.
 #[inline(always)]
-pub fn plain_call(route: Route, body: &[u8]) -> Option<ApiCall<'_>>
-    ensures { IfSome result (λ asked. IsAsked route body.now (api_call_model asked)) }
+pub fn plain_call(route: Route, body: &[u8]) -> Option<Call>
+    ensures { IfSome result (λ call. IsAsked route body.now (RegisterCall (called_of call))) }
 {
     match route {
-        Route::Query => plain_query(body),
-        Route::Acknowledge => plain_acknowledgement(body),
         Route::OldProviderCreate => plain_old_provider_create(body),
         Route::NewProviderCreate => plain_new_provider_create(body),
         Route::OnVersion(path) => plain_command(path, body),
