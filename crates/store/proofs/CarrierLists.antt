@@ -1,5 +1,5 @@
 -- Searches in an ascending list of carriers, and carriers that are added to it or removed from it.
-use Rattle.std.proofs.Common.{◌≡◌, ◌≢◌, ◌<◌, ◌≤◌, ◌+◌, ◌-◌, ◌*◌, ◌/◌, ℕ, zero, suc, Bool, true, false, cond, List, [], ◌∷◌, map, Option, Some, None, refl, ap, sym, ◌∙◌, subst, arith, length}
+use Rattle.std.proofs.Common.{◌≡◌, ◌≢◌, ◌<◌, ◌≤◌, ◌+◌, ◌-◌, ◌*◌, ◌/◌, ℕ, zero, suc, Bool, true, false, cond, ◌||◌, List, [], ◌∷◌, map, drop, Option, Some, None, refl, ap, sym, ◌∙◌, subst, arith, length, drop_of_length-le}
 use Rattle.std.specs.Prelude.{◌==◌, filter, not, is_some, slice_index_or, Result, Ok, Err, OnOk, OnErr, IfErr, T, if◌then◌else◌}
 use Rattle.std.specs.declared.cmp.Ordering.TheVariants.{Less, Equal, Greater}
 use Rattle.std.specs.Cmp.{nat_cmp_total}
@@ -19,7 +19,7 @@ use Rattle.numbers.proofs.Small.{and_first, and_second}
 use Rattle.numbers.specs.declared.spid.Spid.{Spid}
 use Rattle.settle.specs.Abstraction.{spid_of}
 use Rattle.model.proofs.Lists.{filter-map}
-use Rattle.store.specs.Carriers.{carrier_entries, registered_in, AreAscending, IsOnlyPlace, IsPlaceFor}
+use Rattle.store.specs.Carriers.{carrier_entries, registered_in, AreAscending, IsPlaceFor}
 use Rattle.store.specs.Maps.{set}
 use Rattle.store.proofs.Changed.{set_number}
 use Rattle.store.proofs.Maps.{set-back, set-same}
@@ -152,93 +152,60 @@ searched cs number (Err place) is inside parted =
       place = at;
     }
 
--- ---- the search without branches
+-- ---- the look at each carrier
 
-by_contradiction : (n most : ℕ) → (most < n → ⊥) → n ≤ most
-by_contradiction n most wrong =
-    omega (arith, lt_of_not-le (λ (more : most + 1 ≤ n). wrong (omega (arith, more))))
+-- Whether one of the carriers has the number.
+abbrev pub lists : List Spid → (number : ℕ) → Bool
+lists cs number = is_some (find nat_cmp number (carrier_entries cs))
 
--- A carrier with the number is among the `left` carriers from `place` on.
-abbrev pub IsAmong : List Spid → (number place left : ℕ) → Type 0
-IsAmong cs number place left = (place + left ≤ length cs) × ((k : ℕ) (d : Spid) → k < length cs
-    → (slice_index_or cs k d).number ≡ number → (place ≤ k) × (k < place + left))
+is-own : (n k : ℕ) → eq_by_cmp nat_cmp n k ≡ eqb k n
+is-own n k = grind (arith, nat_tests)
 
-module _ (cs : List Spid) (number place left : ℕ) (is : AreAscending cs) (many : 1 < left)
-    (among : IsAmong cs number place left) (e : Spid) where
-  abbrev mid : Spid
-  mid = slice_index_or cs (place + left / 2) e
+first-or : (b : Bool) (o : Option (Unit {0})) → is_some (cond b (Some tt) o) ≡ (b || is_some o)
+first-or true o = refl
+first-or false o = refl
 
-  middle : (d : Spid) → (slice_index_or cs (place + left / 2) d).number ≡ mid.number
-  middle d = ap (λ (c : Spid). c.number)
-      (get_or_default cs (place + left / 2) d e (omega (arith, many, among.0)))
+lists-from : (cs : List Spid) (k number : ℕ) (c : Spid) → k < length cs
+    → c ≡ slice_index_or cs k c
+    → lists (drop k cs) number ≡ (eqb c.number number || lists (drop (suc k) cs) number)
+lists-from [] k number c inside is = absurd (omega (arith, inside))
+lists-from (x ∷ cs) zero number c inside is =
+    first-or (eq_by_cmp nat_cmp number x.number) (find nat_cmp number (carrier_entries cs))
+    ∙ ap (λ b. b || lists cs number)
+    (is-own number x.number ∙ ap (λ (y : Spid). eqb y.number number) (sym is))
+lists-from (x ∷ cs) (suc k) number c inside is =
+    lists-from cs k number c (omega (arith, inside)) is
 
-  upper : mid.number ≤ number → IsAmong cs number (place + left / 2) (left - left / 2)
-  upper le = (
-    omega (arith, many, among.0),
-    λ k d inside own. (
-      by_contradiction (place + left / 2) k (λ lt.
-          let before : place + left / 2 < length cs = omega (arith, many, among.0) in
-          let climbs = numbers-climb cs is k (place + left / 2) d lt before in
-          omega (arith, le, own, middle d, climbs)),
-      omega (arith, many, (among.1 k d inside own).1),
-    ),
-  )
+or-assoc : (a b c : Bool) → (a || (b || c)) ≡ ((a || b) || c)
+or-assoc true b c = refl
+or-assoc false b c = refl
 
-  lower : number < mid.number → IsAmong cs number place (left - left / 2)
-  lower lt = (
-    omega (arith, many, among.0),
-    λ k d inside own. (
-      (among.1 k d inside own).0,
-      by_contradiction (suc k) (place + (left - left / 2)) (λ after.
-          let behind : place + left / 2 ≤ k = omega (arith, many, after) in
-          let rises = numbers-rise cs is (place + left / 2) k d behind inside in
-          omega (arith, lt, own, middle d, rises)),
-    ),
-  )
+or-false : (a : Bool) → (a || false) ≡ a
+or-false true = refl
+or-false false = refl
 
-  halved-by : (b : Bool) → leb mid.number number ≡ b
-      → IsAmong cs number (place + left / 2 * bool_byte b) (left - left / 2)
-  halved-by true le = subst (λ p. IsAmong cs number p (left - left / 2))
-      (omega arith) (upper (leb-true mid.number number le))
-  halved-by false lt = subst (λ p. IsAmong cs number p (left - left / 2))
-      (omega arith) (lower (leb-false mid.number number lt))
+-- Whether a carrier is listed: one of those looked at has the number, or one of the rest.
+abbrev pub AreLookedAt : List Spid → (number looked : ℕ) → (is_listed : Bool) → Type 0
+AreLookedAt cs number looked is_listed =
+    is_some (get (registered_in cs) number) ≡ (is_listed || lists (drop looked cs) number)
 
-  pub halved : (n : ℕ) → n ≡ bool_byte (leb mid.number number)
-      → IsAmong cs number (place + left / 2 * n) (left - left / 2)
-  halved n is_n = subst (λ t. IsAmong cs number (place + left / 2 * t) (left - left / 2)) (sym is_n)
-      (halved-by (leb mid.number number) refl)
+pub none-looked-at : (cs : List Spid) (number : ℕ) → AreLookedAt cs number 0 false
+none-looked-at cs number = ap is_some (get-registered cs number)
 
-unequal : (a b : ℕ) → a ≢ b → eq_by_cmp nat_cmp b a ≡ false
-unequal a b ne = grind (arith, nat_tests, ne)
+pub one-looked-at : (cs : List Spid) (number k : ℕ) (is_listed : Bool) (c : Spid) → k < length cs
+    → c ≡ slice_index_or cs k c → AreLookedAt cs number k is_listed
+    → AreLookedAt cs number (k + 1) (is_listed || eqb c.number number)
+one-looked-at cs number k is_listed c inside is looked =
+    let next : suc k ≡ k + 1 = omega arith in
+    looked ∙ ap (λ b. is_listed || b) (lists-from cs k number c inside is)
+    ∙ or-assoc is_listed (eqb c.number number) (lists (drop (suc k) cs) number)
+    ∙ ap (λ n. (is_listed || eqb c.number number) || lists (drop n cs) number) next
 
--- If no carrier of the list has the number, none is found.
-none-found : (cs : List Spid) (number : ℕ)
-    → ((k : ℕ) (d : Spid) → k < length cs → (slice_index_or cs k d).number ≢ number)
-    → is_some (get (registered_in cs) number) ≡ false
-none-found cs number none = ap is_some (get-registered cs number ∙ missing cs number
-    (λ k d inside. unequal (slice_index_or cs k d).number number (none k d inside)))
-
-pub none-behind : (cs : List Spid) (number place : ℕ) → length cs ≤ place
-    → IsOnlyPlace cs number place → is_some (get (registered_in cs) number) ≡ false
-none-behind cs number place behind only = none-found cs number
-    (λ k d inside own. omega (arith, only k d inside own, inside, behind))
-
--- Whether the carrier at the only place for the number has it.
-found-by : (cs : List Spid) (number place : ℕ) (d : Spid) (b : Bool) → place < length cs
-    → IsOnlyPlace cs number place → eqb (slice_index_or cs place d).number number ≡ b
-    → is_some (get (registered_in cs) number) ≡ b
-found-by cs number place d true inside only same = ap is_some (get-registered cs number
-    ∙ subst (λ n. find nat_cmp n (carrier_entries cs) ≡ Some tt)
-    (eqb-true (slice_index_or cs place d).number number same) (find-at cs place d inside))
-found-by cs number place d false inside only same = none-found cs number (λ k e at own.
-    let own_place = ap (λ (c : Spid). c.number) (get_or_default cs place d e inside)
-    ∙ ap (λ n. (slice_index_or cs n e).number) (sym (only k e at own)) ∙ own in
-    eqb-false (slice_index_or cs place d).number number same own_place)
-
-pub found-there : (cs : List Spid) (number place : ℕ) (d : Spid) → place < length cs
-    → IsOnlyPlace cs number place
-    → eqb (slice_index_or cs place d).number number ≡ is_some (get (registered_in cs) number)
-found-there cs number place d inside only = sym (found-by cs number place d _ inside only refl)
+pub all-looked-at : (cs : List Spid) (number k : ℕ) (is_listed : Bool) → length cs ≤ k
+    → AreLookedAt cs number k is_listed → is_listed ≡ is_some (get (registered_in cs) number)
+all-looked-at cs number k is_listed all looked = sym (looked
+    ∙ ap (λ rest. is_listed || lists rest number) (drop_of_length-le cs all)
+    ∙ or-false is_listed)
 
 -- ---- a carrier added
 

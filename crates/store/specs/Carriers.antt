@@ -1,5 +1,5 @@
 -- The registered carriers as a list that ascends by their numbers.
-use Rattle.std.specs.Prelude.{◌≡◌, ◌<◌, ◌≤◌, ℕ, true, List, length, map, slice_index_or}
+use Rattle.std.specs.Prelude.{◌≡◌, ◌<◌, ◌≤◌, ℕ, true, List, length, map}
 use Rattle.std.specs.Coded.{Coded, coded_ℕ}
 use base.Stored.{coded_unit}
 use Rattle.std.specs.FinMap.{FinMap, from_entries, is_sorted, code}
@@ -28,8 +28,3 @@ pub record IsPlaceFor (cs : List Spid) (number place : ℕ) : Type 0 where
   pub within : place ≤ length cs
   pub before : AllWithin (λ (c : Spid). c.number < number) cs 0 place
   pub after : AllWithin (λ (c : Spid). number < c.number) cs place (length cs)
-
--- Holds if no carrier at another place has the number.
-abbrev pub IsOnlyPlace : List Spid → (number place : ℕ) → Type 0
-IsOnlyPlace cs number place = (k : ℕ) (d : Spid) → k < length cs
-    → (slice_index_or cs k d).number ≡ number → k ≡ place

@@ -2,7 +2,7 @@
 ghost use Rattle.std.specs.Prelude.{◌≡◌, Some, None, IfOk, IfErr, OnOk, OnErr, is_some, map, not};
 ghost use Rattle.std.specs.FinMap.{get, empty, keys};
 ghost use Rattle.settle.specs.Abstraction.{spid_of};
-ghost use Rattle.store.specs.Carriers.{registered_in, AreAscending, IsOnlyPlace, IsPlaceFor};
+ghost use Rattle.store.specs.Carriers.{registered_in, AreAscending, IsPlaceFor};
 ghost use Rattle.store.specs.Maps.{set};
 
 use numbers::Spid;
@@ -41,20 +41,16 @@ fn place_of(all: &[Spid], number: u32) -> Result<usize, usize>
     all.binary_search_by_key(&number, |each| each.number)
 }
 
-// Returns the only place where a carrier with this number can be.
-// Multiplies and does not branch, since nothing foretells which way a search turns.
-fn only_place(all: &[Spid], number: u32) -> usize
-    requires { AreAscending all.now }
-    ensures { IsOnlyPlace all.now number result }
+// Returns whether a carrier with this number is in the list.
+// Looks at each of them, since nothing foretells where a search turns or ends.
+fn is_listed(all: &[Spid], number: u32) -> bool
+    ensures { result ≡ is_some (get (registered_in all.now) number) }
 {
-    let mut place = 0;
-    let mut left = all.len();
-    'halves: while left > 1 {
-        let half = left / 2;
-        place += half * usize::from(all[place + half].number <= number);
-        left -= half;
+    let mut is_listed = false;
+    for each in all {
+        is_listed |= each.number == number;
     }
-    place
+    is_listed
 }
 
 impl Carriers {
@@ -71,10 +67,7 @@ impl Carriers {
     pub fn contains(&self, carrier: Spid) -> bool
         ensures { result ≡ is_some (get self.now (spid_of carrier)) }
     {
-        match self.all.get(only_place(&self.all, carrier.number)) {
-            Some(found) => found.number == carrier.number,
-            None => false,
-        }
+        is_listed(&self.all, carrier.number)
     }
 
     /// Returns all carriers, ascending.

@@ -5,15 +5,16 @@ ghost use Rattle.store.specs.NearHashes.{near_hash, number_in};
 use std::collections::HashMap;
 use std::hash::{BuildHasherDefault, Hasher};
 
-// What spreads the groups of eight numbers over a map: 2^64 divided by the golden ratio, as
-// multiplicative hashing has it (D. E. Knuth, The Art of Computer Programming, 6.4).
+// What spreads 32 numbers at a time over a map: 2^64 divided by the golden ratio, as multiplicative
+// hashing has it (D. E. Knuth, The Art of Computer Programming, 6.4).
 const SPREAD: u64 = 0x9e37_79b9_7f4a_7c15;
 
 /// A hash map by numbers.
 ///
-/// Numbers that differ only in their last three bits have hashes of one group of the map's index.
-/// Neighbours are often looked up one after the other, and then find the group in the cache. The
-/// hash has no secret: its keys are subjects, and ids that the register gives.
+/// Numbers that differ only in their last three bits have hashes of one group of the map's index,
+/// and the next eight numbers mostly have those of the next group. Neighbours are often looked up one
+/// after the other, and then find the group in the cache. The hash has no secret: its keys are
+/// subjects, and ids that the register gives.
 pub type NearMap<K, V> = HashMap<K, V, BuildHasherDefault<NearHasher>>;
 
 /// Hashes the number that was written last. Takes only numbers of 64 bits: any other write counts
@@ -38,8 +39,8 @@ impl Hasher for NearHasher {
 
     #[inline(always)]
     fn finish(&self) -> u64 {
-        let spread = (self.number / 8).wrapping_mul(SPREAD) >> 32;
-        spread ^ (self.number % 8) << 29
+        let spread = (self.number / 32).wrapping_mul(SPREAD) >> 34 << 2;
+        (spread + self.number / 8 % 4) ^ (self.number % 8) << 29
     }
 
     fn write(&mut self, bytes: &[u8]) {

@@ -248,6 +248,8 @@ impl PackedRow {
     }
 
     /// Returns a copy of the row, unpacked.
+    // Inlined: a row is large, and each return moves it.
+    #[inline(always)]
     pub fn copied(&self) -> VersionRow
         ensures { result ≡ self.now }
     {
