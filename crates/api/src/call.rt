@@ -16,7 +16,10 @@ ghost use Rattle.api.specs.Step.{Step, Dispatches, DispatchesCallOn, IsCallerAdm
 use crate::query::query;
 use crate::reply::{ReplyBounds, put_refused, put_reply, put_success, reserve_body};
 use http_messages::{MessageFault, Request, Route, allows_method, offered_route};
-use json_api::{ApiCall, Failure, Fields, Flat, ResponseBuffer, api_call_of, json, plain_call};
+use json_api::{
+    ApiCall, Failure, Fields, Flat, ResponseBuffer, api_call_of, json, plain_acknowledgement,
+    plain_call, plain_query,
+};
 use model::Refusal;
 use numbers::{Spid, Tn};
 use register::Register;
@@ -223,8 +226,6 @@ fn answer<S: Store>(
 }
 
 // Executes what a body asks.
-// Inlined: every message passes here, and each call clears and moves its result.
-#[inline(always)]
 fn answer_asked<S: Store>(
     alloc: Global,
     register: &mut Register<S>,
@@ -374,8 +375,22 @@ fn answer_body<S: Store>(
         (S.content register.old.store) (S.content register.new.store) (BodyAsks route body.now)
         caller.number (response_text result (string_bytes response.new.body)) }
 {
-    if let Some(asked) = &plain_call(route, body) {
-        return answer_asked(alloc, register, caller, asked, response);
+    match route {
+        Route::Query => {
+            if let Some(uri) = plain_query(body) {
+                return query(alloc, register, caller, uri, response);
+            }
+        }
+        Route::Acknowledge => {
+            if let Some(call) = &plain_acknowledgement(body) {
+                return answer(register, caller, call, response);
+            }
+        }
+        _ => {
+            if let Some(call) = &plain_call(route, body) {
+                return answer(register, caller, call, response);
+            }
+        }
     }
     answer_parsed(alloc, register, route, caller, body, response)
 }

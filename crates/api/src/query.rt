@@ -89,19 +89,20 @@ pub fn query<S: Store>(
         (S.content register.old.store) (S.content register.new.store) caller.number
         (UriQuery text.now) (response_text result (string_bytes response.new.body)) }
 {
-    let uri = match TelUri::read(text) {
+    let read = TelUri::read(text);
+    let uri = match &read {
         Ok(uri) => uri,
         Err(fault) => {
             register.knows(caller)?;
-            return Err(Failure::Uri(fault));
+            return Err(Failure::Uri(*fault));
         }
     };
-    let Some(tn) = queried_number(&uri) else {
+    let Some(tn) = queried_number(uri) else {
         register.knows(caller)?;
         return put_text(response, text);
     };
     match register.query(caller, tn) {
-        Ok(answer) => put_routed(alloc, text, &uri, answer, response),
+        Ok(answer) => put_routed(alloc, text, uri, answer, response),
         Err(refusal) => Err(Failure::Refused(refusal)),
     }
 }
