@@ -3,6 +3,7 @@ mod Going
 pub mod Left
 mod NextLemmas
 mod OnceLemmas
+mod PlainCalls
 mod PlainLemmas
 mod Risen
 mod RunLemmas

@@ -23,7 +23,7 @@ returns-in-Err-clause-performs g c =
     (g.S.StoreModel.failed c.knows.new.self.store)
     (g.S.StoreModel.content c.args.register.now.store)
     (g.S.StoreModel.content c.knows.new.self.store) c.args.caller.number c.args.text.now
-    (c.in_ok-knows-in-Err.ensures.answers u) c.in-Err.ensures.fault
+    (c.in_ok-knows-in-Err.ensures.answers u) (rw c.in-Err.is at c.read-read.ensures.fault)
 
 pub returns-in_err-knows-clause-performs : goal.returns-in_err-knows-clause-performs
 returns-in_err-knows-clause-performs g c = λ u st s.
@@ -45,8 +45,8 @@ returns-in_default-clause-performs g c = λ u.
     (g.S.StoreModel.content c.knows-in_default.new.self.store) c.args.caller.number
     c.args.text.now (uri_of c.in-Ok.uri) c.put_text.result _
     (record {
-      same = c.in-Ok.ensures.text;
-      parts = c.in-Ok.ensures.uri;
+      same = rw c.in-Ok.is at c.read-read.ensures.text;
+      parts = rw c.in-Ok.is at c.read-read.ensures.uri;
     }) c.in_default.ensures.none (c.in_ok-knows.ensures.answers u) c.put_text.ensures.body
     c.put_text.ensures.unavailable
 
@@ -58,8 +58,8 @@ returns-in-Ok-query-clause-performs g c = λ u.
     (g.S.StoreModel.content c.query.new.self.store) c.args.caller.number c.args.text.now
     (uri_of c.in-Ok.uri) c.in-Some.tn.number (answer_of c.in-Ok-query.answer) c.put_routed.result _
     (record {
-      same = c.in-Ok.ensures.text;
-      parts = c.in-Ok.ensures.uri;
+      same = rw c.in-Ok.is at c.read-read.ensures.text;
+      parts = rw c.in-Ok.is at c.read-read.ensures.uri;
     }) c.in-Some.ensures.some (c.in-Ok-query.ensures.answers u) c.put_routed.ensures.body
     c.put_routed.ensures.unavailable
 
