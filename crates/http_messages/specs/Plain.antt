@@ -23,6 +23,11 @@ pub record IsPathThen (bytes path rest : List ℕ) : Type 0 where
 abbrev pub IsRouteThen : (bytes : List ℕ) → Option Route → (rest : List ℕ) → Type 0
 IsRouteThen bytes route rest = (path : List ℕ) × IsPathThen bytes path rest × (route ≡ path_of path)
 
+-- Holds if the bytes are `POST `, and so on after it.
+abbrev pub IsPostThen : (bytes : List ℕ) → Option Route → (rest : List ℕ) → Type 0
+IsPostThen bytes route rest =
+    (path : List ℕ) × (bytes ≡ codes "POST " ++ path) × IsRouteThen path route rest
+
 -- Holds if the bytes are the text of a caller and `rest`.
 abbrev pub IsCallerThen : (bytes : List ℕ) → (caller : Spid) → (rest : List ℕ) → Type 0
 IsCallerThen bytes caller rest = bytes ≡ spid_text caller.number ++ rest

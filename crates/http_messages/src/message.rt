@@ -20,13 +20,13 @@ pub const BODY_LIMIT: u64 = 1_048_576;
 /// What the head of a message asks.
 #[derive(Clone, Copy, Debug)]
 pub struct Request {
+    /// The length of the body.
+    pub length: usize,
     /// The path, if it is one of the interface's.
     pub route: Option<Route>,
     pub method: Method,
     /// The caller, if `x-spid` occurs once and names one.
     pub caller: Option<Spid>,
-    /// The length of the body.
-    pub length: usize,
     /// Whether the answer is the last of the connection.
     pub closes: bool,
 }

@@ -1,7 +1,7 @@
 //! Reads heads that are written plainly.
 ghost use Rattle.std.specs.Prelude.{◌≡◌, ◌<◌, ◌≤◌, ◌++◌, IfSome, Some, length, true};
 ghost use Rattle.std.specs.List.{list_all};
-ghost use Rattle.http_messages.specs.Plain.{IsCallerThen, IsHeadAt, IsLengthAndEnd, IsNumberThen, IsPathThen, IsRouteThen, is_visible};
+ghost use Rattle.http_messages.specs.Plain.{IsCallerThen, IsHeadAt, IsLengthAndEnd, IsNumberThen, IsPathThen, IsPostThen, IsRouteThen, is_visible};
 ghost use Rattle.http_messages.specs.Table.{path_of, table};
 
 use crate::message::{BODY_LIMIT, Request, parse_spid};
@@ -122,18 +122,6 @@ fn any_route_then<'a>(bytes: &'a [u8], router: &Router<Route>) -> Option<(&'a [u
     Some((rest, route_of(router, path)))
 }
 
-// Returns the route of the path, and what follows `x-spid: `.
-#[inline(always)]
-fn route_then<'a>(bytes: &'a [u8], router: &Router<Route>) -> Option<(&'a [u8], Option<Route>)>
-    requires { router.now ≡ table }
-    ensures { IfSome result (λ found. IsRouteThen bytes.now found.1 found.0.now) }
-{
-    match frequent_route_then(bytes) {
-        Some((rest, route)) => Some((rest, Some(route))),
-        None => any_route_then(bytes, router),
-    }
-}
-
 // Splits what follows `x-spid: ` into the caller and the rest.
 fn caller_then(bytes: &[u8]) -> Option<(Spid, &[u8])>
     ensures { IfSome result (λ found. IsCallerThen bytes.now found.0 found.1.now) }
@@ -178,14 +166,15 @@ fn length_and_end(bytes: &[u8]) -> Option<(u64, &[u8])>
     Some((size, rest))
 }
 
-// Reads a head that begins with `POST `.
-fn plain_post(bytes: &[u8], router: &Router<Route>) -> Option<(Request, usize)>
-    requires { router.now ≡ table }
+// Reads a head that begins with `POST ` from what follows `x-spid: ` on.
+// Inlined: a route is then not moved through memory.
+#[inline(always)]
+fn post_from(bytes: &[u8], named: &[u8], route: Option<Route>) -> Option<(Request, usize)>
+    requires { IsPostThen bytes.now route named.now }
     ensures head { IfSome result (λ found. IsHeadAt bytes.now found.0 found.1) }
     ensures within { IfSome result (λ found. found.1 ≤ length bytes.now) }
     ensures small { IfSome result (λ found. found.0.length ≤ 1048576) }
 {
-    let (named, route) = route_then(after(bytes, b"POST ")?, router)?;
     let (caller, more) = caller_then(named)?;
     let (size, rest) = length_and_end(more)?;
     if size > BODY_LIMIT {
@@ -201,6 +190,23 @@ fn plain_post(bytes: &[u8], router: &Router<Route>) -> Option<(Request, usize)>
     Some((request, bytes.len() - rest.len()))
 }
 
+// Reads a head that begins with `POST `.
+fn plain_post(bytes: &[u8], router: &Router<Route>) -> Option<(Request, usize)>
+    requires { router.now ≡ table }
+    ensures head { IfSome result (λ found. IsHeadAt bytes.now found.0 found.1) }
+    ensures within { IfSome result (λ found. found.1 ≤ length bytes.now) }
+    ensures small { IfSome result (λ found. found.0.length ≤ 1048576) }
+{
+    let path = after(bytes, b"POST ")?;
+    match frequent_route_then(path) {
+        Some((named, route)) => post_from(bytes, named, Some(route)),
+        None => {
+            let (named, route) = any_route_then(path, router)?;
+            post_from(bytes, named, route)
+        }
+    }
+}
+
 // Reads a head that begins with `GET `.
 fn plain_get(bytes: &[u8], router: &Router<Route>) -> Option<(Request, usize)>
     requires { router.now ≡ table }
@@ -208,7 +214,7 @@ fn plain_get(bytes: &[u8], router: &Router<Route>) -> Option<(Request, usize)>
     ensures within { IfSome result (λ found. found.1 ≤ length bytes.now) }
     ensures small { IfSome result (λ found. found.0.length ≤ 1048576) }
 {
-    let (named, route) = route_then(after(bytes, b"GET ")?, router)?;
+    let (named, route) = any_route_then(after(bytes, b"GET ")?, router)?;
     let (caller, more) = caller_then(named)?;
     let rest = after(more, b"\r\n\r\n")?;
     let request = Request {

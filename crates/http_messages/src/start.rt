@@ -1,6 +1,14 @@
 //! Splits a constant text off the start of bytes.
 ghost use Rattle.std.specs.Prelude.{◌≡◌, ◌≢◌, ◌↔◌, ℕ, ◌++◌, List, IfNone, IfSome, true};
 
+// Returns whether two words are the same: compares them as numbers, in one instruction.
+#[inline(always)]
+fn are_same_words(word: &[u8; 8], other: &[u8; 8]) -> bool
+    ensures { result ≡ true ↔ (word.now ≡ other.now) }
+{
+    u64::from_le_bytes(*word) == u64::from_le_bytes(*other)
+}
+
 // Returns whether two texts are the same.
 // Compares eight bytes at a time, and at last the last eight. Where one text is a constant, each
 // eight take two instructions.
@@ -20,14 +28,14 @@ fn are_same<const N: usize>(text: &[u8; N], other: &[u8; N]) -> bool
         let Some((other_word, others)) = right.split_first_chunk::<8>() else {
             return false;
         };
-        if *word == *other_word {
+        if are_same_words(word, other_word) {
             left = more;
             right = others;
         } else {
             return false;
         }
     }
-    *end == *other_end
+    are_same_words(end, other_end)
 }
 
 /// Returns what follows `start`, if the bytes begin with it.

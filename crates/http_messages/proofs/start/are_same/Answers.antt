@@ -1,7 +1,5 @@
 use Rattle.std.proofs.Common.{arith, ◌≡◌, ◌↔◌, ◌+◌, ◌-◌, ◌≤◌, ℕ, ◌++◌, List, take, drop, length, sym, ap, ◌∙◌, drop-drop}
-use Rattle.std.proofs.lemmas.Bool.Decides.{Decides-eqb}
 use Rattle.std.proofs.lemmas.List.{take-append-drop}
-use Rattle.std.proofs.lemmas.Slice.Eq.{slice_eq-Decides}
 use Rattle.numbers.proofs.Small.{impossible}
 use Rattle.http_messages.proofs.start.are_same.Goals as goal
 
@@ -57,9 +55,7 @@ words-preserved g c =
     let (lengths, within, left_is, right_is, before) = c.words.invariant in
     let parts = c.in-Some-split_first_chunk.ensures.cases in
     let other_parts = c.in-Some-split_first_chunk-2.ensures.cases in
-    let words = (slice_eq-Decides Decides-eqb c.in-Some-split_first_chunk.word.now
-    c.in-Some-split_first_chunk-2.other_word.now _ c.eq-in-Some-split_first_chunk.ensures).0
-    c.if-eq.true in
+    let words = c.are_same_words.ensures.0 c.if-are_same_words.true in
     let after = same_after 8 left right _ _ (sym parts.0 ∙ words ∙ other_parts.0) parts.1
     other_parts.1 in
     let n = length c.args.text.now in (
@@ -70,8 +66,8 @@ words-preserved g c =
       (λ e. after.0 (before.0 e), λ e. before.1 (after.1 e)),
     )
 
-pub returns-else-eq : goal.returns-else-eq
-returns-else-eq g c =
+pub returns-else-are_same_words : goal.returns-else-are_same_words
+returns-else-are_same_words g c =
     let word = c.in-Some-split_first_chunk.word.now in
     let other = c.in-Some-split_first_chunk-2.other_word.now in (
       λ no. impossible (sym no),
@@ -79,9 +75,8 @@ returns-else-eq g c =
           let left = c.words.invariant.4.0 same in
           let words : word ≡ other = c.in-Some-split_first_chunk.ensures.cases.0 ∙ ap (take 8) left
           ∙ sym c.in-Some-split_first_chunk-2.ensures.cases.0 in
-          let decides = slice_eq-Decides Decides-eqb word other _
-          c.eq-in-Some-split_first_chunk.ensures in
-          impossible (sym (decides.1 words) ∙ c.if-eq.false),
+          impossible (sym (c.are_same_words.ensures.1 words)
+          ∙ c.if-are_same_words.false),
     )
 
 pub returns : goal.returns
@@ -100,7 +95,7 @@ returns g c =
     ∙ ap (λ k. drop (k - 8) other) as_long in
     let few : length left ≤ 8 = omega (arith, c.in_default-split_first_chunk.ensures.cases) in
     let long : 8 ≤ n = omega (arith, parts.2) in
-    let ends = slice_eq-Decides Decides-eqb end other_end _ c.eq-2.ensures in (
+    let ends = c.are_same_words-2.ensures in (
       λ yes. before.1 (left_of_end n (length left) text left end few long left_is parts.1
           ∙ ap (drop (8 - length left)) (ends.0 yes)
           ∙ sym (left_of_end n (length left) other right other_end few long right_is other_is)),
