@@ -1,11 +1,17 @@
 -- Tel URIs that are written plainly.
-use Rattle.std.proofs.Common.{◌≡◌, ℕ, Bool, true, false, ◌||◌, nat_lt, List, [], ◌∷◌, ◌++◌, length, take, drop, codes, None, refl, sym, ap, ◌∙◌, subst, arith}
+use Rattle.std.proofs.Common.{◌≡◌, ℕ, Bool, true, false, ◌||◌, nat_lt, List, [], ◌∷◌, ◌++◌, length, take, drop, codes, Option, Some, None, refl, sym, ap, ◌∙◌, subst, arith}
 use Rattle.std.proofs.lemmas.List.{take-append-drop}
-use Rattle.std.specs.List.{list_all}
+use Rattle.std.proofs.lemmas.List.Elements.{All-head, All-tail}
+use Rattle.std.specs.Prelude.{IfSome}
+use Rattle.std.specs.Char.{IsAsciiDigit}
+use Rattle.std.specs.List.{All, list_all}
+use Rattle.numbers.proofs.DigitLemmas.{digits_of-digits}
+use Rattle.numbers.specs.Texts.{tn_text}
+use Rattle.numbers.specs.declared.tn.Tn.{Tn}
 use Rattle.telnp.specs.Answer.{Uri}
 use Rattle.telnp.specs.Bytes.{is_digit, is_separator}
 use Rattle.telnp.specs.Faults.{IsRead}
-use Rattle.telnp.specs.Numbers.{digits_in}
+use Rattle.telnp.specs.Numbers.{HasTn, digits_in}
 use Rattle.telnp.specs.Plain.{IsPlain}
 use Rattle.telnp.specs.Grammar.{cut}
 
@@ -55,3 +61,26 @@ digits_after number prefix digits front back plus all =
     ∙ ap (λ (t : List ℕ). t ++ drop 2 number) (sym front ∙ plus)
     ∙ ap (λ (t : List ℕ). codes "+1" ++ t) (sym back))
     ∙ ap (λ (t : List ℕ). 49 ∷ t) (digits_of_digits digits all)
+
+-- A byte of an ASCII digit is one of a digit.
+digit_is : (b : ℕ) → IsAsciiDigit b → is_digit b ≡ true
+digit_is b (least, most) = grind (arith, least, most)
+
+are_digits : (d : List ℕ) → All IsAsciiDigit d → list_all is_digit d ≡ true
+are_digits [] all = refl
+are_digits (b ∷ bs) all =
+    rw (
+      digit_is b (All-head IsAsciiDigit b bs all),
+      are_digits bs (All-tail IsAsciiDigit b bs all),
+    ) refl
+
+-- The digits after `+1` are those of the telephone number that they write.
+pub has_tn_after : (number prefix digits : List ℕ) (read : Option Tn) → prefix ≡ take 2 number
+    → digits ≡ drop 2 number → prefix ≡ codes "+1"
+    → IfSome read (λ tn. digits ≡ tn_text tn.number) → IfSome read (λ tn. HasTn number tn.number)
+has_tn_after number prefix digits None front back plus written = tt
+has_tn_after number prefix digits (Some tn) front back plus written =
+    digits_after number prefix digits front back plus
+    (ap (list_all is_digit) written
+    ∙ are_digits (tn_text tn.number) (digits_of-digits 10 tn.number))
+    ∙ ap (λ (t : List ℕ). 49 ∷ t) written

@@ -1,10 +1,10 @@
 //! Tel URIs and their parts.
 
-ghost use Rattle.std.specs.Prelude.{◌≡◌, [], ◌∷◌, IfSome, option_map};
+ghost use Rattle.std.specs.Prelude.{◌≡◌, [], IfSome, option_map};
 ghost use Rattle.std.specs.Option.{option_map_or};
 ghost use Rattle.telnp.specs.Faults.{fault_in_parts, rest_of, number_of, parameter_parts, parts};
 ghost use Rattle.telnp.specs.Abstraction.{uri_of};
-ghost use Rattle.telnp.specs.Numbers.{digits_in};
+ghost use Rattle.telnp.specs.Numbers.{HasTn};
 ghost use Rattle.telnp.specs.Plain.{IsPlain};
 ghost use Rattle.telnp.specs.Laws.{FaultsAreInOrder, TelUrisAreRead};
 
@@ -90,8 +90,8 @@ impl<'a> TelUri<'a> {
         ensures some { IfSome result (λ tn. HasTn (uri_of self.now).number tn.number) }
         ensures none { IfNone result ((n : ℕ) → IsTn n → ¬ (HasTn (uri_of self.now).number n)) }
     {
-        match ten_digits(self.number) {
-            Some(digits) => Tn::read(digits),
+        match plain_tn(self.number) {
+            Some(tn) => Some(tn),
             None => tn_in(self.number.as_bytes()),
         }
     }
@@ -132,13 +132,13 @@ fn plain_uri(text: &str) -> Option<TelUri<'_>>
     })
 }
 
-// Returns the ten digits of a number part that is `+1` and these.
-fn ten_digits(number: &str) -> Option<&str>
-    ensures { IfSome result (λ digits. digits_in number.now ≡ 49 ∷ digits.now) }
+// Returns the telephone number of a number part that is `+1` and its ten digits, as most are.
+fn plain_tn(number: &str) -> Option<Tn>
+    ensures { IfSome result (λ tn. HasTn number.now tn.number) }
 {
     let (prefix, digits) = number.split_at_checked(2)?;
-    if prefix == "+1" && digits.len() == 10 && are_digits(digits.as_bytes()) {
-        Some(digits)
+    if prefix == "+1" {
+        Tn::read(digits)
     } else {
         None
     }
