@@ -1,4 +1,4 @@
-//! The registered carriers, found by a binary search.
+//! The registered carriers, in their order.
 ghost use Rattle.std.specs.Prelude.{◌≡◌, Some, None, IfOk, IfErr, OnOk, OnErr, is_some, map, not};
 ghost use Rattle.std.specs.FinMap.{get, empty, keys};
 ghost use Rattle.settle.specs.Abstraction.{spid_of};

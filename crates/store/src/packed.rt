@@ -189,6 +189,7 @@ fn packed_status(status: Status) -> (Kind, Short)
     }
 }
 
+#[inline(always)]
 fn status_at(kind: Kind, detail: Short) -> Status
     ensures { status_of result ≡ status_at kind (short_of detail) }
 {
