@@ -1,8 +1,8 @@
 //! Writes HTTP responses into reserved memory.
-ghost use Rattle.std.specs.Prelude.{◌≡◌, ℕ, ◌+◌, ◌≤◌, ◌<◌, ◌^◌, ◌++◌, length, string_bytes, IfOk, OnOk, string_len, string_capacity};
+ghost use Rattle.std.specs.Prelude.{◌≡◌, ℕ, ◌+◌, ◌≤◌, ◌<◌, ◌^◌, ◌++◌, length, codes, decimal, string_bytes, IfOk, OnOk, string_len, string_capacity};
 ghost use Rattle.json_api.specs.Response.{response, head, head_start, IsAnswered, phrase};
 
-use crate::append::{put, put_number};
+use crate::append::put;
 use crate::tail::Tail;
 use http::StatusCode;
 use std::alloc::{AllocError, Global};
@@ -47,23 +47,53 @@ fn put_status(out: &mut String, status: StatusCode)
     );
 }
 
-// Appends the head of a success with a body of `length` bytes, in one piece.
+// Appends the head of a success, up to the length of the body.
 #[tactic(auto, unfolding(crate::specs::Response::phrase))]
-fn put_success_head(out: &mut String, length: u64)
-    requires fits { string_len out.old + 160 ≤ string_capacity out.old }
-    ensures bytes { string_bytes out.new ≡ string_bytes out.old ++ head 200 length }
-    ensures len { string_len out.new ≤ string_len out.old + 160 }
+fn put_ok(out: &mut String)
+    requires fits { string_len out.old + 136 ≤ string_capacity out.old }
+    ensures bytes { string_bytes out.new ≡ string_bytes out.old ++ head_start 200 }
+    ensures len { string_len out.new ≤ string_len out.old + 136 }
     ensures capacity { string_capacity out.old ≤ string_capacity out.new }
 {
-    let mut head = Tail::<96>::new();
-    head.prepend("\r\n\r\n");
-    head.prepend_number(length);
-    head.prepend("HTTP/1.1 200 OK\r\ncontent-type: application/json\r\ncontent-length: ");
-    put(out, head.as_str());
+    put(
+        out,
+        "HTTP/1.1 200 OK\r\ncontent-type: application/json\r\ncontent-length: ",
+    );
 }
 
-// Appends the head of a response with this status and a body of `length` bytes. Almost every status
+// Appends the head of a response with this status, up to the length of the body. Almost every status
 // is 200.
+fn put_start(out: &mut String, status: u16)
+    requires fits { string_len out.old + 136 ≤ string_capacity out.old }
+    requires answered { IsAnswered status }
+    ensures bytes { string_bytes out.new ≡ string_bytes out.old ++ head_start status }
+    ensures len { string_len out.new ≤ string_len out.old + 136 }
+    ensures capacity { string_capacity out.old ≤ string_capacity out.new }
+{
+    if status == 200 {
+        return put_ok(out);
+    }
+    match StatusCode::from_u16(status) {
+        Ok(status) => put_status(out, status),
+        Err(_) => unreachable!(),
+    }
+}
+
+// Appends the end of a head: the length of the body and the empty line, in one piece.
+fn put_length(out: &mut String, length: u64)
+    requires fits { string_len out.old + 24 ≤ string_capacity out.old }
+    ensures bytes { string_bytes out.new
+        ≡ string_bytes out.old ++ (decimal length ++ codes "\r\n\r\n") }
+    ensures len { string_len out.new ≤ string_len out.old + 24 }
+    ensures capacity { string_capacity out.old ≤ string_capacity out.new }
+{
+    let mut end = Tail::<24>::new();
+    end.prepend("\r\n\r\n");
+    end.prepend_number(length);
+    put(out, end.as_str());
+}
+
+// Appends the head of a response with this status and a body of `length` bytes.
 fn put_head(out: &mut String, status: u16, length: u64)
     requires fits { string_len out.old + 160 ≤ string_capacity out.old }
     requires answered { IsAnswered status }
@@ -71,15 +101,8 @@ fn put_head(out: &mut String, status: u16, length: u64)
     ensures len { string_len out.new ≤ string_len out.old + 160 }
     ensures capacity { string_capacity out.old ≤ string_capacity out.new }
 {
-    if status == 200 {
-        return put_success_head(out, length);
-    }
-    match StatusCode::from_u16(status) {
-        Ok(status) => put_status(out, status),
-        Err(_) => unreachable!(),
-    }
-    put_number(out, length);
-    put(out, "\r\n\r\n");
+    put_start(out, status);
+    put_length(out, length);
 }
 
 impl ResponseBuffer {
