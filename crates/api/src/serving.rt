@@ -156,9 +156,9 @@ pub fn serve<S: Store, T: Ticks, R: Read, W: Write>(
         };
         let end = executor.respond(register, clock, ticks, buffer.buffered(), &next);
         buffer.discard(next.end);
-        arrived = executor.arrived_in(buffer.buffered());
+        let following = executor.arrived_in(buffer.buffered());
         // Flush before a read: it may block on a client that is waiting for these responses.
-        let flushes = end.is_some() || !is_message(&arrived);
+        let flushes = end.is_some() || !is_message(&following);
         match send_whole(writer, executor.response.text.as_bytes(), flushes) {
             Ok(()) => {}
             Err(_) => return Err(Fault::Write(count)),
@@ -167,6 +167,7 @@ pub fn serve<S: Store, T: Ticks, R: Read, W: Write>(
             let count = count + 1;
             return Ok(Served { count, end });
         }
+        arrived = following;
     }
     Err(Fault::Memory(u64::MAX))
 }

@@ -64,7 +64,7 @@ returns-in-Err-clause-until g c =
     let was = c.respond-end.ensures.honest honest in
     let sent = (subst (AppendsPrefix (g.W.Write.contents c.loop-count.writer) (g.W.Write.contents
     c.send_whole.new.writer)) (c.as_bytes.ensures.value ∙ ap (λ r. string_bytes r.text)
-    c.arrived_in-arrived.ensures.response) c.in-Err.ensures.err) in
+    c.arrived_in-following.ensures.response) c.in-Err.ensures.err) in
     still (c.loop-count.invariant.5 usable was)
     (λ still_usable. c.respond-end.ensures.stays still_usable honest)
     (λ still_usable withheld. stopped_partly _ _ _ _ _ _ _ _ _ _ _ _ (c.loop-count.invariant.6
@@ -85,7 +85,7 @@ returns-in-Some-clause-until g c =
     let was = c.respond-end.ensures.honest honest in
     let sent = (subst (Appends (g.W.Write.contents c.loop-count.writer) (g.W.Write.contents
     c.send_whole.new.writer)) (c.as_bytes.ensures.value ∙ ap (λ r. string_bytes r.text)
-    c.arrived_in-arrived.ensures.response) c.in-Ok-send_whole.ensures.ok) in
+    c.arrived_in-following.ensures.response) c.in-Ok-send_whole.ensures.ok) in
     still (c.loop-count.invariant.5 usable was)
     (λ still_usable. c.respond-end.ensures.stays still_usable honest)
     (λ still_usable withheld. stops _ _ _ _ _ _ _ (stopped _ _ _ _ _ _ _ _ _ _ _ _
@@ -126,7 +126,7 @@ returns-in-Err-clause-serves g c =
     c.respond-end.new.register.store)) c.buffered.ensures (c.respond-end.ensures.responds usable))
     (subst (AppendsPrefix (g.W.Write.contents c.loop-count.writer) (g.W.Write.contents
     c.send_whole.new.writer)) (c.as_bytes.ensures.value ∙ ap (λ r. string_bytes r.text)
-    c.arrived_in-arrived.ensures.response) c.in-Err.ensures.err)
+    c.arrived_in-following.ensures.response) c.in-Err.ensures.err)
 
 pub returns-in-Err-clause-state : goal.returns-in-Err-clause-state
 returns-in-Err-clause-state g c =
@@ -183,7 +183,7 @@ returns-in-Some-clause-serves g c =
     c.respond-end.new.register.store)) c.buffered.ensures (c.respond-end.ensures.responds usable))
     (subst (Appends (g.W.Write.contents c.loop-count.writer) (g.W.Write.contents
     c.send_whole.new.writer)) (c.as_bytes.ensures.value ∙ ap (λ r. string_bytes r.text)
-    c.arrived_in-arrived.ensures.response) c.in-Ok-send_whole.ensures.ok)
+    c.arrived_in-following.ensures.response) c.in-Ok-send_whole.ensures.ok)
 
 pub loop-count-preserved : goal.loop-count-preserved
 loop-count-preserved g c =
@@ -191,8 +191,8 @@ loop-count-preserved g c =
       left_short (buffered_bytes c.next_message.new.buffer) (buffered_bytes c.discard.new.self)
           c.next_message.new.arrived c.in-Ok-next_of.next c.in-Ok-next_of.ensures
           c.in-Ok.ensures.ahead c.discard.ensures stays,
-      subst (λ (b : List ℕ). IsReady b c.arrived_in-arrived.result)
-          c.buffered-in-loop-count.ensures c.arrived_in-arrived.ensures.ready,
+      subst (λ (b : List ℕ). IsReady b c.arrived_in-following.result)
+          c.buffered-in-loop-count.ensures c.arrived_in-following.ensures.ready,
       λ usable. c.loop-count.invariant.2 (c.respond-end.ensures.usable usable),
       le_trans c.loop-count.invariant.3 c.respond-end.ensures.rises,
       λ honest. c.loop-count.invariant.4 (c.respond-end.ensures.honest honest),
@@ -200,7 +200,7 @@ loop-count-preserved g c =
           let was = c.respond-end.ensures.honest honest in
           let sent = (subst (Appends (g.W.Write.contents c.loop-count.writer) (g.W.Write.contents
           c.send_whole.new.writer)) (c.as_bytes.ensures.value ∙ ap (λ r. string_bytes r.text)
-          c.arrived_in-arrived.ensures.response) c.in-Ok-send_whole.ensures.ok) in
+          c.arrived_in-following.ensures.response) c.in-Ok-send_whole.ensures.ok) in
           still (c.loop-count.invariant.5 usable was)
           (λ still_usable. c.respond-end.ensures.stays still_usable honest)
           (λ still_usable withheld. stopped _ _ _ _ _ _ _ _ _ _ _ _ (c.loop-count.invariant.6
@@ -236,7 +236,7 @@ loop-count-preserved g c =
           c.respond-end.new.register.store)) c.buffered.ensures (c.respond-end.ensures.responds
           usable)) (subst (Appends (g.W.Write.contents c.loop-count.writer) (g.W.Write.contents
           c.send_whole.new.writer)) (c.as_bytes.ensures.value ∙ ap (λ r. string_bytes r.text)
-          c.arrived_in-arrived.ensures.response) c.in-Ok-send_whole.ensures.ok),
+          c.arrived_in-following.ensures.response) c.in-Ok-send_whole.ensures.ok),
     )
 
 pub returns-clause-serves : goal.returns-clause-serves
