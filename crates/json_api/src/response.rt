@@ -165,6 +165,8 @@ impl ResponseBuffer {
     }
 
     /// Writes the whole response with this status and the body.
+    // Inlined: every message passes here.
+    #[inline(always)]
     pub fn finish(&mut self, status: u16)
         requires answered { IsAnswered status }
         requires written { IsWritten self.old }

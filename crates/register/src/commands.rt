@@ -26,7 +26,9 @@ use std::alloc::Global;
 
 // Decides the command: returns the reply and stages the changes. Commits nothing.
 //
-// Each kind of command stays a call: inlined, its large locals would cost all the others.
+// Each kind of command stays a call: inlined, its large locals would cost all the others. This match
+// is inlined, because a reply is large and each return moves it.
+#[inline(always)]
 fn decide_command<S: Store>(
     alloc: Global,
     store: &mut S,

@@ -39,7 +39,7 @@ tied-rank k q r is equal =
 abbrev in_row : Option (List ℕ) → ℕ → ℕ
 in_row o p = get_or (unwrap_or o []) p 0
 
--- A number is written at a place of a row of ids, one that stands for an id.
+-- A number that notes an id is written at a place of a row of ids.
 module _ (old new : List (ℕ × List ℕ)) (row place hint : ℕ) (ids : List ℕ)
     (is : (n : ℕ) → lookup (λ m. n == m) new
     ≡ cond (row == n) (Some (slice_set ids place hint)) (lookup (λ m. n == m) old))

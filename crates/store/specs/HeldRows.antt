@@ -24,7 +24,7 @@ subject_version_of k = record { subject = subject_at k.rank; id = k.id }
 abbrev pub subject_version : ℕ → Subject → SubjectVersion
 subject_version id s = record { subject = s; id = id }
 
--- What stands for the id of the last version of a rank, 0 if there is none: 16 ranks share a row.
+-- The id noted for the last version of a rank, or 0. 16 ranks share a row.
 abbrev pub hint_at : List (ℕ × List ℕ) → ℕ → ℕ
 hint_at last rank =
     slice_index_or (unwrap_or (lookup (λ row. rank / 16 == row) last) []) (rank % 16) 0

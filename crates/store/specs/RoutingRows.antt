@@ -6,7 +6,7 @@ use Rattle.store.specs.Ranks.{subject_at}
 use Rattle.store.specs.ShortNumbers.{short_of}
 use Rattle.store.specs.declared.versions.PackedRouting.{PackedRouting}
 
--- What stands for the routing of a version that is not in force.
+-- The packed routing of a version that is not in force.
 abbrev pub no_routing : PackedRouting
 no_routing = record {
   rank = record { number = 0 };

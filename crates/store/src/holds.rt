@@ -30,8 +30,8 @@ fn place_of(rank: Rank) -> (u64, usize)
     (rank.number / 16, (rank.number % 16) as usize)
 }
 
-// Returns what stands for an id in a row, in which 0 stands for none: the id itself, if four bytes
-// hold it. With the greatest number in its place, the version is found by its subject's keys.
+// Returns how a row notes an id: the id itself if four bytes hold it, else the greatest number, and
+// the version is found by its subject's keys. 0 notes no id.
 fn hint_of(id: u64) -> u32
     ensures { result ≢ 0 }
 {
