@@ -51,6 +51,8 @@ pub fn put_failure(out: &mut String, failure: Failure)
 }
 
 // Writes a phase or null before the tail.
+// Inlined: each view of a version passes here.
+#[inline(always)]
 fn prepend_phase(tail: &mut Tail<256>, phase: Option<Phase>)
     requires { length tail.old + 9 ≤ 256 }
     ensures text { tail.new ≡ phase_value (option_map phase_model phase) ++ tail.old }
@@ -65,6 +67,8 @@ fn prepend_phase(tail: &mut Tail<256>, phase: Option<Phase>)
 }
 
 // Writes the name of a status before the tail.
+// Inlined: each view of a version passes here.
+#[inline(always)]
 fn prepend_status(tail: &mut Tail<256>, status: Status)
     requires { length tail.old + 18 ≤ 256 }
     ensures text { tail.new ≡ status_word (status_model status) ++ tail.old }
@@ -87,6 +91,8 @@ fn prepend_status(tail: &mut Tail<256>, status: Status)
 }
 
 // Writes the release minute of a disconnect-pending version, or null, before the tail.
+// Inlined: each view of a version passes here.
+#[inline(always)]
 fn prepend_release(tail: &mut Tail<256>, status: Status)
     requires { length tail.old + 13 ≤ 256 }
     ensures text { tail.new ≡ number_value (release_of (status_model status)) ++ tail.old }

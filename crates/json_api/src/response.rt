@@ -48,7 +48,9 @@ fn put_status(out: &mut String, status: StatusCode)
 }
 
 // Appends the head of a success, up to the length of the body.
+// Inlined: almost every message passes here.
 #[tactic(auto, unfolding(crate::specs::Response::phrase))]
+#[inline(always)]
 fn put_ok(out: &mut String)
     requires fits { string_len out.old + 136 ≤ string_capacity out.old }
     ensures bytes { string_bytes out.new ≡ string_bytes out.old ++ head_start 200 }
@@ -63,6 +65,8 @@ fn put_ok(out: &mut String)
 
 // Appends the head of a response with this status, up to the length of the body. Almost every status
 // is 200.
+// Inlined: every message passes here.
+#[inline(always)]
 fn put_start(out: &mut String, status: u16)
     requires fits { string_len out.old + 136 ≤ string_capacity out.old }
     requires answered { IsAnswered status }
@@ -80,6 +84,8 @@ fn put_start(out: &mut String, status: u16)
 }
 
 // Appends the end of a head: the length of the body and the empty line, in one piece.
+// Inlined: every message passes here.
+#[inline(always)]
 fn put_length(out: &mut String, length: u64)
     requires fits { string_len out.old + 24 ≤ string_capacity out.old }
     ensures bytes { string_bytes out.new
@@ -94,6 +100,8 @@ fn put_length(out: &mut String, length: u64)
 }
 
 // Appends the head of a response with this status and a body of `length` bytes.
+// Inlined: every message passes here.
+#[inline(always)]
 fn put_head(out: &mut String, status: u16, length: u64)
     requires fits { string_len out.old + 160 ≤ string_capacity out.old }
     requires answered { IsAnswered status }

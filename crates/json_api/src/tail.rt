@@ -138,6 +138,8 @@ impl<const N: usize> Tail<N> {
     }
 
     /// Writes the digits of a subject, ten of a number or seven of a block, before the tail.
+    // Inlined: each view of a version passes here.
+    #[inline(always)]
     pub(crate) fn prepend_subject(&mut self, subject: Subject)
         requires { length self.old + 10 < N }
         ensures text { self.new ≡ subject_text (subject_of subject) ++ self.old }
