@@ -44,7 +44,8 @@ def print_kinds(ports):
     each = (ports[100] - ports[2]) / 98
     commands = ports[2] - 2 * each
     share = ports[10] / (commands + 10 * each)
-    print(f"\nThe commands of a port: {commands:.2f} microseconds. An acknowledgement: {each:.2f}. A port among ten: {share:.2f} times the sum.")
+    print(f"\nThe commands of a port: {commands:.2f} microseconds. An acknowledgement: {each:.2f}.", end=" ")
+    print(f"A port among ten: {share:.2f} times the sum.")
 
 
 def main(words):
