@@ -2,6 +2,7 @@
 pub mod Before
 pub mod Composed
 pub mod Deciding
+pub mod Failed
 pub mod HeldSets
 pub mod Left
 pub mod LookedUp

@@ -1,5 +1,5 @@
-use Rattle.std.proofs.Common.{rules, ap, refl, ◌∙◌, subst}
-use Rattle.std.specs.Prelude.{Err, option_map}
+use Rattle.std.proofs.Common.{◌≡◌, rules, ap, refl, ◌∙◌, subst}
+use Rattle.std.specs.Prelude.{Err, Ok, option_map}
 use Rattle.std.specs.FinMap.{get, keys}
 use Rattle.numbers.specs.declared.cic.Cic.{Cic}
 use Rattle.model.specs.Conditions.{is_the}
@@ -13,6 +13,8 @@ use Rattle.register.proofs.OnBlocks.BlockCalled.{answers_unfound, has_found, hol
 use Rattle.register.proofs.EveryCall.Deciding.{decides_err, decides_fault, decides_replied}
 use Rattle.settle.proofs.ReadOn.{reads_fault, reads_on, reads_refused}
 use Rattle.settle.proofs.Faults.{same_refusal}
+use Rattle.register.proofs.EveryCall.Failed.{reads_failed}
+use Rattle.model.specs.declared.refusal.Refusal.TheVariants.{Storage}
 use Rattle.register.proofs.pooling.assign.Goals as goal
 
 pub returns-in_err-found-clause-decides : goal.returns-in_err-found-clause-decides
@@ -119,3 +121,28 @@ returns-in_err-stage_made-clause-read_only g c =
     c.in_ok-found.ensures.read_only
     tt) tt c.in_ok-is_lrn_good.ensures.read_only tt) tt c.in_err-stage_made.ensures.read_only
     c.from_residual-in_err-stage_made.result c.in_err-stage_made.field-0.0 (search rules) (ap Err)
+
+pub returns-in_err-is_known-clause-decides : goal.returns-in_err-is_known-clause-decides
+returns-in_err-is_known-clause-decides g c = λ usable. decides_fault _ _ _ c.from_residual.result
+    c.in_err-is_known.field-0.0 (search rules)
+
+pub returns-in_err-is_known-clause-read_only : goal.returns-in_err-is_known-clause-read_only
+returns-in_err-is_known-clause-read_only g c = reads_failed
+    c.in_err-is_known.ensures.looks_up.read_only c.from_residual.result c.in_err-is_known.field-0.0
+    (search rules) (ap Err)
+
+pub returns-clause-read_only : goal.returns-clause-read_only
+returns-clause-read_only g c = reads_refused
+    (reads_on (reads_on (reads_on c.in_ok-is_known.ensures.looks_up.read_only tt
+    c.in_ok-found.ensures.read_only tt) tt
+    c.in_ok-is_lrn_good.ensures.read_only tt) tt
+    c.in_ok-stage_made.ensures.read_only tt) tt
+    (λ told. let never : Ok _ ≡ Err Storage = told.says in cc)
+
+pub returns-clause-open : goal.returns-clause-open
+returns-clause-open g c = λ honest.
+    let h_stage = c.in_ok-stage_made.ensures.read_only.honest honest in
+    let h_lrn = c.in_ok-is_lrn_good.ensures.read_only.honest h_stage in
+    c.in_ok-stage_made.ensures.read_only.stays tt
+    (c.in_ok-is_lrn_good.ensures.read_only.stays tt (c.in_ok-found.ensures.open h_lrn) h_stage)
+    honest

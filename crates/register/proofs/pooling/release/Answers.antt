@@ -1,5 +1,5 @@
-use Rattle.std.proofs.Common.{rules, true, ap, refl, ◌∙◌, subst}
-use Rattle.std.specs.Prelude.{Err, option_map}
+use Rattle.std.proofs.Common.{◌≡◌, rules, true, ap, refl, ◌∙◌, subst}
+use Rattle.std.specs.Prelude.{Err, Ok, option_map}
 use Rattle.std.specs.FinMap.{keys}
 use Rattle.numbers.specs.Abstraction.{subject_of}
 use Rattle.model.specs.Commands.{Release}
@@ -15,6 +15,8 @@ use Rattle.register.proofs.EveryCall.Deciding.{decides_err, decides_fault, decid
 use Rattle.settle.proofs.ReadOn.{reads_fault, reads_on, reads_refused}
 use Rattle.register.proofs.OnBlocks.Released.{answers_release_refused, answers_released, release_never}
 use Rattle.settle.proofs.Faults.{same_refusal}
+use Rattle.register.proofs.EveryCall.Failed.{reads_failed}
+use Rattle.model.specs.declared.refusal.Refusal.TheVariants.{Storage}
 use Rattle.register.proofs.pooling.release.Goals as goal
 
 pub returns-in_err-found-clause-decides : goal.returns-in_err-found-clause-decides
@@ -101,3 +103,25 @@ returns-in_err-stage_transition-clause-read_only g c =
     c.in_err-stage_transition.ensures.read_only c.from_residual-in_err-stage_transition.result
     c.in_err-stage_transition.field-0.0
     (search rules) (ap Err)
+
+pub returns-in_err-is_known-clause-decides : goal.returns-in_err-is_known-clause-decides
+returns-in_err-is_known-clause-decides g c = λ usable. decides_fault _ _ _ c.from_residual.result
+    c.in_err-is_known.field-0.0 (search rules)
+
+pub returns-in_err-is_known-clause-read_only : goal.returns-in_err-is_known-clause-read_only
+returns-in_err-is_known-clause-read_only g c = reads_failed
+    c.in_err-is_known.ensures.read_only c.from_residual.result c.in_err-is_known.field-0.0
+    (search rules) (ap Err)
+
+pub returns-clause-read_only : goal.returns-clause-read_only
+returns-clause-read_only g c = reads_refused
+    (reads_on (reads_on c.in_ok-is_known.ensures.read_only tt
+    c.in_ok-found.ensures.read_only tt) tt
+    c.in_ok-stage_transition.ensures.read_only tt) tt
+    (λ told. let never : Ok _ ≡ Err Storage = told.says in cc)
+
+pub returns-clause-open : goal.returns-clause-open
+returns-clause-open g c = λ honest.
+    let h_stage = c.in_ok-stage_transition.ensures.read_only.honest honest in
+    c.in_ok-stage_transition.ensures.read_only.stays tt
+    (c.in_ok-found.ensures.open h_stage) honest
