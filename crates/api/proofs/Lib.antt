@@ -5,6 +5,7 @@ mod NextLemmas
 mod OnceLemmas
 mod PlainCalls
 mod PlainLemmas
+pub mod Reachable
 mod Risen
 mod RunLemmas
 pub mod StepLemmas

@@ -1,20 +1,22 @@
 -- How the program ends.
-use Rattle.std.proofs.Common.{◌≡◌, ℕ, ◌≤◌, Bool, true, false, List, Option, Result, Ok, Err, arith, inl, inr, refl, subst, sym}
+use Rattle.std.proofs.Common.{◌≡◌, ◌⊎◌, ℕ, ◌≤◌, Bool, true, false, List, Option, Result, Ok, Err, arith, inl, inr, refl, subst, sym}
 use Rattle.std.specs.Borrow.{Bor}
 use Rattle.std.specs.Prelude.{IfErr, OnOk}
 use Rattle.bulk.specs.Noting.{ReportsNoting}
 use Rattle.bulk.specs.declared.fault.BulkFault.{BulkFault}
 use Rattle.settle.specs.Reads.{HasDeviceFailed}
+use Rattle.register.specs.declared.register.OpenFault.{OpenFault}
 use Rattle.register.specs.declared.register.OpenFault.TheVariants as opening
-use Rattle.cli.specs.CommandLine.{IsLine}
-use Rattle.cli.specs.declared.parse.CommandLine.{CommandLine}
-use Rattle.cli.specs.declared.parse.Parsed.{Parsed}
-use Rattle.cli.specs.Faults.{IsOfListening, IsOfSubcommand, JudgesRows, MayEnd, MayEndAs, MayEndLine, MayEndListening, outcome_of_commands}
-use Rattle.cli.specs.declared.parse.ServeLimits.{ServeLimits}
-use Rattle.cli.specs.declared.parse.Subcommand.{Subcommand}
-use Rattle.cli.specs.declared.parse.Subcommand.TheVariants as sub
+use Rattle.command_line.specs.CommandLine.{IsLine}
+use Rattle.command_line.specs.declared.parse.CommandLine.{CommandLine}
+use Rattle.command_line.specs.declared.parse.Parsed.{Parsed}
+use Rattle.cli.specs.Faults.{IsOfListening, IsOfSubcommand, JudgesRows, MayEnd, MayEndAs, MayEndLine, MayEndListening, IsOfOpening, outcome_of_commands}
+use Rattle.command_line.specs.declared.parse.ServeLimits.{ServeLimits}
+use Rattle.command_line.specs.declared.parse.Subcommand.{Subcommand}
+use Rattle.command_line.specs.declared.parse.Subcommand.TheVariants as sub
 use Rattle.cli.specs.Listening.{IsBeforeServing}
-use Rattle.cli.specs.Reporting.{AsksForHelp, Ends, ExplainsMistake, IsUsage, ReportsHelp, ReportsOutcome, ReportsUsage}
+use Rattle.command_line.specs.Usage.{AsksForHelp, ExplainsMistake, IsUsage}
+use Rattle.cli.specs.Reporting.{Ends, ReportsHelp, ReportsOutcome, ReportsUsage}
 use Rattle.cli.specs.declared.fault.Fault.{Fault}
 use Rattle.cli.specs.declared.fault.Fault.TheVariants as fault
 
@@ -94,3 +96,24 @@ pub line_ends : (line : CommandLine) (r : Result (Unit {0}) Fault) → IfErr r (
     → IfErr r (MayEndLine line)
 line_ends line (Ok done) may = tt
 line_ends line (Err refused) may = inl may
+
+-- A fault of opening is a refusal to open.
+pub by_opening : (P : Fault → Type 0) → ((refused : OpenFault) → P (fault.Open refused))
+    → (f : Fault) → IsOfOpening f → P f
+by_opening P may (fault.Open refused) is = may refused
+by_opening P may (fault.Windows refused) is = absurd is
+by_opening P may (fault.Message refused) is = absurd is
+by_opening P may (fault.File refused) is = absurd is
+by_opening P may fault.RowsRefused is = absurd is
+by_opening P may fault.Listen is = absurd is
+by_opening P may fault.Read is = absurd is
+by_opening P may fault.Write is = absurd is
+by_opening P may fault.NoMemory is = absurd is
+
+-- Work over a file ends with its own fault, or with one of opening or closing the file.
+pub work_ends : {A : Type 0} (P : Fault → Type 0) (r : Result A Fault)
+    → ((refused : OpenFault) → P (fault.Open refused))
+    → IfErr r (λ f. P f ⊎ IsOfOpening f) → IfErr r P
+work_ends P (Ok done) may ends = tt
+work_ends P (Err f) may (inl own) = own
+work_ends P (Err f) may (inr is) = by_opening P may f is

@@ -12,13 +12,13 @@ use Rattle.bulk.specs.declared.fault.BulkFault.{BulkFault}
 use Rattle.bulk.specs.declared.fault.FaultKind.TheVariants as kind
 use Rattle.cli.specs.declared.fault.Fault.{Fault}
 use Rattle.cli.specs.declared.fault.Fault.TheVariants as fault
-use Rattle.cli.specs.declared.parse.CommandLine.{CommandLine}
-use Rattle.cli.specs.declared.parse.Parsed.{Parsed}
-use Rattle.cli.specs.declared.parse.WindowsSource.{WindowsSource}
-use Rattle.cli.specs.declared.parse.WindowsSource.TheVariants as source
-use Rattle.cli.specs.declared.parse.Parsed.TheVariants as parsed
-use Rattle.cli.specs.declared.parse.Subcommand.{Subcommand}
-use Rattle.cli.specs.declared.parse.Subcommand.TheVariants as sub
+use Rattle.command_line.specs.declared.parse.CommandLine.{CommandLine}
+use Rattle.command_line.specs.declared.parse.Parsed.{Parsed}
+use Rattle.command_line.specs.declared.parse.WindowsSource.{WindowsSource}
+use Rattle.command_line.specs.declared.parse.WindowsSource.TheVariants as source
+use Rattle.command_line.specs.declared.parse.Parsed.TheVariants as parsed
+use Rattle.command_line.specs.declared.parse.Subcommand.{Subcommand}
+use Rattle.command_line.specs.declared.parse.Subcommand.TheVariants as sub
 
 abbrev pub fault_name : Fault → List ℕ
 fault_name (fault.Windows refused) = name_of refused

@@ -1,5 +1,4 @@
 pub mod Checking
-pub mod CommandLine
 pub mod Copies
 pub mod Feeding
 pub mod Explaining

@@ -2,15 +2,12 @@
 use Rattle.std.specs.Prelude.{◌≡◌, ◌≢◌, ◌⊎◌, ℕ, Bool, true, false, List, [], ◌∷◌, ◌++◌, codes, Option, Result, Ok, Err}
 use Rattle.std.specs.Io.KnownBytes.{Appends, Keeps}
 use Rattle.http_messages.specs.Sending.{AppendsPrefix}
-use Rattle.clap.specs.Faults.{fault_of}
-use Rattle.clap.specs.Kinds.{IsAmong}
-use Rattle.clap.specs.declared.error.kind.ErrorKind.{ErrorKind}
-use Rattle.clap.specs.declared.error.kind.ErrorKind.TheVariants as kind
-use Rattle.cli.specs.CommandLine.{IsAccepted, IsLine, IsNoLine, npacd_app, wants_present, wants_snapshot}
+use Rattle.command_line.specs.CommandLine.{IsLine}
+use Rattle.command_line.specs.Usage.{AsksForHelp, ExplainsMistake}
 use Rattle.cli.specs.Faults.{MayEndAs, exit_status, fault_name}
 use Rattle.cli.specs.declared.fault.Fault.{Fault}
 use Rattle.cli.specs.declared.fault.Fault.TheVariants as fault
-use Rattle.cli.specs.declared.parse.Parsed.{Parsed}
+use Rattle.command_line.specs.declared.parse.Parsed.{Parsed}
 
 -- The line on standard error for a fault's name.
 abbrev pub line_of : List ℕ → List ℕ
@@ -50,42 +47,6 @@ pub record ReportsUsage (wanted : ℕ) (text : List ℕ) (wrote written had has 
   pub help : wanted ≡ 0 → ReportsHelp text wrote written had has status
   pub mistake : wanted ≡ 2 → ReportsMistake text had has status
   pub memory : wanted ≡ 3 → ReportsFault fault.NoMemory had has status
-
--- Holds for the statuses of a usage: help, a mistake, or a failed allocation.
-abbrev pub IsUsage : ℕ → Type 0
-IsUsage status = (status ≡ 0) ⊎ (status ≡ 2) ⊎ (status ≡ 3)
-
--- Holds for the statuses of a mistake in the words and of a failed allocation.
-abbrev pub IsMistake : ℕ → Type 0
-IsMistake status = (status ≡ 2) ⊎ (status ≡ 3)
-
--- Holds if the words ask for help or for the version, by the rule of `clap`.
-abbrev pub AsksForHelp : List (List ℕ) → Type 0
-AsksForHelp words = IsAmong kind.DisplayHelp (fault_of (npacd_app (wants_present words)) words)
-    ⊎ IsAmong kind.DisplayVersion (fault_of (npacd_app (wants_present words)) words)
-
--- Holds if `clap` refuses the words, and not only to show help or the version.
-abbrev pub IsRefused : List (List ℕ) → Type 0
-IsRefused words = (why : ErrorKind) × IsAmong why (fault_of (npacd_app (wants_present words)) words)
-    × (why ≢ kind.DisplayHelp) × (why ≢ kind.DisplayVersion)
-
--- Holds if `clap` accepts the words, and yet they are no command line: `clap` takes a sign before a
--- number, `--windows` beside `--present-windows`, and `--snapshot` without `--db`.
-abbrev pub IsAcceptedOnly : List (List ℕ) → Type 0
-IsAcceptedOnly words = IsAccepted words × IsNoLine words
-
--- The text for such words.
-abbrev pub mistake_text : (present snapshot : Bool) → List ℕ
-mistake_text true snapshot =
-    codes "error: --windows stands beside --present-windows, or a number is not in digits\n"
-mistake_text false true = codes "error: --snapshot stands without --db\n"
-mistake_text false false = codes "error: a number is written in digits\n"
-
--- Holds if the text explains what is wrong with the words. What `clap` writes is not known.
-abbrev pub ExplainsMistake : (words : List (List ℕ)) → (text : List ℕ) → Type 0
-ExplainsMistake words text = IsRefused words
-    ⊎ (IsAcceptedOnly words
-    × (text ≡ mistake_text (wants_present words) (wants_snapshot words)))
 
 -- Holds if the words are a command line, which was executed, or ask for help, and nothing was
 -- reported.

@@ -5,15 +5,14 @@ ghost use Rattle.cli.specs.Checking.{IsSummary, ShowsRows, ShowsSummary, due_lin
 ghost use Rattle.cli.specs.Faults.{IsOfShowing};
 
 use crate::fault::Fault;
-use crate::running::{close, open_fault};
+use crate::over_file::{StoreTask, over_existing};
 use diagnosis::{Cause, cause_at};
 use http_messages::send_all;
 use invariants::{Flaw, find_flaw};
 use numbers::Minute;
 use register::OpenFault;
 use settle::Store;
-use sql_store::{SqlStore, Unwatched};
-use sqlite::Unknown;
+use sql_store::Unwatched;
 use std::alloc::{AllocError, Global};
 use std::io::Write;
 
@@ -98,15 +97,28 @@ fn show_summary<S: Store, W: Write>(
     }
 }
 
+// Writes the summary.
+#[derive(Drop)]
+struct SummaryTask<'a, W> {
+    writer: &'a mut W,
+}
+
+impl<W: Write> StoreTask for SummaryTask<'_, W> {
+    type Output = ();
+
+    ghost may_end = { λ _. IsOfShowing };
+
+    fn run<S: Store>(&mut self, rt: &HostRuntime, mut store: S) -> (S, Result<(), Fault>) {
+        let shown = show_summary(rt.alloc(), &mut store, self.writer);
+        (store, shown)
+    }
+}
+
 // Opens the file at `path`, writes its summary, and closes it.
 pub(crate) fn summarize<W: Write>(rt: &HostRuntime, path: &str, writer: &mut W) -> Result<(), Fault>
     ensures { IfErr result IsOfShowing }
 {
-    let mut store = SqlStore::existing_at(rt, path, Unknown, &mut Unwatched).map_err(open_fault)?;
-    let outcome = show_summary(rt.alloc(), &mut store, writer);
-    let closed = close(store);
-    outcome?;
-    closed
+    over_existing(rt, path, &mut Unwatched, &mut SummaryTask { writer })
 }
 
 // Returns the line for a refused file.
@@ -170,22 +182,46 @@ fn show_rows<S: Store, W: Write>(
     }
 }
 
+// Writes the summary of a store, and whether its rows keep the invariants. Returns their first flaw,
+// if they have one.
+fn show_inspection<S: Store, W: Write>(
+    alloc: Global,
+    store: &mut S,
+    writer: &mut W,
+) -> Result<Option<Flaw>, Fault>
+    ensures { IfErr result IsOfShowing }
+{
+    show_summary(alloc, store, writer)?;
+    show_rows(alloc, store, writer)
+}
+
+// Writes the summary and whether the rows keep the invariants.
+#[derive(Drop)]
+struct InspectionTask<'a, W> {
+    writer: &'a mut W,
+}
+
+impl<W: Write> StoreTask for InspectionTask<'_, W> {
+    type Output = Option<Flaw>;
+
+    ghost may_end = { λ _. IsOfShowing };
+
+    fn run<S: Store>(
+        &mut self,
+        rt: &HostRuntime,
+        mut store: S,
+    ) -> (S, Result<Option<Flaw>, Fault>) {
+        let shown = show_inspection(rt.alloc(), &mut store, self.writer);
+        (store, shown)
+    }
+}
+
 // Opens the file at `path`, writes its summary and whether its rows keep the invariants, and closes
 // it. Returns the first flaw of the rows, if they have one.
 fn inspect<W: Write>(rt: &HostRuntime, path: &str, writer: &mut W) -> Result<Option<Flaw>, Fault>
     ensures { IfErr result IsOfShowing }
 {
-    let alloc = rt.alloc();
-    let mut store = SqlStore::existing_at(rt, path, Unknown, &mut Unwatched).map_err(open_fault)?;
-    let shown = show_summary(alloc, &mut store, writer);
-    let judged = match shown {
-        Ok(()) => show_rows(alloc, &mut store, writer),
-        Err(fault) => Err(fault),
-    };
-    let closed = close(store);
-    let flaw = judged?;
-    closed?;
-    Ok(flaw)
+    over_existing(rt, path, &mut Unwatched, &mut InspectionTask { writer })
 }
 
 /// Writes what the register in the file at `path` holds: its minute, the number of its present set

@@ -3,10 +3,10 @@ ghost use Rattle.std.specs.Prelude.{◌≡◌, IfOk, string_bytes};
 ghost use Rattle.cli.specs.Explaining.{explanation_line, file_words, message_words, window_words};
 
 use crate::fault::Fault;
-use crate::parse::{CommandLine, Parsed, Subcommand, WindowsSource};
 use crate::snapshot::Snapshot;
 use api::MessageFault;
 use bulk::FaultKind;
+use command_line::parse::{CommandLine, Parsed, Subcommand, WindowsSource};
 use diagnosis::{Cause, Reason, cause_at, cause_of_moved, reason_of_plain_file};
 use http_messages::send_all;
 use register::OpenFault;
@@ -101,73 +101,70 @@ fn messages_of<'a>(line: &CommandLine<'a>) -> &'a str {
     }
 }
 
-impl<'a> Parsed<'a> {
-    // Returns where a fault is explained.
-    fn explain(&self) -> Option<&'a str> {
-        match self {
-            Parsed::Windows(line)
-            | Parsed::Check(line)
-            | Parsed::Backup { line, .. }
-            | Parsed::Repair { line, .. }
-            | Parsed::Report { line, .. } => line.explain,
-            Parsed::Line(line) => line.explain,
-        }
-    }
-
-    // Returns the path of the database file.
-    fn db(&self) -> Option<&'a str> {
-        match self {
-            Parsed::Windows(line)
-            | Parsed::Check(line)
-            | Parsed::Backup { line, .. }
-            | Parsed::Repair { line, .. }
-            | Parsed::Report { line, .. } => Some(line.db),
-            Parsed::Line(line) => line.db,
-        }
-    }
-
-    // Returns the path of the windows file.
-    fn windows(&self) -> Option<&'a str> {
-        match self {
-            Parsed::Line(
-                CommandLine {
-                    windows: WindowsSource::File(path),
-                    ..
-                },
-            ) => Some(*path),
-            _ => None,
-        }
-    }
-
-    // Returns where messages come from.
-    fn messages(&self) -> &'a str {
-        match self {
-            Parsed::Line(line) => messages_of(line),
-            _ => INPUT,
-        }
-    }
-
-    // Returns the path of the file of `--feed`.
-    fn feed(&self) -> Option<&'a str> {
-        match self {
-            Parsed::Line(line) => line.feed,
-            _ => None,
-        }
-    }
-
-    // Returns the path of the database file if a copy of it is read.
-    fn copied(&self) -> Option<&'a str> {
-        match self {
-            Parsed::Backup { line, .. } => Some(line.db),
-            Parsed::Line(line) if line.snapshot => line.db,
-            _ => None,
-        }
+// Returns where a fault is explained.
+fn explain_path<'a>(parsed: &Parsed<'a>) -> Option<&'a str> {
+    match parsed {
+        Parsed::Windows(line)
+        | Parsed::Check(line)
+        | Parsed::Backup { line, .. }
+        | Parsed::Repair { line, .. }
+        | Parsed::Report { line, .. } => line.explain,
+        Parsed::Line(line) => line.explain,
     }
 }
 
+// Returns the path of the database file.
+fn db_path<'a>(parsed: &Parsed<'a>) -> Option<&'a str> {
+    match parsed {
+        Parsed::Windows(line)
+        | Parsed::Check(line)
+        | Parsed::Backup { line, .. }
+        | Parsed::Repair { line, .. }
+        | Parsed::Report { line, .. } => Some(line.db),
+        Parsed::Line(line) => line.db,
+    }
+}
+
+// Returns the path of the windows file.
+fn windows_path<'a>(parsed: &Parsed<'a>) -> Option<&'a str> {
+    match parsed {
+        Parsed::Line(
+            CommandLine {
+                windows: WindowsSource::File(path),
+                ..
+            },
+        ) => Some(*path),
+        _ => None,
+    }
+}
+
+// Returns where messages come from.
+fn messages_source<'a>(parsed: &Parsed<'a>) -> &'a str {
+    match parsed {
+        Parsed::Line(line) => messages_of(line),
+        _ => INPUT,
+    }
+}
+
+// Returns the path of the file of `--feed`.
+fn feed_path<'a>(parsed: &Parsed<'a>) -> Option<&'a str> {
+    match parsed {
+        Parsed::Line(line) => line.feed,
+        _ => None,
+    }
+}
+
+// Returns the path of the database file if a copy of it is read.
+fn copied_path<'a>(parsed: &Parsed<'a>) -> Option<&'a str> {
+    match parsed {
+        Parsed::Backup { line, .. } => Some(line.db),
+        Parsed::Line(line) if line.snapshot => line.db,
+        _ => None,
+    }
+}
 // Returns the first of the files that cannot be read, and why.
 fn unread_file<'a>(rt: &HostRuntime, parsed: &Parsed<'a>) -> Option<(&'a str, Reason)> {
-    for path in [parsed.windows(), parsed.feed()] {
+    for path in [windows_path(parsed), feed_path(parsed)] {
         if let Some(path) = path {
             if let Some(reason) = reason_of_plain_file(rt, path) {
                 return Some((path, reason));
@@ -179,7 +176,7 @@ fn unread_file<'a>(rt: &HostRuntime, parsed: &Parsed<'a>) -> Option<(&'a str, Re
 
 // Explains a failed read.
 fn explain_read<'a>(rt: &HostRuntime, parsed: &Parsed<'a>) -> (&'a str, &'static str) {
-    match (unread_file(rt, parsed), parsed.copied()) {
+    match (unread_file(rt, parsed), copied_path(parsed)) {
         (Some((path, reason)), _) => (path, reason.words()),
         (None, Some(path)) => (
             path,
@@ -213,14 +210,17 @@ fn explain_plainly<'a>(
     fault: Fault,
 ) -> (&'a str, &'static str) {
     match fault {
-        Fault::Windows(fault) => (parsed.windows().unwrap_or(INPUT), window_words(fault)),
+        Fault::Windows(fault) => (windows_path(parsed).unwrap_or(INPUT), window_words(fault)),
         Fault::Open(OpenFault::WindowsDiffer) => (
-            parsed.windows().unwrap_or(INPUT),
+            windows_path(parsed).unwrap_or(INPUT),
             "its windows are not the present ones of the database",
         ),
-        Fault::Open(OpenFault::Storage) => (parsed.db().unwrap_or(MEMORY), "the device failed"),
-        Fault::Message(fault) => (parsed.messages(), message_words(fault)),
-        Fault::File(kind) => (subject_of_file_fault(kind, parsed.db()), file_words(kind)),
+        Fault::Open(OpenFault::Storage) => (db_path(parsed).unwrap_or(MEMORY), "the device failed"),
+        Fault::Message(fault) => (messages_source(parsed), message_words(fault)),
+        Fault::File(kind) => (
+            subject_of_file_fault(kind, db_path(parsed)),
+            file_words(kind),
+        ),
         Fault::RowsRefused => (INPUT, "a row was refused: the report says which"),
         Fault::Listen => ("--port", "it is in use, or this user may not open it"),
         Fault::Read => explain_read(rt, parsed),
@@ -235,7 +235,7 @@ fn cause_of(rt: &HostRuntime, parsed: &Parsed<'_>, path: &str) -> Cause {
     if matches!(parsed, Parsed::Repair { .. }) {
         return cause_of_moved(rt, path);
     }
-    if parsed.copied().is_none() {
+    if copied_path(parsed).is_none() {
         return cause_at(rt, path);
     }
     match Snapshot::take(rt, path) {
@@ -254,7 +254,7 @@ fn explanation_of<'a>(
     parsed: &Parsed<'a>,
     fault: Fault,
 ) -> Result<Explanation<'a>, AllocError> {
-    match (fault, parsed.db()) {
+    match (fault, db_path(parsed)) {
         (Fault::Open(OpenFault::Storage), Some(path)) => Ok(Explanation {
             about: path,
             words: cause_of(rt, parsed, path).words(rt.alloc())?,
@@ -328,7 +328,7 @@ fn explain_at(rt: &HostRuntime, parsed: &Parsed<'_>, fault: Fault, path: &str) {
 ///
 /// Not proved: that the words are those of the files.
 pub(crate) fn explain(rt: &HostRuntime, parsed: &Parsed<'_>, outcome: Result<(), Fault>) {
-    if let (Err(fault), Some(path)) = (outcome, parsed.explain()) {
+    if let (Err(fault), Some(path)) = (outcome, explain_path(parsed)) {
         explain_at(rt, parsed, fault, path);
     }
 }

@@ -3,16 +3,13 @@
 //! The register is in memory or in a file. The program `npacd` only calls `run`.
 #![tactic(auto)]
 
-mod arguments;
 mod checking;
-mod command;
 mod copying;
 mod explaining;
 mod fault;
 mod listening;
 mod opening_reporter;
-mod options;
-pub mod parse;
+mod over_file;
 mod progress;
 mod repairing;
 mod reporting;
@@ -24,8 +21,7 @@ mod snapshot;
 mod windows_text;
 mod writing_page;
 
-pub use arguments::words_of;
 pub use fault::Fault;
-pub use listening::{MachineMinutes, listen, minute_of, serve_connections, serve_next};
+pub use listening::listen;
 pub use reporting::report_usage;
 pub use running::{feed, feed_at, run};

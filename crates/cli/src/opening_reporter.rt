@@ -1,8 +1,8 @@
 //! Shows progress while a file is opened or migrated.
 ghost use Rattle.std.specs.Prelude.{◌≡◌, None, false};
 
-use crate::parse::CommandLine;
 use crate::progress::Progress;
+use command_line::parse::CommandLine;
 use sql_store::OpeningWatcher;
 
 /// Counts the rows of a file while it is opened or migrated, and shows progress, as the command line

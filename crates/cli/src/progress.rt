@@ -4,7 +4,7 @@ ghost use Rattle.std.specs.Duration.{as_nanos};
 ghost use Rattle.cli.specs.RowWords.{progress_line};
 
 use crate::explaining::append_line;
-use crate::parse::CommandLine;
+use command_line::parse::CommandLine;
 use std::alloc::{AllocError, Global};
 use std::time::{Clock, Duration};
 

@@ -4,10 +4,11 @@ ghost use Rattle.cli.specs.Faults.{IsOfBackup};
 
 use crate::copying::{RegisterPaths, check_free, finish, part_of, remove_part, rename_part};
 use crate::fault::Fault;
-use crate::running::{close, fault_of_file, open_fault};
+use crate::over_file::{StoreTask, over_open};
+use crate::running::{fault_of_file, open_fault};
 use register::OpenFault;
 use repair::{RegisterRows, read_file, write_rows};
-use settle::StoreFault;
+use settle::{Store, StoreFault};
 use sql_store::{SqlStore, Unwatched, find_file};
 use sqlite::Unknown;
 use std::io::Write;
@@ -19,6 +20,23 @@ fn fault_of(fault: StoreFault) -> Fault
     Fault::Open(OpenFault::from(fault))
 }
 
+// Writes all rows into an empty store.
+#[derive(Drop)]
+struct RowsTask<'a> {
+    rows: &'a RegisterRows,
+}
+
+impl StoreTask for RowsTask<'_> {
+    type Output = ();
+
+    ghost may_end = { λ _. IsOfBackup };
+
+    fn run<S: Store>(&mut self, rt: &HostRuntime, mut store: S) -> (S, Result<(), Fault>) {
+        let written = write_rows(rt.alloc(), self.rows, &mut store);
+        (store, written.map_err(fault_of))
+    }
+}
+
 // Writes all rows into a new file, and moves its log into it.
 fn write_new(rt: &HostRuntime, rows: &RegisterRows, path: &str) -> Result<(), Fault>
     ensures { IfErr result IsOfBackup }
@@ -27,11 +45,8 @@ fn write_new(rt: &HostRuntime, rows: &RegisterRows, path: &str) -> Result<(), Fa
         return Err(Fault::Open(OpenFault::Storage));
     };
     let opened = SqlStore::at(rt, path, Unknown, &present.windows, &mut Unwatched);
-    let mut store = opened.map_err(open_fault)?;
-    let written = write_rows(rt.alloc(), rows, &mut store);
-    let closed = close(store);
-    written.map_err(fault_of)?;
-    closed
+    let store = opened.map_err(open_fault)?;
+    over_open(rt, store, &mut RowsTask { rows })
 }
 
 // Makes the new file, and writes its summary.

@@ -5,7 +5,7 @@ ghost use Rattle.http_messages.specs.Sending.{AppendsPrefix};
 ghost use Rattle.cli.specs.Reporting.{ReportsFault, ReportsMistake, ReportsOutcome, ReportsUsage, line_of};
 
 use crate::fault::Fault;
-use crate::parse::Usage;
+use command_line::parse::Usage;
 use http_messages::send_all;
 use std::io;
 use std::io::Write;

@@ -3,10 +3,10 @@ ghost use Rattle.std.specs.Prelude.{◌≡◌, None, false};
 ghost use Rattle.cli.specs.RowWords.{bad_row_name};
 
 use crate::explaining::{append_explanation, text_of};
-use crate::parse::CommandLine;
 use crate::progress::Progress;
 use crate::row_words::{duplicate_words, mistake_words, row_name};
 use bulk::{BadRow, FaultKind, RowWatcher};
+use command_line::parse::CommandLine;
 use numbers::Subject;
 use std::alloc::AllocError;
 

@@ -16,18 +16,17 @@ ghost use Rattle.sql_rows.specs.Content.{content_in};
 ghost use Rattle.sql_store.specs.Groups.{is_sound};
 ghost use Rattle.sql_store.specs.Store.{left_by};
 ghost use Rattle.cli.specs.Feeding.{Feeds, FeedsInGroups, io_of_feed, outcome_of, outcome_of_groups};
-ghost use Rattle.cli.specs.Faults.{IsOfCommands, IsOfFeeding, IsOfFile, IsOfNewFeeding, IsOfReading, IsOfServing, IsOfShowing, IsOfWindows, JudgesRows, MayEnd, MayEndAs, MayEndLine, MayEndListening, MayEndOverFile, fault_of_opening, outcome_of_commands};
+ghost use Rattle.cli.specs.Faults.{IsOfCommands, IsOfFeeding, IsOfFile, IsOfNewFeeding, IsOfOpening, IsOfReading, IsOfServing, IsOfWindows, JudgesRows, MayEnd, MayEndAs, MayEndLine, MayEndListening, MayEndOverFile, fault_of_opening, outcome_of_commands};
 ghost use Rattle.cli.specs.Reporting.{Ends};
-ghost use Rattle.cli.specs.declared.parse.CommandLine.{CommandLine as CommandLineImpl};
 ghost use Rattle.cli.specs.WindowsFile.{DefinesWindows, IsFaultOfBytes};
 
 use crate::checking::check_file;
 use crate::copying::back_up;
 use crate::explaining::explain;
 use crate::fault::Fault;
-use crate::listening::listen;
+use crate::listening::{limits_of, listen};
 use crate::opening_reporter::OpeningReporter;
-use crate::parse::{CommandLine, Parsed, Subcommand, WindowsSource, parse};
+use crate::over_file::{StoreTask, over_existing, over_open};
 use crate::repairing::repair_file;
 use crate::reporting::{report_outcome, report_usage};
 use crate::row_reporter::RowReporter;
@@ -36,6 +35,7 @@ use crate::snapshot::Snapshot;
 use crate::writing_page::write_report;
 use api::{End, NoTicks, Options, Served, serve};
 use bulk::{BulkFault, FaultKind, RowWatcher, audit_watched, export_watched, run_watched};
+use command_line::parse::{CommandLine, Parsed, Subcommand, WindowsSource, parse};
 use connections::{FeedFault, Limits, feed as feed_groups};
 use numbers::Spid;
 use register::{OpenFault, Register};
@@ -104,7 +104,7 @@ fn serving_outcome(served: Result<Served, api::Fault>) -> Result<(), Fault>
 }
 
 // The size of the buffer for answers, in bytes.
-pub(crate) const BUFFER_SIZE: usize = 65_536;
+const BUFFER_SIZE: usize = 65_536;
 
 // Serves `reader` to `writer` over a register. If the content refines the first state for some
 // windows and the device never failed, the answers are the machine's from there on. Unless a write
@@ -320,22 +320,22 @@ fn feed_buffered<R: Read, W: Write>(
     outcome
 }
 
-// Like `feed_at`, with the program's outcome if the file could not be opened.
-fn feed_open<R: Read, W: Write, N: OpeningWatcher>(
+// Like `feed_at`, and closes the file.
+fn feed_and_close<R: Read, W: Write, N: OpeningWatcher>(
     rt: &HostRuntime,
     path: &str,
     windows: &Windows,
     reader: &mut R,
     writer: &mut W,
     watcher: &mut N,
-) -> Result<(StoreAt<Unknown>, Result<(), Fault>), Fault>
-    ensures fed { IfOk result (λ r. IfErr r.1 IsOfFeeding) }
-    ensures unopened { IfErr result IsOfFeeding }
+) -> Result<(), Fault>
+    ensures { IfErr result IsOfFeeding }
 {
-    match feed_at(rt, path, Unknown, windows, reader, writer, watcher) {
-        Ok(fed) => Ok(fed),
-        Err(refused) => Err(open_fault(refused)),
-    }
+    let fed = feed_at(rt, path, Unknown, windows, reader, writer, watcher);
+    let (store, outcome) = fed.map_err(open_fault)?;
+    let closed = close(store);
+    outcome?;
+    closed
 }
 
 // Serves the messages of a file, and discards the answers.
@@ -473,7 +473,7 @@ fn run_on<S: Store, R: Read, W: Write>(
             limits,
             log,
         } => {
-            let limits = Limits::from(limits);
+            let limits = limits_of(limits);
             listen_logging(rt, register, port, connections, limits, log, writer)
         }
         Subcommand::Bulk { strict } => {
@@ -530,34 +530,9 @@ pub(crate) fn open_fault(refused: (FileFault, UnopenedAt<Unknown>)) -> Fault
     fault_of_file(fault)
 }
 
-// Opens the file of `--db`, and executes a command line over it. Returns the open store, and how
-// the command line ended.
-fn run_open<R: Read, W: Write>(
-    rt: &HostRuntime,
-    path: &str,
-    windows: &Windows,
-    line: &CommandLine<'_>,
-    reader: &mut R,
-    writer: &mut W,
-) -> Result<(StoreAt<Unknown>, Result<(), Fault>), Fault>
-    ensures ended { IfOk result (λ r. IfErr r.1 (MayEndOverFile line.now)) }
-    ensures unopened { IfErr result (MayEndOverFile line.now) }
-{
-    let mut reporter = OpeningReporter::new(rt, line);
-    match (line.subcommand, line.feed) {
-        (Subcommand::Feed, None) => feed_open(rt, path, windows, reader, writer, &mut reporter),
-        _ => {
-            let opened = SqlStore::at(rt, path, Unknown, windows, &mut reporter);
-            let store = opened.map_err(open_fault)?;
-            Ok(run_over(rt, store, windows, line, reader, writer))
-        }
-    }
-}
-
 // Closes the file of `--db`.
 pub(crate) fn close(store: StoreAt<Unknown>) -> Result<(), Fault>
-    ensures over_file { (line : CommandLineImpl) → IfErr result (MayEndOverFile line) }
-    ensures showing { IfErr result IsOfShowing }
+    ensures { IfErr result IsOfOpening }
 {
     match store.close_files() {
         Ok(_files) => Ok(()),
@@ -581,7 +556,50 @@ fn find_if_wanted(rt: &HostRuntime, path: &str, line: &CommandLine<'_>) -> Resul
     }
 }
 
-// Executes a command line over the file of `--db`, and closes it.
+// Executes a command line over a store with these windows.
+#[derive(Drop)]
+struct LineTask<'w, 'l, 'c, 'i, 'o, R, W> {
+    windows: &'w Windows,
+    line: &'l CommandLine<'c>,
+    reader: &'i mut R,
+    writer: &'o mut W,
+}
+
+impl<R: Read, W: Write> StoreTask for LineTask<'_, '_, '_, '_, '_, R, W> {
+    type Output = ();
+
+    ghost may_end = { λ task. MayEndOverFile task.line.now };
+
+    fn run<S: Store>(&mut self, rt: &HostRuntime, store: S) -> (S, Result<(), Fault>) {
+        run_over(rt, store, self.windows, self.line, self.reader, self.writer)
+    }
+}
+
+// Opens the file at `path`, executes a command line over it, and closes it.
+fn run_and_close<R: Read, W: Write, N: OpeningWatcher>(
+    rt: &HostRuntime,
+    path: &str,
+    windows: &Windows,
+    line: &CommandLine<'_>,
+    reader: &mut R,
+    writer: &mut W,
+    watcher: &mut N,
+) -> Result<(), Fault>
+    ensures { IfErr result (MayEndOverFile line.now) }
+{
+    let opened = SqlStore::at(rt, path, Unknown, windows, watcher);
+    let store = opened.map_err(open_fault)?;
+    let mut task = LineTask {
+        windows,
+        line,
+        reader,
+        writer,
+    };
+    over_open(rt, store, &mut task)
+}
+
+// Executes a command line over the file of `--db`, and closes it. A plain `feed` calls the function
+// whose contract states its answers.
 fn run_at<R: Read, W: Write>(
     rt: &HostRuntime,
     path: &str,
@@ -593,10 +611,13 @@ fn run_at<R: Read, W: Write>(
     ensures { IfErr result (MayEndOverFile line.now) }
 {
     find_if_wanted(rt, path, line)?;
-    let (store, outcome) = run_open(rt, path, windows, line, reader, writer)?;
-    let closed = close(store);
-    outcome?;
-    closed
+    let mut reporter = OpeningReporter::new(rt, line);
+    match (line.subcommand, line.feed) {
+        (Subcommand::Feed, None) => {
+            feed_and_close(rt, path, windows, reader, writer, &mut reporter)
+        }
+        _ => run_and_close(rt, path, windows, line, reader, writer, &mut reporter),
+    }
 }
 
 // Executes a command line over a store with its present windows, and returns the store.
@@ -615,6 +636,24 @@ fn run_present<S: Store, R: Read, W: Write>(
     }
 }
 
+// Executes a command line over a store with its present windows.
+#[derive(Drop)]
+struct PresentTask<'l, 'c, 'i, 'o, R, W> {
+    line: &'l CommandLine<'c>,
+    reader: &'i mut R,
+    writer: &'o mut W,
+}
+
+impl<R: Read, W: Write> StoreTask for PresentTask<'_, '_, '_, '_, R, W> {
+    type Output = ();
+
+    ghost may_end = { λ task. MayEndOverFile task.line.now };
+
+    fn run<S: Store>(&mut self, rt: &HostRuntime, store: S) -> (S, Result<(), Fault>) {
+        run_present(rt, store, self.line, self.reader, self.writer)
+    }
+}
+
 // Executes a command line over an existing file with its present windows, and closes the file.
 fn run_present_at<R: Read, W: Write>(
     rt: &HostRuntime,
@@ -626,11 +665,12 @@ fn run_present_at<R: Read, W: Write>(
     ensures { IfErr result (MayEndOverFile line.now) }
 {
     let mut reporter = OpeningReporter::new(rt, line);
-    let store = SqlStore::existing_at(rt, path, Unknown, &mut reporter).map_err(open_fault)?;
-    let (store, outcome) = run_present(rt, store, line, reader, writer);
-    let closed = close(store);
-    outcome?;
-    closed
+    let mut task = PresentTask {
+        line,
+        reader,
+        writer,
+    };
+    over_existing(rt, path, &mut reporter, &mut task)
 }
 
 // Executes a command line over a new register in memory.

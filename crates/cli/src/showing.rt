@@ -4,13 +4,12 @@ ghost use Rattle.cli.specs.Faults.{IsOfShowing};
 ghost use Rattle.cli.specs.Showing.{HasPresent, ShowsPresent};
 
 use crate::fault::Fault;
-use crate::running::{close, open_fault};
+use crate::over_file::{StoreTask, over_existing};
 use crate::windows_text::set_text;
 use http_messages::send_all;
 use register::OpenFault;
 use settle::Store;
-use sql_store::{SqlStore, Unwatched};
-use sqlite::Unknown;
+use sql_store::Unwatched;
 use std::alloc::Global;
 use std::io::Write;
 use windows::WindowSet;
@@ -52,6 +51,23 @@ fn show_present<S: Store, W: Write>(
     }
 }
 
+// Writes the present set.
+#[derive(Drop)]
+struct WindowsTask<'a, W> {
+    writer: &'a mut W,
+}
+
+impl<W: Write> StoreTask for WindowsTask<'_, W> {
+    type Output = ();
+
+    ghost may_end = { λ _. IsOfShowing };
+
+    fn run<S: Store>(&mut self, rt: &HostRuntime, mut store: S) -> (S, Result<(), Fault>) {
+        let shown = show_present(rt.alloc(), &mut store, self.writer);
+        (store, shown)
+    }
+}
+
 /// Writes the present windows of the register in the file at `path` as a windows file, with their
 /// number in a comment. Creates no file, and changes no row.
 ///
@@ -68,9 +84,5 @@ pub(crate) fn show_windows<W: Write>(
 ) -> Result<(), Fault>
     ensures { IfErr result IsOfShowing }
 {
-    let mut store = SqlStore::existing_at(rt, path, Unknown, &mut Unwatched).map_err(open_fault)?;
-    let outcome = show_present(rt.alloc(), &mut store, writer);
-    let closed = close(store);
-    outcome?;
-    closed
+    over_existing(rt, path, &mut Unwatched, &mut WindowsTask { writer })
 }

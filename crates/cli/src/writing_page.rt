@@ -3,30 +3,49 @@ ghost use Rattle.std.specs.Prelude.{◌≡◌, IfErr};
 ghost use Rattle.cli.specs.Faults.{IsOfShowing};
 
 use crate::fault::Fault;
-use crate::running::{close, open_fault};
+use crate::over_file::{StoreTask, over_existing};
 use numbers::Tn;
 use register::OpenFault;
 use report::{Figures, PageFault, write_page};
-use sql_store::{SqlStore, Unwatched};
-use sqlite::Unknown;
+use settle::Store;
+use sql_store::Unwatched;
+use std::alloc::Global;
 use std::fs;
 use std::fs::File;
 use std::rt::Files;
+
+// Returns the figures of a store, with the life of a number if it is given.
+fn figures_of<S: Store>(alloc: Global, store: &mut S, number: Option<Tn>) -> Result<Figures, Fault>
+    ensures { IfErr result IsOfShowing }
+{
+    match Figures::read(alloc, store, number) {
+        Ok(figures) => Ok(figures),
+        Err(fault) => Err(Fault::Open(OpenFault::from(fault))),
+    }
+}
+
+// Reads the figures, with the life of a number if it is given.
+#[derive(Drop)]
+struct FiguresTask {
+    number: Option<Tn>,
+}
+
+impl StoreTask for FiguresTask {
+    type Output = Figures;
+
+    ghost may_end = { λ _. IsOfShowing };
+
+    fn run<S: Store>(&mut self, rt: &HostRuntime, mut store: S) -> (S, Result<Figures, Fault>) {
+        let figures = figures_of(rt.alloc(), &mut store, self.number);
+        (store, figures)
+    }
+}
 
 // Returns the figures of the register in a file, and closes the file.
 fn figures_at(rt: &HostRuntime, path: &str, number: Option<Tn>) -> Result<Figures, Fault>
     ensures { IfErr result IsOfShowing }
 {
-    let mut store = SqlStore::existing_at(rt, path, Unknown, &mut Unwatched).map_err(open_fault)?;
-    let read = Figures::read(rt.alloc(), &mut store, number);
-    let closed = close(store);
-    match read {
-        Ok(figures) => {
-            closed?;
-            Ok(figures)
-        }
-        Err(fault) => Err(Fault::Open(OpenFault::from(fault))),
-    }
+    over_existing(rt, path, &mut Unwatched, &mut FiguresTask { number })
 }
 
 // Writes the page to a new file, or in place of the file at `path`.

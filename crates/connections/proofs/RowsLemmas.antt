@@ -3,28 +3,16 @@ use Rattle.std.proofs.Common.{◌≡◌, ◌∙◌, ◌⊎◌, inl, inr, List, [
 use Rattle.std.specs.Prelude.{⊤}
 use Rattle.std.proofs.Math.Nat.{le_refl, le_trans}
 use Rattle.model.specs.Content.{Content}
-use Rattle.model.specs.Machine.{next, state_after}
+use Rattle.model.specs.Machine.{state_after}
 use Rattle.model.specs.State.{State}
-use Rattle.model.specs.Refusals.{Input}
 use Rattle.register.specs.Refinement.{Refines}
 use Rattle.settle.specs.StoreContract.{BeginsGroup, BeginsNoGroup, EndsGroup, EndsNoGroup, HasGroup, IsGroupEnded, IsUndone, LooksUp}
 use Rattle.settle.specs.declared.store.StoreFault.{StoreFault}
 use Rattle.settle.specs.declared.store_model.StoreModel.{Ghosts}
 use Rattle.api.specs.Serving.{RefinesReachable}
+use Rattle.api.proofs.Reachable.{follows_then}
 use Rattle.connections.specs.Crashes.{LeavesContent}
 use Rattle.connections.specs.Rows.{RowsFollow}
-
-after_both : (st : State) (first then : List Input)
-    → state_after st (first ++ then) ≡ state_after (state_after st first) then
-after_both st [] then = refl
-after_both st (input ∷ first) then = after_both (next st input) first then
-
--- The state after one call, and after the next.
-pub follows_then : (st : State) (mid new : Content) → RefinesReachable st mid
-    → ((later : State) → Refines mid later → RefinesReachable later new) → RefinesReachable st new
-follows_then st mid new before behind =
-    let after = behind (state_after st before.0) before.1 in
-    (before.0 ++ after.0, subst (Refines new) (sym (after_both st before.0 after.0)) after.1)
 
 pub rows_stay : {S : Type 0} (store : Ghosts S) (s : S) → RowsFollow store s s
 rows_stay store s = record {

@@ -4,8 +4,11 @@
 //! The program's contracts are those of `feed`, `parse`, `run` and `serve_next`.
 #![tactic(auto)]
 
-pub use cli::{feed, parse, run, serve_next};
-use cli::{report_usage, words_of};
+pub use api::serve_next;
+use cli::report_usage;
+pub use cli::{feed, run};
+pub use command_line::parse;
+use command_line::words_of;
 use std::io;
 use std::process::ExitCode;
 

@@ -1,0 +1,2 @@
+mod FirstWord
+mod OptionLemmas
