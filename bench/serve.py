@@ -7,9 +7,9 @@ connection for each of N / 10, with one that sends garbage beside them. Each res
 the program's processor time. Then the processor time of a second of 1,000 silent connections, and their memory.
 """
 import resource
-import socket
 import time
 
+from lib.clients import connected
 from lib.messages import answer, message
 from lib.program import high_water, processor_time, serving
 
@@ -18,12 +18,6 @@ ASKED = message("AAAA", "/query", '{"uri":"tel:+12025331234"}').encode()
 ANSWERED = answer('{"uri":"tel:+12025331234;npdi;rn=+12025440000"}').encode()
 GARBAGE = b"GARBAGE\r\n\r\n"
 BAD_HEAD = b'{"error":"bad_head","number":45}'
-
-
-def connected(port):
-    client = socket.create_connection(("127.0.0.1", port))
-    client.setsockopt(socket.IPPROTO_TCP, socket.TCP_NODELAY, 1)
-    return client
 
 
 def hear(client, answers):

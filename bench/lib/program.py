@@ -105,19 +105,29 @@ class Fed:
         return self.say(["".join(texts)])
 
 
+def free_port():
+    with socket.socket() as probe:
+        probe.bind(("127.0.0.1", 0))
+        return probe.getsockname()[1]
+
+
+@contextmanager
+def listening(line, port, **more):
+    """Runs a command line that serves at this port. Yields the process once it listens."""
+    with subprocess.Popen(line, stdout=subprocess.PIPE, stderr=subprocess.PIPE, **more) as process:
+        try:
+            assert process.stdout.readline() == f"listening on 127.0.0.1:{port}\n".encode()
+            yield process
+        finally:
+            process.kill()
+
+
 @contextmanager
 def serving(*words, program=PROGRAM, environment=None):
     """The program while it serves, and the port at which it listens."""
-    with socket.socket() as probe:
-        probe.bind(("127.0.0.1", 0))
-        port = probe.getsockname()[1]
-    line = command_line("serve", "--port", str(port), *words, program=program)
-    with subprocess.Popen(line, stdout=subprocess.PIPE, stderr=subprocess.PIPE, env=environment) as process:
-        try:
-            assert process.stdout.readline() == f"listening on 127.0.0.1:{port}\n".encode()
-            yield process, port
-        finally:
-            process.kill()
+    port = free_port()
+    with listening(command_line("serve", "--port", str(port), *words, program=program), port, env=environment) as process:
+        yield process, port
 
 
 @contextmanager
