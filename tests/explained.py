@@ -242,7 +242,7 @@ def shows_progress():
 
 def write_many(file):
     """Writes a file in the first format with `VERSIONS` versions, all old."""
-    write_file(file, "SECOND_FAILED")
+    write_file(file, "second-failed")
     database = sqlite3.connect(file)
     database.execute("DELETE FROM version")
     rows = ((number, -number - 1, -number - 1) for number in range(1, VERSIONS + 1))
@@ -338,7 +338,7 @@ def beside_others(file, folder):
     os.link(linked, linked + "-again")
     Path(journal + "-journal").write_text("x", encoding="utf-8")
     os.mkdir(logged + "-wal")
-    write_file(earlier, "SENDING")
+    write_file(earlier, "sending")
     Path(plain).write_text("this is not a database\n", encoding="utf-8")
     Path(cut).write_bytes(Path(file).read_bytes()[:6000])
     Path(empty).touch()

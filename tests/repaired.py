@@ -135,7 +135,7 @@ def spoiled(moved, folder):
 def others(folder):
     """Tests files that are no registers of the present format."""
     earlier, plain, empty = (os.path.join(folder, name) for name in ("earlier.db", "plain.db", "empty.db"))
-    write_file(earlier, "SENDING")
+    write_file(earlier, "sending")
     Path(plain).write_text("this is not a database\n", encoding="utf-8")
     Path(empty).touch()
     none = os.path.join(folder, "none.db")

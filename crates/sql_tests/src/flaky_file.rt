@@ -13,6 +13,8 @@ use std::io::ErrorKind;
 #[derive(Drop)]
 pub struct FlakyFile<D: Disk> {
     inner: D,
+    // How many calls it got, and how many before the one that fails.
+    calls: u64,
     before: u64,
     failed: u64,
     // How many calls failed for want of room.
@@ -24,6 +26,7 @@ impl<D: Disk> FlakyFile<D> {
     pub fn new(inner: D, before: u64) -> FlakyFile<D> {
         FlakyFile {
             inner,
+            calls: 0,
             before,
             failed: 0,
             refused: 0,
@@ -35,6 +38,11 @@ impl<D: Disk> FlakyFile<D> {
         &self.inner
     }
 
+    /// Returns how many calls it got.
+    pub fn calls(&self) -> u64 {
+        self.calls
+    }
+
     /// Returns whether a call has failed.
     pub fn has_failed(&self) -> bool {
         self.failed > 0
@@ -42,18 +50,18 @@ impl<D: Disk> FlakyFile<D> {
 }
 
 // Counts a call. Returns whether it is the one that fails.
-fn count_down(before: &mut u64) -> bool {
-    let is_next = *before == 0;
-    *before = if is_next { u64::MAX } else { *before - 1 };
+fn count(calls: &mut u64, before: u64) -> bool {
+    let is_next = *calls == before;
+    *calls = calls.saturating_add(1);
     is_next
 }
 
 // Precedes a call. Returns `Err` for the one that fails.
-fn fail_next(before: &mut u64, failed: &mut u64) -> io::Result<()>
+fn fail_next(calls: &mut u64, before: u64, failed: &mut u64) -> io::Result<()>
     ensures faults { CountsFault result failed.old failed.new }
     ensures kind { finds_no_room result ≡ false }
 {
-    if count_down(before) {
+    if count(calls, before) {
         *failed = failed.saturating_add(1);
         return Err(io::Error::other("a call fails"));
     }
@@ -61,13 +69,13 @@ fn fail_next(before: &mut u64, failed: &mut u64) -> io::Result<()>
 }
 
 // Precedes a call that writes. Returns `Err` for the one that fails.
-fn refuse_next(before: &mut u64, failed: &mut u64, refused: &mut u64) -> io::Result<()>
+fn refuse_next(calls: &mut u64, before: u64, failed: &mut u64, refused: &mut u64) -> io::Result<()>
     ensures faults { CountsFault result failed.old failed.new }
     ensures kind { OnErr result (finds_no_room result ≡ true) }
     ensures rises { OnErr result (refused.new ≡ min (refused.old + 1) (2 ^ 64 - 1)) }
     ensures stays { OnOk result (refused.new ≡ refused.old) }
 {
-    if count_down(before) {
+    if count(calls, before) {
         *failed = failed.saturating_add(1);
         *refused = refused.saturating_add(1);
         return Err(io::Error::from(ErrorKind::StorageFull));
@@ -120,32 +128,42 @@ impl<D: Disk> Disk for FlakyFile<D> {
     }
 
     fn len(&mut self) -> io::Result<usize> {
-        fail_next(&mut self.before, &mut self.failed)?;
+        fail_next(&mut self.calls, self.before, &mut self.failed)?;
         self.inner.len()
     }
 
     fn read_at(&mut self, at: usize, buf: &mut [u8]) -> io::Result<()> {
-        fail_next(&mut self.before, &mut self.failed)?;
+        fail_next(&mut self.calls, self.before, &mut self.failed)?;
         self.inner.read_at(at, buf)
     }
 
     fn read_checked(&mut self, key: u64, want: u64, at: usize, buf: &mut [u8]) -> io::Result<()> {
-        fail_next(&mut self.before, &mut self.failed)?;
+        fail_next(&mut self.calls, self.before, &mut self.failed)?;
         self.inner.read_checked(key, want, at, buf)
     }
 
     fn write_at(&mut self, at: usize, bytes: &[u8]) -> io::Result<()> {
-        refuse_next(&mut self.before, &mut self.failed, &mut self.refused)?;
+        refuse_next(
+            &mut self.calls,
+            self.before,
+            &mut self.failed,
+            &mut self.refused,
+        )?;
         self.inner.write_at(at, bytes)
     }
 
     fn set_len(&mut self, len: usize) -> io::Result<()> {
-        refuse_next(&mut self.before, &mut self.failed, &mut self.refused)?;
+        refuse_next(
+            &mut self.calls,
+            self.before,
+            &mut self.failed,
+            &mut self.refused,
+        )?;
         self.inner.set_len(len)
     }
 
     fn sync(&mut self) -> io::Result<()> {
-        count_down(&mut self.before);
+        count(&mut self.calls, self.before);
         self.inner.sync()
     }
 }

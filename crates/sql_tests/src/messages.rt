@@ -1,6 +1,6 @@
 //! Requests to a register, and its responses.
 use api::{NoTicks, Options, serve};
-use register::{OpenFault, Register};
+use register::Register;
 use settle::Store;
 use std::alloc::{AllocError, Global};
 use windows::Windows;
@@ -11,17 +11,45 @@ pub type Request<'a> = (&'a str, &'a str, &'a str);
 /// Requests, in order.
 pub type Requests<'a> = &'a [Request<'a>];
 
-/// The windows of the tests, in minutes.
-pub const WINDOWS: &str =
-    "initial_concurrence = 60\nfinal_concurrence = 60\nconflict_restriction = 30\nconflict_resolution = 120\nconflict_expiration = 1000\ncancellation_initial = 60\ncancellation_final = 60\npending_retention = 500\nbroadcast = 15\n";
+/// A message, and the status and the body of its response.
+pub type Exchange<'a> = (Request<'a>, &'a str, &'a str);
 
-/// Reads windows from a text.
-pub fn windows_of(alloc: Global, text: &str) -> Option<Windows> {
-    Windows::from_toml(alloc, text).ok()
+/// Exchanges, in order.
+pub type Exchanges<'a> = &'a [Exchange<'a>];
+
+/// Batches of requests to a register.
+#[derive(Clone, Copy)]
+pub struct Messages<'a> {
+    pub batches: &'a [Requests<'a>],
+    /// Whether all are executed in one group of commits. If it does not last, each is sent again,
+    /// and gets a commit of its own.
+    pub is_grouped: bool,
 }
 
-/// Returns the bytes of a request.
-pub fn encode_request(alloc: Global, request: &Request<'_>) -> Result<String, AllocError> {
+/// What an operation returns.
+#[derive(Drop)]
+pub struct Output {
+    /// The responses to its messages, or the rows that it read.
+    pub text: Vec<u8>,
+    /// Whether each message was accepted.
+    pub is_accepted: bool,
+    /// Whether its group of commits lasts, if it has one.
+    pub lasts: bool,
+}
+
+impl Output {
+    /// The output of an operation without a group.
+    pub fn of(text: Vec<u8>, is_accepted: bool) -> Output {
+        Output {
+            text,
+            is_accepted,
+            lasts: true,
+        }
+    }
+}
+
+// Returns the bytes of a request.
+fn encode_request(alloc: Global, request: &Request<'_>) -> Result<String, AllocError> {
     let (caller, path, body) = *request;
     if body.is_empty() {
         return format!(in alloc; "GET {path} HTTP/1.1\r\nx-spid: {caller}\r\n\r\n");
@@ -30,6 +58,21 @@ pub fn encode_request(alloc: Global, request: &Request<'_>) -> Result<String, Al
     format!(in alloc;
         "POST {path} HTTP/1.1\r\nx-spid: {caller}\r\ncontent-length: {length}\r\n\r\n{body}"
     )
+}
+
+/// Returns the bytes of a response.
+pub fn encode_response(alloc: Global, status: &str, body: &str) -> Result<String, AllocError> {
+    let kind = "application/json";
+    let length = body.len();
+    format!(in alloc;
+        "HTTP/1.1 {status}\r\ncontent-type: {kind}\r\ncontent-length: {length}\r\n\r\n{body}"
+    )
+}
+
+/// Returns whether responses say that the store's device failed.
+pub fn is_unavailable(responses: &[u8]) -> bool {
+    responses.starts_with(b"HTTP/1.1 503 ")
+        && responses.ends_with(b"{\"error\":\"storage\",\"number\":29}")
 }
 
 // Returns a register's response to a request.
@@ -54,145 +97,60 @@ fn send<S: Store>(
     Some(response)
 }
 
-/// Returns whether a response says that the request was accepted.
-pub fn is_accepted(response: &[u8]) -> bool {
-    response.starts_with(b"HTTP/1.1 200 ")
-}
-
-/// Returns whether a response says that the store's device failed.
-pub fn is_unavailable(response: &[u8]) -> bool {
-    response.starts_with(b"HTTP/1.1 503 ")
-        && response.ends_with(b"{\"error\":\"storage\",\"number\":29}")
-}
-
-// Returns a register's responses to batches of requests.
-fn responses_to<S: Store>(
-    alloc: Global,
-    register: &mut Register<S>,
-    batches: &[Requests<'_>],
-) -> Option<Vec<u8>> {
-    let mut responses = Vec::new(alloc);
-    for requests in batches {
-        for request in *requests {
-            let response = send(alloc, register, request)?;
-            responses.extend_from_slice(&response).ok()?;
-        }
-    }
-    Some(responses)
-}
-
-/// The result of a group of commits: whether they last, and the responses to its messages.
-#[derive(Drop)]
-pub struct GroupResult {
-    pub lasts: bool,
-    pub responses: Vec<u8>,
-}
-
-// Sends batches of requests in one group of commits. If they do not last, sends the requests again
-// if `is_repeated`, each with a commit of its own.
-fn execute_group<S: Store>(
-    alloc: Global,
-    register: &mut Register<S>,
-    batches: &[Requests<'_>],
-    is_repeated: bool,
-) -> Option<GroupResult> {
-    let is_begun = register.begin_group() == Ok(true);
-    let responses = responses_to(alloc, register, batches)?;
-    let lasts = register.end_group().is_ok() && is_begun;
-    let responses = if !lasts && is_repeated {
-        responses_to(alloc, register, batches)?
-    } else {
-        responses
-    };
-    Some(GroupResult { lasts, responses })
-}
-
-// Sends requests. Returns `None` unless all are accepted.
+// Sends batches of requests.
 fn send_each<S: Store>(
     alloc: Global,
     register: &mut Register<S>,
-    requests: Requests<'_>,
-) -> Option<()> {
-    for request in requests {
-        if !is_accepted(&send(alloc, register, request)?) {
-            return None;
+    batches: &[Requests<'_>],
+) -> Option<Output> {
+    let mut text = Vec::new(alloc);
+    let mut is_accepted = true;
+    for requests in batches {
+        for request in *requests {
+            let response = send(alloc, register, request)?;
+            is_accepted = is_accepted && response.starts_with(b"HTTP/1.1 200 ");
+            text.extend_from_slice(&response).ok()?;
         }
     }
-    Some(())
+    Some(Output::of(text, is_accepted))
 }
 
-// Sends batches of requests. Returns `None` unless all are accepted.
-fn send_batches<S: Store>(
+// Sends batches of requests in one group of commits. If it does not last, sends them again, each
+// with a commit of its own.
+fn send_group<S: Store>(
     alloc: Global,
     register: &mut Register<S>,
     batches: &[Requests<'_>],
-) -> Option<()> {
-    for requests in batches {
-        send_each(alloc, register, requests)?;
+) -> Option<Output> {
+    let is_begun = register.begin_group() == Ok(true);
+    let output = send_each(alloc, register, batches)?;
+    if register.end_group().is_ok() && is_begun {
+        return Some(output);
     }
-    Some(())
+    let repeated = send_each(alloc, register, batches)?;
+    Some(Output {
+        lasts: false,
+        ..repeated
+    })
 }
 
-/// Opens a register over a store. Returns why it is not opened, if it is not, and the store
+/// Opens a register over a store, and sends it messages. Returns their output, and the store
 /// afterwards.
-pub fn open_and_close<S: Store>(
+pub fn send_messages<S: Store>(
     alloc: Global,
     store: S,
     windows: &Windows,
-) -> (Option<OpenFault>, S) {
+    messages: Messages<'_>,
+) -> (Option<Output>, S) {
     match Register::open(alloc, store, windows) {
-        Ok(register) => (None, register.close()),
-        Err((store, fault)) => (Some(fault), store),
-    }
-}
-
-// Opens a register over a store. Returns the store if it is not opened.
-fn open_register<S: Store>(alloc: Global, store: S) -> Result<Register<S>, S> {
-    let Some(windows) = windows_of(alloc, WINDOWS) else {
-        return Err(store);
-    };
-    match Register::open(alloc, store, &windows) {
-        Ok(register) => Ok(register),
-        Err((store, _fault)) => Err(store),
-    }
-}
-
-/// Returns the response of a register over a store to a request, and the store afterwards.
-pub fn send_one<S: Store>(alloc: Global, store: S, request: &Request<'_>) -> (Option<Vec<u8>>, S) {
-    match open_register(alloc, store) {
         Ok(mut register) => {
-            let response = send(alloc, &mut register, request);
-            (response, register.close())
+            let output = if messages.is_grouped {
+                send_group(alloc, &mut register, messages.batches)
+            } else {
+                send_each(alloc, &mut register, messages.batches)
+            };
+            (output, register.close())
         }
-        Err(store) => (None, store),
-    }
-}
-
-/// Sends batches of requests to a register over a store, in one group of commits. If they do not
-/// last, sends the requests again if `is_repeated`. Returns the result, and the store afterwards.
-pub fn send_group<S: Store>(
-    alloc: Global,
-    store: S,
-    batches: &[Requests<'_>],
-    is_repeated: bool,
-) -> (Option<GroupResult>, S) {
-    match open_register(alloc, store) {
-        Ok(mut register) => {
-            let result = execute_group(alloc, &mut register, batches, is_repeated);
-            (result, register.close())
-        }
-        Err(store) => (None, store),
-    }
-}
-
-/// Sends batches of requests to a register over a store. Returns whether all are accepted, and the
-/// store afterwards.
-pub fn send_all<S: Store>(alloc: Global, store: S, batches: &[Requests<'_>]) -> (Option<()>, S) {
-    match open_register(alloc, store) {
-        Ok(mut register) => {
-            let sent = send_batches(alloc, &mut register, batches);
-            (sent, register.close())
-        }
-        Err(store) => (None, store),
+        Err((store, _fault)) => (None, store),
     }
 }

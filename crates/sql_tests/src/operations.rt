@@ -1,23 +1,25 @@
 //! Operations on a database, and the one function that runs them on a database in files.
 //!
-//! A call that needs files to hold a database takes forty seconds to prove over the files of the
-//! tests. Over any files it takes twenty. So only `with_database` makes such a call.
-use crate::messages::{
-    GroupResult, Request, Requests, WINDOWS, open_and_close, send_all, send_group, send_one,
-    windows_of,
-};
+//! A call that needs files to hold a database, or a database to be a store, takes long to prove. So
+//! only `with_database` makes such a call of the first kind, and only `run_over_store` of the second.
+use crate::messages::{Messages, Output, send_messages};
 use crate::rows::rows_of;
-use register::OpenFault;
-use sql_store::{FileFault, Refused, SqlStore, Unwatched};
+use crate::window_sets::is_set_committed;
+use settle::Store;
+use sql_store::{SqlStore, Unwatched};
 use sqlite::{Alter, Connection, FileStore, Files, Options};
 use sqlite_disk::Disk;
 use std::alloc::Global;
 use windows::Windows;
 
+/// The windows of the tests, in minutes.
+pub const WINDOWS: &str =
+    "initial_concurrence = 60\nfinal_concurrence = 60\nconflict_restriction = 30\nconflict_resolution = 120\nconflict_expiration = 1000\ncancellation_initial = 60\ncancellation_final = 60\npending_retention = 500\nbroadcast = 15\n";
+
 /// Options that keep the commits of a request from copying the log into the database file.
 pub const WITHOUT_CHECKPOINTS: Options = Options {
-    cache_pages: 2000,
-    spill_pages: 2000,
+    cache_pages: 100,
+    spill_pages: 100,
     checkpoint_frames: 1000,
     seed: 7,
 };
@@ -30,17 +32,92 @@ pub const WITH_CHECKPOINTS: Options = Options {
     seed: 7,
 };
 
-/// An operation on a database.
-pub trait DbOperation: Copy {
-    /// The result of the operation.
-    type Output: Drop;
+/// Options of the same kind, with a cache that holds every page, so that a request makes few other
+/// calls.
+pub const LARGE_CACHE: Options = Options {
+    cache_pages: 100,
+    spill_pages: 100,
+    checkpoint_frames: 1,
+    seed: 7,
+};
 
-    /// Runs the operation, and returns the database without a further call of what it is stored in.
-    fn execute<S: Alter + Drop>(
-        self,
-        alloc: Global,
-        conn: Connection<S>,
-    ) -> (Option<Self::Output>, S);
+/// Options that make a group of a few messages write pages to the log before its end.
+pub const SMALL_CACHE: Options = Options {
+    cache_pages: 8,
+    spill_pages: 8,
+    checkpoint_frames: 1000,
+    seed: 7,
+};
+
+/// An operation on a database.
+#[derive(Clone, Copy)]
+pub enum Operation<'a> {
+    /// Reads the rows of these queries.
+    Rows(&'a [&'a str]),
+    /// Executes statements, as by hand.
+    Statements(&'a str),
+    /// Opens the database as a store, and sends messages to a register over it.
+    Send(Messages<'a>),
+    /// Opens the database as a store, and commits a set of windows to it.
+    WindowSet,
+}
+
+// Sends messages to a register over a store, or commits a set of windows to it.
+fn over_store<T: Store>(
+    alloc: Global,
+    mut store: T,
+    windows: &Windows,
+    messages: Option<Messages<'_>>,
+) -> (Option<Output>, T) {
+    match messages {
+        Some(messages) => send_messages(alloc, store, windows, messages),
+        None => {
+            let is_accepted = is_set_committed(alloc, &mut store, windows) == Some(true);
+            (Some(Output::of(Vec::new(alloc), is_accepted)), store)
+        }
+    }
+}
+
+// Opens a database as a store, and runs an operation over it. Returns the database afterwards.
+fn run_over_store<S: Alter + Drop>(
+    alloc: Global,
+    conn: Connection<S>,
+    windows: &Windows,
+    messages: Option<Messages<'_>>,
+) -> (Option<Output>, S) {
+    match SqlStore::adopt(alloc, conn, windows, &mut Unwatched) {
+        Ok(store) => {
+            let (output, store) = over_store(alloc, store, windows, messages);
+            (output, store.release().into_store())
+        }
+        Err((_fault, refused)) => (None, refused.into_store()),
+    }
+}
+
+// Runs an operation. Returns the database without a further call of what it is stored in.
+fn execute<S: Alter + Drop>(
+    alloc: Global,
+    mut conn: Connection<S>,
+    operation: Operation<'_>,
+) -> (Option<Output>, S) {
+    let messages = match operation {
+        Operation::Rows(queries) => {
+            let rows = rows_of(alloc, &mut conn, queries);
+            let output = rows.map(|rows| Output::of(rows, true));
+            return (output, conn.into_store());
+        }
+        Operation::Statements(statements) => {
+            let is_done = conn.execute_batch(statements).is_ok();
+            let output = Output::of(Vec::new(alloc), is_done);
+            return (Some(output), conn.into_store());
+        }
+        Operation::Send(messages) => Some(messages),
+        Operation::WindowSet => None,
+    };
+    match Windows::from_toml(alloc, WINDOWS) {
+        Ok(windows) => run_over_store(alloc, conn, &windows, messages),
+        Err(_fault) => (None, conn.into_store()),
+    }
 }
 
 // Opens a connection over files. Returns the files if they are refused or stop.
@@ -58,240 +135,20 @@ fn connect<F: Disk + Drop>(
     }
 }
 
-/// Runs an operation on a database in files. Returns its result, and the files afterwards.
+/// Runs an operation on a database in files. Returns its output, and the files afterwards.
 ///
-/// The result is `None` if the files are refused or stop first.
-pub fn with_database<F: Disk + Drop, D: DbOperation>(
+/// The output is `None` if the files are refused or stop first.
+pub fn with_database<F: Disk + Drop>(
     alloc: Global,
     files: Files<F>,
     options: Options,
-    operation: D,
-) -> (Option<D::Output>, Files<F>) {
+    operation: Operation<'_>,
+) -> (Option<Output>, Files<F>) {
     match connect(alloc, files, options) {
         Ok(conn) => {
-            let (output, store) = operation.execute(alloc, conn);
+            let (output, store) = execute(alloc, conn, operation);
             (output, store.close())
         }
         Err(files) => (None, files),
-    }
-}
-
-/// The operation that reads every row, and the schema.
-#[derive(Clone, Copy)]
-pub struct RowDump;
-
-impl DbOperation for RowDump {
-    type Output = Vec<u8>;
-
-    fn execute<S: Alter + Drop>(
-        self,
-        alloc: Global,
-        mut conn: Connection<S>,
-    ) -> (Option<Vec<u8>>, S) {
-        let rows = rows_of(alloc, &mut conn);
-        (rows, conn.into_store())
-    }
-}
-
-/// The operation that executes statements, as by hand.
-#[derive(Clone, Copy)]
-pub struct StatementBatch<'a>(pub &'a str);
-
-impl DbOperation for StatementBatch<'_> {
-    type Output = ();
-
-    fn execute<S: Alter + Drop>(self, _alloc: Global, mut conn: Connection<S>) -> (Option<()>, S) {
-        let done = conn.execute_batch(self.0).ok();
-        (done, conn.into_store())
-    }
-}
-
-const SCHEMA_QUERY: &str = "SELECT sql FROM sqlite_schema WHERE sql IS NOT NULL";
-
-fn schema_of<S: Alter>(alloc: Global, conn: &mut Connection<S>) -> Option<String> {
-    let rows = conn.query_all(SCHEMA_QUERY, &[]).ok()?;
-    let mut statements = String::new(alloc);
-    for row in &rows {
-        let statement: String = row.get(0).ok()?;
-        statements.push_str(statement.as_str()).ok()?;
-        statements.push_str(";\n").ok()?;
-    }
-    Some(statements)
-}
-
-/// The operation that reads the statements that make the tables and the indexes.
-#[derive(Clone, Copy)]
-pub struct SchemaDump;
-
-impl DbOperation for SchemaDump {
-    type Output = String;
-
-    fn execute<S: Alter + Drop>(
-        self,
-        alloc: Global,
-        mut conn: Connection<S>,
-    ) -> (Option<String>, S) {
-        let statements = schema_of(alloc, &mut conn);
-        (statements, conn.into_store())
-    }
-}
-
-/// How a connection is opened as a store.
-#[derive(Clone, Copy)]
-pub enum StoreOpening {
-    /// With `SqlStore::adopt`, if the tables of a store exist.
-    Adopt,
-    Open,
-    /// As `Open`, with the windows of a text instead of those of the tests.
-    OpenWith(&'static str),
-}
-
-// Returns whether the tables of a store exist.
-fn is_store<S: Alter>(conn: &mut Connection<S>) -> bool {
-    conn.query_all("SELECT present FROM clock2", &[]).is_ok()
-}
-
-fn open_store<S: Alter + Drop>(
-    alloc: Global,
-    conn: Connection<S>,
-    windows: &str,
-) -> Result<SqlStore<S>, (FileFault, Refused<S>)> {
-    match windows_of(alloc, windows) {
-        Some(windows) => SqlStore::adopt(alloc, conn, &windows, &mut Unwatched),
-        None => Err((FileFault::NoMemory, Refused::Connection(conn))),
-    }
-}
-
-fn adopt_store<S: Alter + Drop>(
-    alloc: Global,
-    mut conn: Connection<S>,
-) -> Result<SqlStore<S>, (FileFault, Refused<S>)> {
-    if is_store(&mut conn) {
-        open_store(alloc, conn, WINDOWS)
-    } else {
-        Err((FileFault::Storage, Refused::Connection(conn)))
-    }
-}
-
-// Makes a store of a connection. If it is refused, returns why, and its database.
-fn open_with<S: Alter + Drop>(
-    alloc: Global,
-    conn: Connection<S>,
-    opening: StoreOpening,
-) -> Result<SqlStore<S>, (FileFault, S)> {
-    let opened = match opening {
-        StoreOpening::Adopt => adopt_store(alloc, conn),
-        StoreOpening::Open => open_store(alloc, conn, WINDOWS),
-        StoreOpening::OpenWith(windows) => open_store(alloc, conn, windows),
-    };
-    match opened {
-        Ok(store) => Ok(store),
-        Err((fault, refused)) => Err((fault, refused.into_store())),
-    }
-}
-
-// Returns the database under a store.
-fn database_of<S: Alter + Drop>(store: SqlStore<S>) -> S {
-    store.release().into_store()
-}
-
-/// The output is why the connection is refused, if it is.
-impl DbOperation for StoreOpening {
-    type Output = Option<FileFault>;
-
-    fn execute<S: Alter + Drop>(
-        self,
-        alloc: Global,
-        conn: Connection<S>,
-    ) -> (Option<Option<FileFault>>, S) {
-        match open_with(alloc, conn, self) {
-            Ok(store) => (Some(None), database_of(store)),
-            Err((fault, store)) => (Some(Some(fault)), store),
-        }
-    }
-}
-
-/// The operation that adopts a store, and opens it as a register with these windows. The output is
-/// why it is not opened, if it is not.
-#[derive(Clone, Copy)]
-pub struct RegisterOpening<'a>(pub &'a Windows);
-
-impl DbOperation for RegisterOpening<'_> {
-    type Output = Option<OpenFault>;
-
-    fn execute<S: Alter + Drop>(
-        self,
-        alloc: Global,
-        conn: Connection<S>,
-    ) -> (Option<Option<OpenFault>>, S) {
-        match open_with(alloc, conn, StoreOpening::Adopt) {
-            Ok(store) => {
-                let (fault, store) = open_and_close(alloc, store, self.0);
-                (Some(fault), database_of(store))
-            }
-            Err((_fault, store)) => (None, store),
-        }
-    }
-}
-
-/// The operation that sends one message to a register. The output is its response.
-#[derive(Clone, Copy)]
-pub struct SingleRequest<'a>(pub &'a Request<'a>);
-
-impl DbOperation for SingleRequest<'_> {
-    type Output = Vec<u8>;
-
-    fn execute<S: Alter + Drop>(self, alloc: Global, conn: Connection<S>) -> (Option<Vec<u8>>, S) {
-        match open_with(alloc, conn, StoreOpening::Open) {
-            Ok(store) => {
-                let (response, store) = send_one(alloc, store, self.0);
-                (response, database_of(store))
-            }
-            Err((_fault, store)) => (None, store),
-        }
-    }
-}
-
-/// The operation that sends batches of requests to a register, which has to accept each one.
-#[derive(Clone, Copy)]
-pub struct RequestBatches<'a>(pub &'a [Requests<'a>]);
-
-impl DbOperation for RequestBatches<'_> {
-    type Output = ();
-
-    fn execute<S: Alter + Drop>(self, alloc: Global, conn: Connection<S>) -> (Option<()>, S) {
-        match open_with(alloc, conn, StoreOpening::Open) {
-            Ok(store) => {
-                let (sent, store) = send_all(alloc, store, self.0);
-                (sent, database_of(store))
-            }
-            Err((_fault, store)) => (None, store),
-        }
-    }
-}
-
-/// The operation that sends batches of requests to a register, in one group of commits. If they do
-/// not last, it sends the requests again if `is_repeated`, each with a commit of its own.
-#[derive(Clone, Copy)]
-pub struct RequestGroup<'a> {
-    pub batches: &'a [Requests<'a>],
-    pub is_repeated: bool,
-}
-
-impl DbOperation for RequestGroup<'_> {
-    type Output = GroupResult;
-
-    fn execute<S: Alter + Drop>(
-        self,
-        alloc: Global,
-        conn: Connection<S>,
-    ) -> (Option<GroupResult>, S) {
-        match open_with(alloc, conn, StoreOpening::Open) {
-            Ok(store) => {
-                let (result, store) = send_group(alloc, store, self.batches, self.is_repeated);
-                (result, database_of(store))
-            }
-            Err((_fault, store)) => (None, store),
-        }
     }
 }

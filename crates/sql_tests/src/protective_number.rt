@@ -1,7 +1,6 @@
 //! The requests and responses of the stories `first-used-number` and `held-block` (`tests/stories`),
 //! from the minute before the second used number fails.
-use crate::failed_block::Exchanges;
-use crate::messages::Request;
+use crate::messages::{Exchanges, Request};
 
 const ASSIGN: &str = "/blocks/assign";
 

@@ -1,11 +1,11 @@
-//! All rows of a register's tables, and the schema of its file, as a text.
+//! Rows of a register's tables, and the schema of its file, as a text.
 use sqlite::types::ValueRef;
 use sqlite::{Alter, Connection, Row};
 use std::alloc::Global;
 use std::io::Write;
 
-// The schema, and each table in the order of its key.
-static QUERIES: [&str; 13] = [
+/// The schema, and each table in the order of its key.
+pub static QUERIES: [&str; 13] = [
     "SELECT type, name, tbl_name, sql FROM sqlite_schema",
     "SELECT * FROM carrier ORDER BY spid",
     "SELECT * FROM lrn ORDER BY lrn",
@@ -20,6 +20,9 @@ static QUERIES: [&str; 13] = [
     "SELECT * FROM version2 ORDER BY id",
     "SELECT * FROM clock2 ORDER BY one",
 ];
+
+/// How many of the queries are for the tables of the present format, and of each older one.
+pub const FORMATS: [usize; 3] = [13, 10, 9];
 
 fn add_value(value: ValueRef<'_>, text: &mut Vec<u8>) -> Option<()> {
     match value {
@@ -58,13 +61,17 @@ fn append_result<S: Alter>(
     Some(())
 }
 
-/// Returns the schema, and every row of every table.
-pub fn rows_of<S: Alter>(alloc: Global, conn: &mut Connection<S>) -> Option<Vec<u8>> {
+/// Returns the result of each of these queries.
+pub fn rows_of<S: Alter>(
+    alloc: Global,
+    conn: &mut Connection<S>,
+    queries: &[&str],
+) -> Option<Vec<u8>> {
     let mut text = Vec::new(alloc);
-    for query in QUERIES {
+    for query in queries {
         text.extend_from_slice(query.as_bytes()).ok()?;
         text.extend_from_slice(b"\n").ok()?;
-        append_result(conn, query, &mut text)?;
+        append_result(conn, *query, &mut text)?;
     }
     Some(text)
 }

@@ -1,17 +1,36 @@
-//! The messages to a register before it is stopped, and the request during which it is stopped.
-use crate::messages::{Request, Requests};
+//! The messages to a register before it is stopped, and those during which it is stopped.
+use crate::messages::{Messages, Request, Requests};
 
-/// A request during which the files stop.
+/// Messages during which the files stop.
 #[derive(Clone, Copy)]
 pub struct Scenario<'a> {
-    /// The messages before the request.
+    pub name: &'static str,
+    /// The messages before.
     pub setup: &'a [Requests<'a>],
-    /// Messages that do what the request does first, each in a commit of its own.
+    /// Statements that then bring the file to an older format.
+    pub older_format: &'a [&'a str],
+    /// Whether the files stop while they are opened, too.
+    pub is_opening_stopped: bool,
+    /// Messages that do what the messages do first, each in a commit of its own.
     pub steps: Requests<'a>,
-    pub request: Request<'a>,
-    /// The next message once the request is executed. It changes nothing.
+    pub messages: Messages<'a>,
+    /// The next message once the messages are executed. It changes nothing.
     pub next_request: Request<'a>,
 }
+
+/// A scenario without messages.
+pub const EMPTY: Scenario<'static> = Scenario {
+    name: "",
+    setup: &[],
+    older_format: &[],
+    is_opening_stopped: false,
+    steps: &[],
+    messages: Messages {
+        batches: &[],
+        is_grouped: false,
+    },
+    next_request: VERSION_QUESTION,
+};
 
 // Three carriers, each with a routing number, and a code that BBBB holds.
 const OPENING: Requests<'static> = &[
@@ -216,216 +235,318 @@ const NINE_WINDOWS: Request<'static> = (
     r#"{"broadcast":15,"cancellation_final":60,"cancellation_initial":60,"conflict_expiration":1000,"conflict_resolution":120,"conflict_restriction":30,"final_concurrence":60,"initial_concurrence":60,"pending_retention":500}"#,
 );
 
-/// A number in force whose carrier code is being removed, and a block with three numbers being
-/// sent.
-pub static PORT: [Requests<'static>; 4] = [
-    OPENING,
-    CREATED,
-    SENT,
-    &[ACKNOWLEDGED, THREE_DONATED, REROUTED],
+/// Requests about a port and its routing.
+pub static PORTS: [Scenario<'static>; 5] = [
+    // A download is sent to each of three carriers.
+    Scenario {
+        name: "an activation",
+        setup: &[OPENING, CREATED],
+        is_opening_stopped: true,
+        messages: Messages {
+            batches: &[&[("AAAA", "/subscriptionVersionActivate", r#"{"id":1}"#)]],
+            is_grouped: false,
+        },
+        next_request: ("AAAA", "/subscriptionVersionActivate", r#"{"id":1}"#),
+        ..EMPTY
+    },
+    // The last acknowledgement closes a broadcast.
+    Scenario {
+        name: "a last acknowledgement",
+        setup: &[OPENING, CREATED, SENT],
+        messages: Messages {
+            batches: &[&[ACKNOWLEDGED]],
+            is_grouped: false,
+        },
+        next_request: ACKNOWLEDGED,
+        ..EMPTY
+    },
+    // A routing is modified, and sent to each of three carriers.
+    Scenario {
+        name: "a modify",
+        setup: &[OPENING, CREATED, SENT, &[ACKNOWLEDGED]],
+        messages: Messages {
+            batches: &[&[REROUTED]],
+            is_grouped: false,
+        },
+        next_request: REROUTED,
+        ..EMPTY
+    },
+    // The last acknowledgement of a modify replaces the routing.
+    Scenario {
+        name: "a last acknowledgement of a modify",
+        setup: &[OPENING, CREATED, SENT, REROUTED_SENT],
+        messages: Messages {
+            batches: &[&[("BBBB", "/downloads/acknowledge", r#"{"attempt":2,"id":1}"#)]],
+            is_grouped: false,
+        },
+        next_request: ("BBBB", "/downloads/acknowledge", r#"{"attempt":2,"id":1}"#),
+        ..EMPTY
+    },
+    // The windows are set again, which makes another set of the same windows. Setting them once more
+    // would make a third, so the next message is a question about a version.
+    Scenario {
+        name: "a change of windows",
+        setup: &[OPENING, CREATED],
+        messages: Messages {
+            batches: &[&[NINE_WINDOWS]],
+            is_grouped: false,
+        },
+        ..EMPTY
+    },
 ];
 
-/// A download is sent to each of three carriers.
-pub static ACTIVATION: Scenario<'static> = Scenario {
-    setup: &[OPENING, CREATED],
-    steps: &[],
-    request: ("AAAA", "/subscriptionVersionActivate", r#"{"id":1}"#),
-    next_request: ("AAAA", "/subscriptionVersionActivate", r#"{"id":1}"#),
-};
+/// Requests about a block, and those that find windows that have ended.
+pub static BLOCKS: [Scenario<'static>; 4] = [
+    // A block with three numbers in use is donated: each gets a version, which is sent to each
+    // carrier.
+    Scenario {
+        name: "a donation",
+        setup: &[OPENING],
+        messages: Messages {
+            batches: &[&[THREE_DONATED]],
+            is_grouped: false,
+        },
+        next_request: THREE_DONATED,
+        ..EMPTY
+    },
+    // A donated block is assigned to a carrier.
+    Scenario {
+        name: "an assignment",
+        setup: &[OPENING, DONATED],
+        messages: Messages {
+            batches: &[&[(
+                "NPAC",
+                "/blocks/assign",
+                r#"{"block":"2025337","holder":"CCCC","lrn":"2025550000"}"#,
+            )]],
+            is_grouped: false,
+        },
+        next_request: (
+            "NPAC",
+            "/blocks/assign",
+            r#"{"block":"2025337","holder":"CCCC","lrn":"2025550000"}"#,
+        ),
+        ..EMPTY
+    },
+    // The clock jumps over the ends of five windows.
+    Scenario {
+        name: "a jump of the clock",
+        setup: &[OPENING, WINDOWED],
+        messages: Messages {
+            batches: &[&[JUMPED]],
+            is_grouped: false,
+        },
+        next_request: JUMPED,
+        ..EMPTY
+    },
+    // A newcomer finds five windows that have ended.
+    Scenario {
+        name: "a newcomer",
+        setup: &[OPENING, WINDOWED, SENT_AFTERWARDS],
+        steps: SETTLED,
+        messages: Messages {
+            batches: &[&[("NPAC", "/carriers", r#"{"spid":"DDDD"}"#)]],
+            is_grouped: false,
+        },
+        next_request: ("NPAC", "/carriers", r#"{"spid":"DDDD"}"#),
+        ..EMPTY
+    },
+];
 
-/// The last acknowledgement closes a broadcast.
-pub static ACKNOWLEDGEMENT: Scenario<'static> = Scenario {
-    setup: &[OPENING, CREATED, SENT],
-    steps: &[],
-    request: ACKNOWLEDGED,
-    next_request: ACKNOWLEDGED,
-};
+/// Requests about the release of a number, and its next port.
+pub static RELEASES: [Scenario<'static>; 6] = [
+    // The release of a number is planned.
+    Scenario {
+        name: "a planned release",
+        setup: &[OPENING, CREATED, SENT, &[ACKNOWLEDGED]],
+        messages: Messages {
+            batches: &[&[PLANNED]],
+            is_grouped: false,
+        },
+        next_request: PLANNED,
+        ..EMPTY
+    },
+    // The minute of a planned release has come: a question finds it, and a delete is sent.
+    Scenario {
+        name: "a planned delete",
+        setup: &[
+            OPENING,
+            CREATED,
+            SENT,
+            &[
+                ACKNOWLEDGED,
+                PLANNED,
+                ("NPAC", "/clock", r#"{"minute":401}"#),
+            ],
+        ],
+        messages: Messages {
+            batches: &[&[VERSION_QUESTION]],
+            is_grouped: false,
+        },
+        ..EMPTY
+    },
+    // Nobody acknowledges the delete: its broadcast closes, and the number stays in force.
+    Scenario {
+        name: "a delete that fails",
+        setup: &[
+            OPENING,
+            CREATED,
+            SENT,
+            &[
+                ACKNOWLEDGED,
+                PLANNED,
+                ("NPAC", "/clock", r#"{"minute":401}"#),
+                VERSION_QUESTION,
+                ("NPAC", "/clock", r#"{"minute":1000}"#),
+            ],
+        ],
+        messages: Messages {
+            batches: &[&[VERSION_QUESTION]],
+            is_grouped: false,
+        },
+        ..EMPTY
+    },
+    // A number is released at once.
+    Scenario {
+        name: "a disconnect",
+        setup: &[OPENING, CREATED, SENT, &[ACKNOWLEDGED]],
+        messages: Messages {
+            batches: &[&[DISCONNECT_NOW]],
+            is_grouped: false,
+        },
+        next_request: DISCONNECT_NOW,
+        ..EMPTY
+    },
+    // A released number is ported again while its release is pending for a carrier.
+    Scenario {
+        name: "a port of a released number",
+        setup: &[
+            OPENING,
+            CREATED,
+            SENT,
+            &[ACKNOWLEDGED],
+            RELEASED,
+            CREATED_AGAIN,
+        ],
+        messages: Messages {
+            batches: &[&[ACTIVATED_AGAIN]],
+            is_grouped: false,
+        },
+        next_request: ACTIVATED_AGAIN,
+        ..EMPTY
+    },
+    // That carrier acknowledges the release, and the download of the next port is pending after it.
+    Scenario {
+        name: "a late acknowledgement",
+        setup: &[
+            OPENING,
+            CREATED,
+            SENT,
+            &[ACKNOWLEDGED],
+            RELEASED,
+            CREATED_AGAIN,
+            &[ACTIVATED_AGAIN],
+        ],
+        messages: Messages {
+            batches: &[&[LATE]],
+            is_grouped: false,
+        },
+        next_request: LATE,
+        ..EMPTY
+    },
+];
 
-/// A routing is modified, and sent to each of three carriers.
-pub static MODIFY: Scenario<'static> = Scenario {
-    setup: &[OPENING, CREATED, SENT, &[ACKNOWLEDGED]],
-    steps: &[],
-    request: REROUTED,
-    next_request: REROUTED,
-};
+/// Groups of a few messages.
+pub static GROUPS: [Scenario<'static>; 3] = [
+    // A download is sent to each of three carriers.
+    Scenario {
+        name: "a group of one message",
+        setup: &[OPENING, CREATED],
+        messages: Messages {
+            batches: &[&[("AAAA", "/subscriptionVersionActivate", r#"{"id":1}"#)]],
+            is_grouped: true,
+        },
+        ..EMPTY
+    },
+    // Both providers create a port.
+    Scenario {
+        name: "a group of two messages",
+        setup: &[OPENING],
+        messages: Messages {
+            batches: &[CREATED],
+            is_grouped: true,
+        },
+        ..EMPTY
+    },
+    // A port from its creation until the number is in force, and then its routing is modified.
+    Scenario {
+        name: "a group of seven messages",
+        setup: &[OPENING],
+        messages: Messages {
+            batches: &[CREATED, SENT, &[ACKNOWLEDGED, REROUTED]],
+            is_grouped: true,
+        },
+        ..EMPTY
+    },
+];
 
-/// The last acknowledgement of a modify replaces the routing.
-pub static MODIFIED: Scenario<'static> = Scenario {
-    setup: &[OPENING, CREATED, SENT, REROUTED_SENT],
-    steps: &[],
-    request: ("BBBB", "/downloads/acknowledge", r#"{"attempt":2,"id":1}"#),
-    next_request: ("BBBB", "/downloads/acknowledge", r#"{"attempt":2,"id":1}"#),
-};
+/// Groups of many messages.
+pub static LARGE_GROUPS: [Scenario<'static>; 1] = [
+    // A number is ported, released and ported again, and then the windows are set 47 times.
+    Scenario {
+        name: "a group of 64 messages",
+        setup: &[OPENING],
+        messages: Messages {
+            batches: &[
+                CREATED,
+                SENT,
+                &[ACKNOWLEDGED],
+                RELEASED,
+                CREATED_AGAIN,
+                &[ACTIVATED_AGAIN, LATE],
+                &[NINE_WINDOWS; 47],
+            ],
+            is_grouped: true,
+        },
+        ..EMPTY
+    },
+];
 
-/// A block with three numbers in use is donated: each gets a version, which is sent to each
-/// carrier.
-pub static DONATION: Scenario<'static> = Scenario {
-    setup: &[OPENING],
-    steps: &[],
-    request: THREE_DONATED,
-    next_request: THREE_DONATED,
-};
+// The statements that turn a file into the format without sets of windows.
+const WITHOUT_SETS: &str = "\
+    INSERT INTO version SELECT id, subject, old, new, due, lrn, cic, old_at, new_at, status, sends, \
+    since, attempt, release, spent, protective, cancelled_by, deadline, holds, opens FROM version2; \
+    INSERT INTO clock SELECT 0, (SELECT now FROM clock2), (SELECT next_id FROM clock2), \
+    initial_concurrence, final_concurrence, conflict_restriction, conflict_resolution, \
+    conflict_expiration, cancellation_initial, cancellation_final, pending_retention, broadcast FROM \
+    window_set; \
+    DROP TABLE clock2; DROP TABLE version2; DROP TABLE window_set";
 
-/// A donated block is assigned to a carrier.
-pub static ASSIGNMENT: Scenario<'static> = Scenario {
-    setup: &[OPENING, DONATED],
-    steps: &[],
-    request: (
-        "NPAC",
-        "/blocks/assign",
-        r#"{"block":"2025337","holder":"CCCC","lrn":"2025550000"}"#,
-    ),
-    next_request: (
-        "NPAC",
-        "/blocks/assign",
-        r#"{"block":"2025337","holder":"CCCC","lrn":"2025550000"}"#,
-    ),
-};
+// The statement that turns that file into the first format, which has no modifies.
+const WITHOUT_MODIFIES: &str = "DROP TABLE next_routing";
 
-/// The clock jumps over the ends of five windows.
-pub static JUMP: Scenario<'static> = Scenario {
+// A question about a version with a window yet to end, in a file with five of them.
+const OPENED: Scenario<'static> = Scenario {
     setup: &[OPENING, WINDOWED],
-    steps: &[],
-    request: JUMPED,
-    next_request: JUMPED,
+    is_opening_stopped: true,
+    messages: Messages {
+        batches: &[&[("NPAC", "/versions/4", "")]],
+        is_grouped: false,
+    },
+    next_request: ("NPAC", "/versions/4", ""),
+    ..EMPTY
 };
 
-/// A newcomer finds five windows that have ended.
-pub static NEWCOMER: Scenario<'static> = Scenario {
-    setup: &[OPENING, WINDOWED, SENT_AFTERWARDS],
-    steps: SETTLED,
-    request: ("NPAC", "/carriers", r#"{"spid":"DDDD"}"#),
-    next_request: ("NPAC", "/carriers", r#"{"spid":"DDDD"}"#),
-};
-
-/// The release of a number is planned.
-pub static PLANNED_RELEASE: Scenario<'static> = Scenario {
-    setup: &[OPENING, CREATED, SENT, &[ACKNOWLEDGED]],
-    steps: &[],
-    request: PLANNED,
-    next_request: PLANNED,
-};
-
-/// The minute of a planned release has come: a question finds it, and a delete is sent.
-pub static PLANNED_DELETE: Scenario<'static> = Scenario {
-    setup: &[
-        OPENING,
-        CREATED,
-        SENT,
-        &[
-            ACKNOWLEDGED,
-            PLANNED,
-            ("NPAC", "/clock", r#"{"minute":401}"#),
-        ],
-    ],
-    steps: &[],
-    request: VERSION_QUESTION,
-    next_request: VERSION_QUESTION,
-};
-
-/// Nobody acknowledges the delete: its broadcast closes, and the number stays in force.
-pub static FAILED_DELETE: Scenario<'static> = Scenario {
-    setup: &[
-        OPENING,
-        CREATED,
-        SENT,
-        &[
-            ACKNOWLEDGED,
-            PLANNED,
-            ("NPAC", "/clock", r#"{"minute":401}"#),
-            VERSION_QUESTION,
-            ("NPAC", "/clock", r#"{"minute":1000}"#),
-        ],
-    ],
-    steps: &[],
-    request: VERSION_QUESTION,
-    next_request: VERSION_QUESTION,
-};
-
-/// A number is released at once.
-pub static DISCONNECT: Scenario<'static> = Scenario {
-    setup: &[OPENING, CREATED, SENT, &[ACKNOWLEDGED]],
-    steps: &[],
-    request: DISCONNECT_NOW,
-    next_request: DISCONNECT_NOW,
-};
-
-/// A released number is ported again while its release is pending for a carrier.
-pub static PORTED_AGAIN: Scenario<'static> = Scenario {
-    setup: &[
-        OPENING,
-        CREATED,
-        SENT,
-        &[ACKNOWLEDGED],
-        RELEASED,
-        CREATED_AGAIN,
-    ],
-    steps: &[],
-    request: ACTIVATED_AGAIN,
-    next_request: ACTIVATED_AGAIN,
-};
-
-/// That carrier acknowledges the release, and the download of the next port is pending after it.
-pub static LATE_ACKNOWLEDGEMENT: Scenario<'static> = Scenario {
-    setup: &[
-        OPENING,
-        CREATED,
-        SENT,
-        &[ACKNOWLEDGED],
-        RELEASED,
-        CREATED_AGAIN,
-        &[ACTIVATED_AGAIN],
-    ],
-    steps: &[],
-    request: LATE,
-    next_request: LATE,
-};
-
-/// The windows are set again, which makes another set of the same windows. Setting them once more
-/// would make a third, so the next message is a question about a version.
-pub static NEW_WINDOWS: Scenario<'static> = Scenario {
-    setup: &[OPENING, CREATED],
-    steps: &[],
-    request: NINE_WINDOWS,
-    next_request: VERSION_QUESTION,
-};
-
-/// Messages that are executed in one group of commits.
-#[derive(Clone, Copy)]
-pub struct GroupScenario<'a> {
-    /// The messages before the group.
-    pub setup: &'a [Requests<'a>],
-    pub group: &'a [Requests<'a>],
-}
-
-/// A download is sent to each of three carriers.
-pub static GROUP_OF_1: GroupScenario<'static> = GroupScenario {
-    setup: &[OPENING, CREATED],
-    group: &[&[("AAAA", "/subscriptionVersionActivate", r#"{"id":1}"#)]],
-};
-
-/// Both providers create a port.
-pub static GROUP_OF_2: GroupScenario<'static> = GroupScenario {
-    setup: &[OPENING],
-    group: &[CREATED],
-};
-
-/// A port from its creation until the number is in force, and then its routing is modified.
-pub static GROUP_OF_7: GroupScenario<'static> = GroupScenario {
-    setup: &[OPENING],
-    group: &[CREATED, SENT, &[ACKNOWLEDGED, REROUTED]],
-};
-
-/// A number is ported, released and ported again, and then the windows are set 47 times.
-pub static GROUP_OF_64: GroupScenario<'static> = GroupScenario {
-    setup: &[OPENING],
-    group: &[
-        CREATED,
-        SENT,
-        &[ACKNOWLEDGED],
-        RELEASED,
-        CREATED_AGAIN,
-        &[ACTIVATED_AGAIN, LATE],
-        &[NINE_WINDOWS; 47],
-    ],
-};
+/// Files in older formats, which are migrated.
+pub static MIGRATIONS: [Scenario<'static>; 2] = [
+    Scenario {
+        name: "a file without sets of windows",
+        older_format: &[WITHOUT_SETS],
+        ..OPENED
+    },
+    Scenario {
+        name: "a file without sets of windows and modifies",
+        older_format: &[WITHOUT_SETS, WITHOUT_MODIFIES],
+        ..OPENED
+    },
+];

@@ -1,6 +1,5 @@
 //! Three worked histories: their requests and responses, from the stories of `tests/stories`.
-use crate::failed_block::Exchanges;
-use crate::messages::Request;
+use crate::messages::{Exchanges, Request};
 use crate::protective_number::{BLOCK_IS_HELD, NUMBER_FAILS, NUMBER_IS_SENT_AGAIN};
 
 /// A worked history.
