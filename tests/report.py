@@ -27,6 +27,8 @@ from lib.program import PROGRAM, command_line
 NOW = 29_932_791
 BEFORE = NOW - 2900
 SILENT = CARRIERS[-1]
+# The greatest minute, whose date is after the year 9999.
+GREATEST = 2**40 - 1
 VOID = {"meta"}
 STATUSES = ["pending", "conflict", "cancel-pending", "sending", "active", "partial-failure", "failed", "disconnect-pending", "old", "canceled"]
 
@@ -144,6 +146,18 @@ def is_sound(page):
     return not page.open and len(page.ids) == len(set(page.ids)) and names <= set(page.ids) and not page.links and "script" not in page.names
 
 
+def is_far_page_written(folder):
+    """Whether the page of a register without versions at the greatest minute names the number of the day."""
+    file, to = f"{folder}/far.db", f"{folder}/far.html"
+    text = "".join(opening()) + clock(GREATEST)
+    fed = program(*command_line("feed", "--db", file)[1:], text=text)
+    written = program("report", "--db", file, "--to", to)
+    page = Path(to).read_text(encoding="utf-8")
+    hour, minute = divmod(GREATEST % 1440, 60)
+    time = f"<time>day {GREATEST // 1440} {hour:02}:{minute:02}</time>"
+    return fed[0] == 0 and written == (0, "") and time in page and "No carrier is late." in page
+
+
 def main():
     with tempfile.TemporaryDirectory() as folder:
         file, to = f"{folder}/register.db", f"{folder}/page.html"
@@ -158,6 +172,7 @@ def main():
         compare(page, database)
         database.close()
         assert any(re.search(f"attempt 1 sent, a create, pending for {SILENT}$", item) for item in page.items), page.items
+        assert is_far_page_written(folder)
         assert program("report", "--db", f"{folder}/none.db", "--to", to) == (3, "npacd: storage\n")
         assert program("report", "--db", file, "--to", f"{folder}/none/page.html") == (3, "npacd: write\n")
         assert Path(to).read_text(encoding="utf-8") == text and sorted(Path(folder).glob("*.part")) == []

@@ -12,6 +12,8 @@ bulk header
      writes report
 bulk ""
 ends bad_header
+bulk "caller,action,subject,old,new,due,lrn,cic\n"
+ends bad_header
 bulk first-create other-create concurrence
 ends bad_header
 CCCC /numbers/2025331234

@@ -13,33 +13,9 @@ use telnp::TelUri;
 // More numbers than a copy has room for without another allocation.
 const COUNT: usize = 200;
 
-static DIGITS: [u8; 10] = *b"0123456789";
-
 // Returns the number of 202533 with this line.
 fn subject_of(line: usize) -> Option<Subject> {
-    let mut text = *b"2025331000";
-    text[7] = *DIGITS.get(line / 100 % 10)?;
-    text[8] = *DIGITS.get(line / 10 % 10)?;
-    text[9] = *DIGITS.get(line % 10)?;
-    Some(Subject::Number(Tn::read(str::from_utf8(&text).ok()?)?))
-}
-
-fn row_of(line: usize) -> Option<RoutedRow> {
-    Some(RoutedRow {
-        subject: subject_of(line)?,
-        routing: routing_to("2025330000")?,
-    })
-}
-
-fn download_of(line: usize, action: Action, routing: Option<Routing>) -> Option<Download> {
-    Some(Download {
-        id: 1,
-        attempt: 1,
-        minute: Minute::ZERO,
-        subject: subject_of(line)?,
-        action,
-        routing,
-    })
+    Some(Subject::Number(Tn::new((line as u64).saturating_add(2_025_331_000))?))
 }
 
 // Returns whether the first `count` numbers have this routing in the copy, and the others have none.
@@ -55,58 +31,75 @@ fn has_copied(copy: &Mirror, count: usize, routing: Option<Routing>) -> bool {
 }
 
 // Starts an empty copy with the first three numbers.
-fn is_started(copy: &mut Mirror, rows: &[RoutedRow]) -> bool {
-    let is_first = copy.start(rows).is_ok();
+fn is_started(copy: &mut Mirror, routing: Routing) -> Option<bool> {
+    let rows = [
+        RoutedRow {
+            subject: subject_of(0)?,
+            routing,
+        },
+        RoutedRow {
+            subject: subject_of(1)?,
+            routing,
+        },
+        RoutedRow {
+            subject: subject_of(2)?,
+            routing,
+        },
+    ];
+    let is_first = copy.start(&rows).is_ok();
     let is_unchanged = is_first || has_copied(copy, 0, None);
-    is_unchanged && (is_first || copy.start(rows).is_ok())
+    Some(is_unchanged && (is_first || copy.start(&rows).is_ok()))
 }
 
-// Applies a download to a copy of the first `count` numbers.
+// Applies a download of a number to a copy of the first `count` numbers. A delete may carry a
+// routing, and takes no memory.
 fn is_applied(
     copy: &mut Mirror,
-    download: &Download,
+    line: usize,
+    action: Action,
     count: usize,
-    routing: Option<Routing>,
-) -> bool {
-    let is_first = copy.apply(download).is_ok();
-    let is_unchanged = is_first || has_copied(copy, count, routing);
-    is_unchanged && (is_first || copy.apply(download).is_ok())
+    routing: Routing,
+) -> Option<bool> {
+    let download = Download {
+        id: 1,
+        attempt: 1,
+        minute: Minute::ZERO,
+        subject: subject_of(line)?,
+        action,
+        routing: if action == Action::Create || line % 2 == 0 {
+            Some(routing)
+        } else {
+            None
+        },
+    };
+    let is_first = copy.apply(&download).is_ok();
+    let is_unchanged = is_first || has_copied(copy, count, Some(routing));
+    let may_fail = action == Action::Create;
+    Some(is_unchanged && (is_first || (may_fail && copy.apply(&download).is_ok())))
 }
 
-// Applies creates of all numbers but the first three.
-fn are_created(copy: &mut Mirror, routing: Option<Routing>) -> Option<bool> {
+// Applies creates of all numbers but the first three, and deletes of all, the last first. Then the
+// copy starts again, with three numbers and with none.
+fn is_copy_followed_in(copy: &mut Mirror, routing: Routing) -> Option<bool> {
+    let mut is_right = is_started(copy, routing)? && has_copied(copy, 3, Some(routing));
     for line in 3..COUNT {
-        let create = download_of(line, Action::Create, routing)?;
-        if !is_applied(copy, &create, line, routing) {
-            return Some(false);
-        }
+        is_right = is_right && is_applied(copy, line, Action::Create, line, routing)?;
     }
-    Some(has_copied(copy, COUNT, routing))
-}
-
-// Applies deletes of all numbers, the last first. No delete takes memory.
-fn are_deleted(copy: &mut Mirror, routing: Option<Routing>) -> Option<bool> {
-    for line in 0..COUNT {
-        let count = COUNT.saturating_sub(line).saturating_sub(1);
-        let delete = download_of(count, Action::Delete, None)?;
-        if copy.apply(&delete).is_err() || !has_copied(copy, count, routing) {
-            return Some(false);
-        }
+    is_right = is_right && has_copied(copy, COUNT, Some(routing));
+    for count in 0..COUNT {
+        let line = COUNT.saturating_sub(count).saturating_sub(1);
+        is_right = is_right
+            && is_applied(copy, line, Action::Delete, line, routing)?
+            && has_copied(copy, line, Some(routing));
     }
-    Some(true)
+    let is_again = is_started(copy, routing)? && copy.start(&[]).is_ok();
+    Some(is_right && is_again && has_copied(copy, 0, None))
 }
 
 fn is_copy_followed(alloc: Global) -> Option<bool> {
-    let routing = routing_to("2025330000");
-    let rows = [row_of(0)?, row_of(1)?, row_of(2)?];
+    let routing = routing_to("2025330000")?;
     let mut copy = Mirror::new(alloc);
-    let is_begun = is_started(&mut copy, &rows) && has_copied(&copy, 3, routing);
-    Some(is_begun && are_created(&mut copy, routing)? && are_deleted(&mut copy, routing)?)
-}
-
-#[test]
-fn a_copy_with_an_allocation_failure(rt: HostRuntime) {
-    assert_eq!(rt; is_copy_followed(rt.alloc()), Some(true));
+    is_copy_followed_in(&mut copy, routing)
 }
 
 // A URI with parameters, one without, and one that says that it has been looked up; each with its
@@ -126,16 +119,13 @@ static ANSWERS: [(&str, &str); 3] = [
     ),
 ];
 
-fn routing_with_code() -> Option<Routing> {
-    Some(Routing {
+fn write_answer(alloc: Global, text: &str, out: &mut String) -> Option<Result<(), AllocError>> {
+    let routing = Routing {
         lrn: Lrn::read("2025440000")?,
         cic: Some(Cic::read("0288")?),
-    })
-}
-
-fn write_answer(alloc: Global, text: &str, out: &mut String) -> Option<Result<(), AllocError>> {
+    };
     let uri = TelUri::read(text).ok()?;
-    Some(uri.write_answer(alloc, Some(routing_with_code()?), out))
+    Some(uri.write_answer(alloc, Some(routing), out))
 }
 
 // Returns whether the answer is written, at the first or the second attempt.
@@ -160,6 +150,7 @@ fn first_wrong_answer(alloc: Global) -> Option<usize> {
 }
 
 #[test]
-fn an_answer_with_an_allocation_failure(rt: HostRuntime) {
-    assert_eq!(rt; first_wrong_answer(rt.alloc()), None);
+fn copies_and_answers_with_an_allocation_failure(rt: HostRuntime) {
+    let found = (is_copy_followed(rt.alloc()), first_wrong_answer(rt.alloc()));
+    assert_eq!(rt; found, (Some(true), None));
 }

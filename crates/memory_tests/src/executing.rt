@@ -26,13 +26,6 @@ fn execute(
         .ok()
 }
 
-fn wants_more_than(executed: &Executed, held: usize) -> bool {
-    match executed.progress {
-        Progress::Wants { wanted } => wanted > held,
-        Progress::Paused | Progress::Ended(_) => false,
-    }
-}
-
 // Returns whether the messages that are whole at this cut are executed, and then the others.
 fn are_executed_in(
     executor: &mut Executor,
@@ -45,8 +38,13 @@ fn are_executed_in(
     let first = execute(executor, register, (arrived, false, u64::MAX), output)?;
     let left = input.get(first.consumed..)?;
     let second = execute(executor, register, (left, true, u64::MAX), output)?;
+    let held = place.checked_sub(first.consumed)?;
+    let wants_more = match first.progress {
+        Progress::Wants { wanted } => wanted > held,
+        Progress::Paused | Progress::Ended(_) => false,
+    };
     Some(
-        wants_more_than(&first, place.checked_sub(first.consumed)?)
+        wants_more
             && second.consumed == left.len()
             && second.progress == Progress::Ended(End::Input)
             && first.count.checked_add(second.count)? == 11,
@@ -73,10 +71,47 @@ fn first_wrong_cut(alloc: Global) -> Option<Option<usize>> {
     Some(None)
 }
 
-#[test]
-fn the_first_port_is_executed_at_every_cut(rt: HostRuntime) {
-    assert_eq!(rt; first_wrong_cut(rt.alloc()), Some(None));
-}
+const TWO_CARRIERS: &str = "POST /carriers HTTP/1.1\r\nx-spid: NPAC\r\ncontent-length: 15\r\n\r\n\
+    {\"spid\":\"AAAA\"}POST /carriers HTTP/1.1\r\nx-spid: NPAC\r\nconnection: close\r\n\
+    content-length: 15\r\n\r\n{\"spid\":\"BBBB\"}GARBAGE";
+
+// An input, the most messages of it, what is done, and the length of the responses.
+type Row<'a> = (&'a str, u64, Executed, usize);
+
+// Execution pauses after the first carrier, whose message has 76 bytes. It ends after the last
+// message, and nothing after that is executed. What is refused is not consumed.
+static ROWS: [Row<'static>; 3] = [
+    (
+        TWO_CARRIERS,
+        1,
+        Executed {
+            count: 1,
+            consumed: 76,
+            progress: Progress::Paused,
+        },
+        96,
+    ),
+    (
+        TWO_CARRIERS,
+        9,
+        Executed {
+            count: 2,
+            consumed: 171,
+            progress: Progress::Ended(End::Closed),
+        },
+        192,
+    ),
+    (
+        "GARBAGE",
+        9,
+        Executed {
+            count: 1,
+            consumed: 0,
+            progress: Progress::Ended(End::Refused(MessageFault::BadHead)),
+        },
+        112,
+    ),
+];
 
 // Executes at most `most` messages of the whole input. Returns what was done, and the length of the
 // responses.
@@ -89,48 +124,18 @@ fn executed_of(alloc: Global, input: &str, most: u64) -> Option<(Executed, usize
     Some((executed, output.len()))
 }
 
-const TWO_CARRIERS: &str = "POST /carriers HTTP/1.1\r\nx-spid: NPAC\r\ncontent-length: 15\r\n\r\n\
-    {\"spid\":\"AAAA\"}POST /carriers HTTP/1.1\r\nx-spid: NPAC\r\nconnection: close\r\n\
-    content-length: 15\r\n\r\n{\"spid\":\"BBBB\"}GARBAGE";
-
-// The bytes of the first of two carriers, and of the response to it.
-const FIRST_LENGTH: usize = 76;
-
-const RESPONSE_LENGTH: usize = 96;
-
-#[test]
-fn execution_pauses(rt: HostRuntime) {
-    let expected = Executed {
-        count: 1,
-        consumed: FIRST_LENGTH,
-        progress: Progress::Paused,
-    };
-    assert_eq!(rt;
-        executed_of(rt.alloc(), TWO_CARRIERS, 1),
-        Some((expected, RESPONSE_LENGTH))
-    );
+// Returns the first row that is executed differently.
+fn first_wrong_row(alloc: Global) -> Option<usize> {
+    for (place, (input, most, executed, length)) in ROWS.iter().enumerate() {
+        if executed_of(alloc, input, *most) != Some((*executed, *length)) {
+            return Some(place);
+        }
+    }
+    None
 }
 
 #[test]
-fn nothing_is_executed_after_the_last_message(rt: HostRuntime) {
-    let expected = Executed {
-        count: 2,
-        consumed: TWO_CARRIERS.len() - "GARBAGE".len(),
-        progress: Progress::Ended(End::Closed),
-    };
-    assert_eq!(rt;
-        executed_of(rt.alloc(), TWO_CARRIERS, 9),
-        Some((expected, 2 * RESPONSE_LENGTH))
-    );
-}
-
-#[test]
-fn what_is_refused_is_not_consumed(rt: HostRuntime) {
-    let executed = executed_of(rt.alloc(), "GARBAGE", 9);
-    let expected = Executed {
-        count: 1,
-        consumed: 0,
-        progress: Progress::Ended(End::Refused(MessageFault::BadHead)),
-    };
-    assert_eq!(rt; executed.map(|done| done.0), Some(expected));
+fn whole_messages_are_executed(rt: HostRuntime) {
+    let wrong = (first_wrong_cut(rt.alloc()), first_wrong_row(rt.alloc()));
+    assert_eq!(rt; wrong, (Some(None), None));
 }

@@ -4,7 +4,6 @@ use register::Register;
 use settle::Store;
 use std::alloc::{AllocError, Global};
 use std::io::Read;
-use std::process::Abort;
 use store::MemoryStore;
 use windows::Windows;
 
@@ -181,15 +180,46 @@ pub fn serve_reader<S: Store, R: Read>(
     (responses, served)
 }
 
-/// Returns whether these `count` messages are served to the end.
-pub fn is_served<S: Store>(
+/// Returns whether the messages of a reader get these responses, and serving ends like this.
+pub fn has_responses<S: Store, R: Read>(
     alloc: Global,
     register: &mut Register<S>,
-    requests: &str,
-    count: u64,
+    reader: &mut R,
+    expected: &str,
+    expected_end: Result<Served, Fault>,
 ) -> bool {
-    let (_responses, served) = serve_reader(alloc, register, &mut requests.as_bytes());
-    served == served_to_end(count)
+    let (responses, served) = serve_reader(alloc, register, reader);
+    responses.as_slice() == expected.as_bytes() && served == expected_end
+}
+
+/// Returns whether these rows are answered as they should be.
+pub fn are_answered<S: Store>(
+    alloc: Global,
+    register: &mut Register<S>,
+    exchanges: &[Exchange<'_>],
+) -> Option<bool> {
+    let transcript = transcript_of_all(alloc, exchanges)?;
+    let mut reader = transcript.requests.as_bytes();
+    let end = served_to_end(exchanges.len() as u64);
+    let responses = transcript.responses.as_str();
+    Some(has_responses(alloc, register, &mut reader, responses, end))
+}
+
+/// Returns whether each row is answered with success, on one connection.
+pub fn are_accepted<S: Store>(
+    alloc: Global,
+    register: &mut Register<S>,
+    exchanges: &[Exchange<'_>],
+) -> Option<bool> {
+    let transcript = transcript_of_all(alloc, exchanges)?;
+    let mut reader = transcript.requests.as_bytes();
+    let (responses, served) = serve_reader(alloc, register, &mut reader);
+    let text = str::from_utf8(responses.as_slice()).ok()?;
+    let is_success = text
+        .split("HTTP/1.1 ")
+        .skip(1)
+        .all(|response| response.starts_with("200 "));
+    Some(is_success && served == served_to_end(exchanges.len() as u64))
 }
 
 /// Returns whether this is the response to a message.
@@ -199,37 +229,8 @@ pub fn is_answered<S: Store>(
     request: &str,
     response: &str,
 ) -> bool {
-    let (responses, served) = serve_reader(alloc, register, &mut request.as_bytes());
-    responses.as_slice() == response.as_bytes() && served == served_to_end(1)
-}
-
-// Returns the responses as text.
-fn text_of(bytes: &[u8]) -> &str {
-    str::from_utf8(bytes).unwrap_or("no UTF-8")
-}
-
-/// Asserts that the responses are these, and that serving ended like this.
-pub fn assert_served<T: Abort>(
-    rt: &T,
-    responses: &[u8],
-    expected: &str,
-    served: Result<Served, Fault>,
-    expected_end: Result<Served, Fault>,
-) {
-    assert_eq!(rt; text_of(responses), expected);
-    assert_eq!(rt; served, expected_end);
-}
-
-/// Asserts the responses to the messages of a reader, and how serving ends.
-pub fn assert_responses<T: Abort + AllocGlobal, S: Store, R: Read>(
-    rt: &T,
-    register: &mut Register<S>,
-    reader: &mut R,
-    expected: &str,
-    expected_end: Result<Served, Fault>,
-) {
-    let (responses, served) = serve_reader(rt.alloc(), register, reader);
-    assert_served(rt, &responses, expected, served, expected_end);
+    let mut reader = request.as_bytes();
+    has_responses(alloc, register, &mut reader, response, served_to_end(1))
 }
 
 /// Returns the result of serving `count` messages to the end of the input.
@@ -238,18 +239,4 @@ pub fn served_to_end(count: u64) -> Result<Served, Fault> {
         count,
         end: End::Input,
     })
-}
-
-fn serve_first_port(alloc: Global, register: &mut Register<MemoryStore>) -> Option<bool> {
-    let transcript = transcript_of_all(alloc, &FIRST_PORT)?;
-    Some(is_served(alloc, register, transcript.requests.as_str(), 11))
-}
-
-/// Returns a register after the first port.
-pub fn register_after_first_port(alloc: Global) -> Option<Register<MemoryStore>> {
-    let mut register = new_register(alloc)?;
-    match serve_first_port(alloc, &mut register) {
-        Some(true) => Some(register),
-        _ => None,
-    }
 }

@@ -1,13 +1,13 @@
 //! Tests a waiting client: responses are flushed before more input is read, and those to messages
 //! sent at once are flushed once.
-use crate::fixture::{assert_served, new_register, served_to_end};
+use crate::fixture::{new_register, served_to_end};
 use crate::io_faults::{Story, story_of_first_port};
 use api::{NoTicks, Options, serve};
 use register::Register;
+use std::alloc::Global;
 use std::cell::Cell;
 use std::io;
 use std::io::{ErrorKind, Read, Write};
-use std::process::Abort;
 use store::MemoryStore;
 
 // A client that sends a text in two pieces. A server that reads on before enough responses are
@@ -58,74 +58,59 @@ impl Write for FlushRecorder<'_> {
     }
 }
 
-// Asserts the responses to the client, and returns how often they were flushed.
-fn count_flushes_to<T: Abort + AllocGlobal>(
-    rt: &T,
-    register: &mut Register<MemoryStore>,
-    client: &mut Client<'_>,
-    responses: &str,
-) -> u64 {
-    let flushes = Cell::new(0);
-    let mut writer = FlushRecorder {
-        bytes: Vec::new(rt.alloc()),
-        flushed: client.flushed,
-        flushes: &flushes,
-    };
-    let options = Options { clock_route: true };
-    let alloc = rt.alloc();
-    let served = serve(alloc, register, &mut NoTicks, &options, client, &mut writer);
-    assert_served(rt, &writer.bytes, responses, served, served_to_end(11));
-    flushes.get()
-}
-
-// Returns how often the responses are flushed to a client that sends the first port cut at `place`.
-fn count_flushes_in<T: Abort + AllocGlobal>(
-    rt: &T,
+// Returns how often the responses are flushed to a client that sends the first port cut at `place`,
+// if they are right.
+fn count_flushes_in(
+    alloc: Global,
     register: &mut Register<MemoryStore>,
     story: &Story,
     place: usize,
 ) -> Option<u64> {
-    let (first, second) = story
-        .transcript
-        .requests
-        .as_bytes()
-        .split_at_checked(place)?;
-    let flushed = Cell::new(0);
+    let requests = story.transcript.requests.as_bytes();
+    let (first, second) = requests.split_at_checked(place)?;
+    let (flushed, flushes) = (Cell::new(0), Cell::new(0));
     let mut client = Client {
         first,
         second,
-        due_after_first: story.response_length_at(place),
+        due_after_first: story.response_length_at(place)?,
         due_after_both: story.transcript.responses.len(),
         flushed: &flushed,
     };
-    let responses = story.transcript.responses.as_str();
-    Some(count_flushes_to(rt, register, &mut client, responses))
-}
-
-fn count_flushes_at<T: Abort + AllocGlobal>(rt: &T, story: &Story, place: usize) -> Option<u64> {
-    let mut register = new_register(rt.alloc())?;
-    count_flushes_in(rt, &mut register, story, place)
-}
-
-fn assert_flushed_in_time<T: Abort + AllocGlobal>(rt: &T) -> Option<()> {
-    let story = story_of_first_port(rt.alloc())?;
-    for place in 0..story.transcript.requests.len() {
-        count_flushes_at(rt, &story, place)?;
+    let mut writer = FlushRecorder {
+        bytes: Vec::new(alloc),
+        flushed: &flushed,
+        flushes: &flushes,
+    };
+    let options = Options { clock_route: true };
+    let reader = &mut client;
+    let served = serve(alloc, register, &mut NoTicks, &options, reader, &mut writer);
+    let is_same = writer.bytes.as_slice() == story.transcript.responses.as_bytes();
+    if is_same && served == served_to_end(11) {
+        Some(flushes.get())
+    } else {
+        None
     }
-    Some(())
+}
+
+fn count_flushes_at(alloc: Global, story: &Story, place: usize) -> Option<u64> {
+    let mut register = new_register(alloc)?;
+    count_flushes_in(alloc, &mut register, story, place)
+}
+
+// Returns how often the responses to the whole first port are flushed, and the first cut of it with
+// other responses.
+fn flushes_and_wrong_cut(alloc: Global) -> Option<(u64, Option<usize>)> {
+    let story = story_of_first_port(alloc)?;
+    let flushes = count_flushes_at(alloc, &story, 0)?;
+    for place in 0..story.transcript.requests.len() {
+        if count_flushes_at(alloc, &story, place).is_none() {
+            return Some((flushes, Some(place)));
+        }
+    }
+    Some((flushes, None))
 }
 
 #[test]
 fn a_waiting_client_gets_its_responses(rt: HostRuntime) {
-    assert!(rt; assert_flushed_in_time(&rt).is_some());
-}
-
-fn count_flushes_of_whole<T: Abort + AllocGlobal>(rt: &T) -> Option<u64> {
-    let story = story_of_first_port(rt.alloc())?;
-    count_flushes_at(rt, &story, 0)
-}
-
-#[test]
-fn messages_sent_at_once_are_flushed_once(rt: HostRuntime) {
-    assert_eq!(rt; count_flushes_of_whole(&rt), Some(1));
+    assert_eq!(rt; flushes_and_wrong_cut(rt.alloc()), Some((1, None)));
 }

@@ -1,87 +1,56 @@
 //! Tests messages that are too large for a story's file.
 use crate::fixture::{
-    assert_responses, encode_request, encode_response, new_register, serve_reader, served_to_end,
+    encode_request, encode_response, is_answered, new_register, serve_reader, served_to_end,
 };
 use api::{End, Fault, Served};
 use register::Register;
 use std::alloc::{AllocError, Global};
-use std::process::Abort;
 use store::MemoryStore;
 
-// Returns a text of `count` copies of one character, with others around them.
-fn filled(
-    alloc: Global,
-    prefix: &str,
+// A text before and after copies of one character, and the status and the body of the response.
+struct LargeQuery {
+    prefix: &'static str,
     filler: char,
     count: usize,
-    suffix: &str,
-) -> Result<String, AllocError> {
-    let mut text = String::from_str(alloc, prefix)?;
-    for _ in 0..count {
-        text.push(filler)?;
-    }
-    text.push_str(suffix)?;
-    Ok(text)
-}
-
-// Tests that this is the response to the administrator's query.
-fn assert_answered_by<T: Abort + AllocGlobal>(
-    rt: &T,
-    register: &mut Register<MemoryStore>,
-    query: &str,
-    status: &str,
-    body: &str,
-) -> Option<()> {
-    let message = encode_request(rt.alloc(), &("NPAC", "/query", query, "")).ok()?;
-    let expected = encode_response(rt.alloc(), status, body).ok()?;
-    let mut reader = message.as_bytes();
-    assert_responses(
-        rt,
-        register,
-        &mut reader,
-        expected.as_str(),
-        served_to_end(1),
-    );
-    Some(())
-}
-
-fn assert_answered<T: Abort + AllocGlobal>(
-    rt: &T,
-    query: &str,
-    status: &str,
-    body: &str,
-) -> Option<()> {
-    let mut register = new_register(rt.alloc())?;
-    assert_answered_by(rt, &mut register, query, status, body)
+    suffix: &'static str,
+    status: &'static str,
+    response: &'static str,
 }
 
 const QUERY: &str = r#"{"uri":"tel:+12025331234"}"#;
 
-// Tests that a query in the largest body is read: the number of a code that is not open is answered
-// by its own text.
-fn assert_largest_read<T: Abort + AllocGlobal>(rt: &T) -> Option<()> {
-    let body = filled(rt.alloc(), "", ' ', 1_048_576 - QUERY.len(), QUERY).ok()?;
-    assert_answered(rt, body.as_str(), "200 OK", QUERY)
+// The largest body, of 1,048,576 bytes: the number of a code that is not open is answered by its own text. And a URI of
+// a million semicolons.
+static QUERIES: [LargeQuery; 2] = [
+    LargeQuery {
+        prefix: "",
+        filler: ' ',
+        count: 1_048_550,
+        suffix: QUERY,
+        status: "200 OK",
+        response: QUERY,
+    },
+    LargeQuery {
+        prefix: r#"{"uri":""#,
+        filler: ';',
+        count: 1_000_000,
+        suffix: r#""}"#,
+        status: "400 Bad Request",
+        response: r#"{"error":"too_long","number":36}"#,
+    },
+];
+
+// Returns the administrator's query.
+fn message_of(alloc: Global, query: &LargeQuery) -> Result<String, AllocError> {
+    let mut text = String::from_str(alloc, query.prefix)?;
+    for _ in 0..query.count {
+        text.push(query.filler)?;
+    }
+    text.push_str(query.suffix)?;
+    encode_request(alloc, &("NPAC", "/query", text.as_str(), ""))
 }
 
-#[test]
-fn the_largest_body_is_read(rt: HostRuntime) {
-    assert!(rt; assert_largest_read(&rt).is_some());
-}
-
-const TOO_LONG: &str = r#"{"error":"too_long","number":36}"#;
-
-fn assert_too_long<T: Abort + AllocGlobal>(rt: &T) -> Option<()> {
-    let body = filled(rt.alloc(), r#"{"uri":""#, ';', 1_000_000, r#""}"#).ok()?;
-    assert_answered(rt, body.as_str(), "400 Bad Request", TOO_LONG)
-}
-
-#[test]
-fn a_million_semicolons_are_too_long(rt: HostRuntime) {
-    assert!(rt; assert_too_long(&rt).is_some());
-}
-
-// A large message is cut after each of its first `CUTS` bytes.
+// A message is cut after each of its first `CUTS` bytes.
 const CUTS: usize = 10_000;
 
 const BAD_HEAD: &str = r#"{"error":"bad_head","number":45}"#;
@@ -118,7 +87,7 @@ fn is_cut_refused(
 }
 
 // Returns the first wrong cut of a message, in its head or after it.
-fn first_wrong_cut_in(
+fn first_wrong_cut(
     alloc: Global,
     register: &mut Register<MemoryStore>,
     message: &str,
@@ -140,25 +109,28 @@ fn first_wrong_cut_in(
     None
 }
 
-// Returns the first wrong cut of a query that begins with `prefix` and a million fillers.
-fn first_wrong_cut(alloc: Global, prefix: &str, filler: char, suffix: &str) -> Option<usize> {
-    let Ok(body) = filled(alloc, prefix, filler, 1_000_000, suffix) else {
-        return Some(0);
-    };
-    let Ok(message) = encode_request(alloc, &("NPAC", "/query", body.as_str(), "")) else {
-        return Some(0);
-    };
-    let Some(mut register) = new_register(alloc) else {
-        return Some(0);
-    };
-    first_wrong_cut_in(alloc, &mut register, message.as_str())
+// Returns whether a query is answered, and its cuts are refused.
+fn is_query_answered(alloc: Global, query: &LargeQuery) -> Option<bool> {
+    let message = message_of(alloc, query).ok()?;
+    let response = encode_response(alloc, query.status, query.response).ok()?;
+    let mut register = new_register(alloc)?;
+    Some(
+        is_answered(alloc, &mut register, message.as_str(), response.as_str())
+            && first_wrong_cut(alloc, &mut register, message.as_str()).is_none(),
+    )
+}
+
+// Returns the first query that is answered differently, whole or cut.
+fn first_wrong_query(alloc: Global) -> Option<usize> {
+    for (place, query) in QUERIES.iter().enumerate() {
+        if is_query_answered(alloc, query) != Some(true) {
+            return Some(place);
+        }
+    }
+    None
 }
 
 #[test]
-fn large_messages_that_are_cut(rt: HostRuntime) {
-    assert_eq!(rt; first_wrong_cut(rt.alloc(), "", ' ', QUERY), None);
-    assert_eq!(rt;
-        first_wrong_cut(rt.alloc(), r#"{"uri":""#, ';', r#""}"#),
-        None
-    );
+fn large_messages_are_answered_or_refused(rt: HostRuntime) {
+    assert_eq!(rt; first_wrong_query(rt.alloc()), None);
 }

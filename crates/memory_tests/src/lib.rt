@@ -4,13 +4,9 @@
 #[cfg(test)]
 mod allocation_failures;
 #[cfg(test)]
-mod blocks;
-#[cfg(test)]
 mod commands;
 #[cfg(test)]
-mod cuts;
-#[cfg(test)]
-mod delivery_tests;
+mod copies;
 #[cfg(test)]
 mod executing;
 #[cfg(test)]
@@ -18,15 +14,11 @@ mod failed_firings;
 #[cfg(test)]
 mod faulty_io;
 #[cfg(test)]
-mod fetching;
-#[cfg(test)]
 mod files;
 #[cfg(test)]
 mod fixture;
 #[cfg(test)]
 mod flushing;
-#[cfg(test)]
-mod interrupted;
 #[cfg(test)]
 mod io_faults;
 #[cfg(test)]
@@ -34,38 +26,26 @@ mod large_messages;
 #[cfg(test)]
 mod laws;
 #[cfg(test)]
+mod limits;
+#[cfg(test)]
+mod listeners;
+#[cfg(test)]
 mod many_broadcasts;
-#[cfg(test)]
-mod mirror_tests;
-#[cfg(test)]
-mod model_tests;
-#[cfg(test)]
-mod newcomer_copy;
 #[cfg(test)]
 mod numbers_tests;
 #[cfg(test)]
 mod opening;
 #[cfg(test)]
-mod pool_tests;
-#[cfg(test)]
 mod probing;
-#[cfg(test)]
-mod report_tests;
 #[cfg(test)]
 mod retries;
 #[cfg(test)]
-mod sending;
-#[cfg(test)]
 mod settling;
-#[cfg(test)]
-mod shared_downloads;
 #[cfg(test)]
 mod stores;
 #[cfg(test)]
 mod supplied_minutes;
 #[cfg(test)]
 mod telnp_tests;
-#[cfg(test)]
-mod version_tests;
 #[cfg(test)]
 mod windows_tests;

@@ -29,19 +29,15 @@ fn rewrite(kind: Kind, text: &str, out: &mut String) -> Option<()> {
     written.ok()
 }
 
-// Returns whether a text is written as it was read.
-fn is_rewritten(alloc: Global, kind: Kind, text: &str) -> bool {
-    let mut out = String::new(alloc);
-    rewrite(kind, text, &mut out).is_some() && out.as_str() == text
-}
-
 // A text, and whether it is one of its kind.
 type Row<'a> = (Kind, &'a str, bool);
 
-// Returns the first text that is read and should not be, or is not read and should be.
+// Returns the first text that is read and should not be, or is not read or written as it should be.
 fn first_misread(alloc: Global, rows: &[Row<'static>]) -> Option<&'static str> {
     for (kind, text, is_valid) in rows {
-        if is_rewritten(alloc, *kind, text) != *is_valid {
+        let mut out = String::new(alloc);
+        let is_rewritten = rewrite(*kind, text, &mut out).is_some() && out.as_str() == *text;
+        if is_rewritten != *is_valid {
             return Some(text);
         }
     }
@@ -95,23 +91,17 @@ static TEXTS: [Row<'static>; 44] = [
     (Kind::Cic, "028", false),
 ];
 
-#[test]
-fn texts_are_read_and_written(rt: HostRuntime) {
-    assert_eq!(rt; first_misread(rt.alloc(), &TEXTS), None);
-}
-
-// Returns whether these are a number's parts, and the number is made of them.
-fn is_made_of(tn: Tn, block: BlockId, line: Line) -> [bool; 3] {
-    [
-        tn.block() == block && tn.line() == line,
-        tn.code() == block.code(),
-        block.tn(line) == tn,
-    ]
-}
-
-fn are_parts() -> Option<[bool; 3]> {
+// Returns whether a number has these parts, and is made of them.
+fn are_parts() -> Option<bool> {
     let tn = Tn::read("2025331234")?;
-    Some(is_made_of(tn, BlockId::read("2025331")?, Line::read("234")?))
+    let block = BlockId::read("2025331")?;
+    let line = Line::read("234")?;
+    Some(
+        tn.block() == block
+            && tn.line() == line
+            && tn.code() == block.code()
+            && block.tn(line) == tn,
+    )
 }
 
 // Returns whether the number before a block, the block, and its first number are in the order of
@@ -124,13 +114,13 @@ fn are_in_order() -> Option<bool> {
 }
 
 #[test]
-fn parts_and_order(rt: HostRuntime) {
-    let found = (are_parts(), are_in_order());
-    assert_eq!(rt; found, (Some([true; 3]), Some(true)));
-}
-
-#[test]
-fn constants(rt: HostRuntime) {
+fn values_are_read_and_written(rt: HostRuntime) {
+    let found = (
+        first_misread(rt.alloc(), &TEXTS),
+        are_parts(),
+        are_in_order(),
+    );
+    assert_eq!(rt; found, (None, Some(true), Some(true)));
     assert!(rt; Minute::new(Minute::LIMIT).is_none() && Minute::ZERO.number == 0);
     assert!(rt; Spid::read("NPAC") == Some(Spid::NPAC) && Minute::read("7") == Minute::new(7));
 }

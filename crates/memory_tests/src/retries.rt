@@ -55,17 +55,11 @@ fn open_with_retry(alloc: Global) -> Option<Register<MemoryStore>> {
     }
 }
 
-fn transcript_with_retry(alloc: Global, exchange: &Exchange<'_>) -> Option<Transcript> {
-    match transcript_of(alloc, exchange) {
-        Ok(transcript) => Some(transcript),
-        Err(_) => transcript_of(alloc, exchange).ok(),
-    }
-}
-
-fn buffer_with_retry(alloc: Global) -> Option<Vec<u8>> {
-    match Vec::with_capacity(alloc, 4096) {
+/// Returns a buffer with this capacity, at the first or the second attempt.
+pub fn buffer_with_retry(alloc: Global, capacity: usize) -> Option<Vec<u8>> {
+    match Vec::with_capacity(alloc, capacity) {
         Ok(buffer) => Some(buffer),
-        Err(_) => Vec::with_capacity(alloc, 4096).ok(),
+        Err(_) => Vec::with_capacity(alloc, capacity).ok(),
     }
 }
 
@@ -76,7 +70,10 @@ fn send_with_retry(
     exchange: &Exchange<'_>,
     responses: &mut Vec<u8>,
 ) -> Option<SendOutcome> {
-    let transcript = transcript_with_retry(alloc, exchange)?;
+    let transcript = match transcript_of(alloc, exchange) {
+        Ok(transcript) => transcript,
+        Err(_) => transcript_of(alloc, exchange).ok()?,
+    };
     match send(alloc, register, &transcript, responses) {
         SendOutcome::NoMemory => Some(send(alloc, register, &transcript, responses)),
         outcome => Some(outcome),
@@ -99,7 +96,7 @@ fn are_all_answered(
 }
 
 fn are_all_answered_with_retry(alloc: Global) -> Option<bool> {
-    let mut responses = buffer_with_retry(alloc)?;
+    let mut responses = buffer_with_retry(alloc, 4096)?;
     let mut register = open_with_retry(alloc)?;
     Some(are_all_answered(alloc, &mut register, &mut responses))
 }

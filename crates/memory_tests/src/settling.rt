@@ -1,42 +1,11 @@
 //! Tests what a call settles: the subjects that it reads, and no other.
-use crate::fixture::{
-    Exchange, FIRST_PORT, Transcript, encode_request, encode_response, is_answered, is_served,
-    open_register,
-};
+use crate::commands::add_creates;
+use crate::fixture::{Exchange, encode_request, encode_response, is_answered, open_register};
 use register::Register;
 use settle::Store;
-use std::alloc::{AllocError, Global};
+use std::alloc::Global;
 use std::cell::Cell;
 use store::{CommitCounter, MemoryStore};
-
-// Appends the old provider's create of a number, due at 300.
-fn append_create(alloc: Global, line: u64, out: &mut String) -> Result<(), AllocError> {
-    let body = format!(in alloc;
-        "{{\"authorized\":true,\"due\":300,\"new\":\"AAAA\",\"old\":\"BBBB\",\"tn\":\"202533{line}\"}}"
-    )?;
-    let path = "/subscriptionVersionOldSP-Create";
-    let request = encode_request(alloc, &("BBBB", path, body.as_str(), ""))?;
-    out.push_str(request.as_str())
-}
-
-static AT_120: Exchange<'static> = ("NPAC", "/clock", r#"{"minute":120}"#, r#"{"now":120}"#);
-
-// Adds the messages that open a register, a thousand creates whose windows end at 120, and the
-// clock at that minute.
-fn append_until_120(alloc: Global, transcript: &mut Transcript) -> Result<(), AllocError> {
-    transcript.add_all(alloc, &FIRST_PORT[..5])?;
-    for line in 1000..2000 {
-        append_create(alloc, line, &mut transcript.requests)?;
-    }
-    let clock = encode_request(alloc, &AT_120)?;
-    transcript.requests.push_str(clock.as_str())
-}
-
-fn is_served_until_120<S: Store>(alloc: Global, register: &mut Register<S>) -> bool {
-    let mut transcript = Transcript::new(alloc);
-    append_until_120(alloc, &mut transcript).is_ok()
-        && is_served(alloc, register, transcript.requests.as_str(), 1006)
-}
 
 // A request, the status of its response, and how many commits it makes.
 type Step = (Exchange<'static>, &'static str, u64);
@@ -110,30 +79,21 @@ fn is_step_answered<S: Store>(
     Some(is_answered(alloc, register, request.as_str(), expected.as_str()))
 }
 
-// Returns the first step with another response, or another number of commits.
+// Returns the first step with another response, or another number of commits, after a thousand
+// creates whose windows have ended.
 fn first_wrong_step<S: Store>(
     alloc: Global,
     register: &mut Register<S>,
     commits: &Cell<u64>,
-) -> Option<usize> {
+) -> Option<Option<usize>> {
+    add_creates(alloc, register, (1000, 0, 120))?;
     for (index, step) in STEPS.iter().enumerate() {
         commits.set(0);
         if is_step_answered(alloc, register, step) != Some(true) || commits.get() != step.2 {
-            return Some(index);
+            return Some(Some(index));
         }
     }
-    None
-}
-
-fn settle_and_check_in<S: Store>(
-    alloc: Global,
-    register: &mut Register<S>,
-    commits: &Cell<u64>,
-) -> Option<Option<usize>> {
-    if !is_served_until_120(alloc, register) {
-        return None;
-    }
-    Some(first_wrong_step(alloc, register, commits))
+    Some(None)
 }
 
 fn settle_and_check(alloc: Global, commits: &Cell<u64>) -> Option<Option<usize>> {
@@ -142,7 +102,7 @@ fn settle_and_check(alloc: Global, commits: &Cell<u64>) -> Option<Option<usize>>
         commits,
     };
     let mut register = open_register(alloc, store)?;
-    settle_and_check_in(alloc, &mut register, commits)
+    first_wrong_step(alloc, &mut register, commits)
 }
 
 #[test]

@@ -1,6 +1,8 @@
-//! Tests a commit and each read. They also run with each allocation refused in turn: a commit that
-//! is refused leaves every read unchanged, and succeeds the second time.
-use delivery::{Broadcast, DownloadKey};
+//! Tests commits, each read, and an acknowledgement in one call. They also run with each allocation
+//! refused in turn: a commit that is refused leaves every read unchanged, and succeeds the second
+//! time.
+use crate::fixture::{FIRST_PORT, are_answered, new_register};
+use delivery::Broadcast;
 use model::{Action, Status};
 use numbers::{BlockId, CodeId, Lrn, Minute, Routing, Spid, Subject, Tn};
 use settle::{BlockRow, BroadcastKey, Changes, Few, Store, VersionRow, WaitKey};
@@ -22,15 +24,15 @@ const WINDOWS: Windows = Windows {
 };
 
 #[derive(Clone, Copy)]
-pub struct Sample {
-    pub carrier: Spid,
-    pub lrn: Lrn,
-    pub code: CodeId,
-    pub block: BlockId,
-    pub subject: Subject,
+struct Sample {
+    carrier: Spid,
+    lrn: Lrn,
+    code: CodeId,
+    block: BlockId,
+    subject: Subject,
 }
 
-pub fn make_sample() -> Option<Sample> {
+fn make_sample() -> Option<Sample> {
     Some(Sample {
         carrier: Spid::read("A001")?,
         lrn: Lrn::read("2025440000")?,
@@ -40,7 +42,8 @@ pub fn make_sample() -> Option<Sample> {
     })
 }
 
-pub fn version_row(sample: &Sample) -> VersionRow {
+// Returns the row of an active version, which has a deadline, and is in force if its id is 1.
+fn version_row(sample: &Sample, id: u64, deadline: Option<u64>) -> VersionRow {
     let version = Version {
         subject: sample.subject,
         old_provider: sample.carrier,
@@ -61,34 +64,70 @@ pub fn version_row(sample: &Sample) -> VersionRow {
     };
     VersionRow {
         version,
-        deadline: None,
-        is_in_force: true,
+        deadline: deadline.and_then(Minute::new),
+        is_in_force: id == 1,
         is_open: false,
     }
 }
 
-pub const KEY: BroadcastKey = BroadcastKey { id: 1, attempt: 1 };
+const KEY: BroadcastKey = BroadcastKey { id: 1, attempt: 1 };
 
-// Adds a version in force and its broadcast, pending for one carrier.
-pub fn add_version(changes: &mut Changes, sample: &Sample) -> Option<()> {
-    changes.versions = Few::One([(1, version_row(sample))]);
-    let sent = Broadcast::send(Minute::ZERO, sample.subject, Action::Create, None);
-    changes.broadcasts = Few::One([(KEY, sent)]);
-    let wait = WaitKey {
-        carrier: sample.carrier,
+// Returns the key of a carrier's download of the first version.
+fn wait_of(carrier: Spid, attempt: u64) -> WaitKey {
+    WaitKey {
+        carrier,
         minute: Minute::ZERO,
-        id: 1,
-        attempt: 1,
-    };
-    changes.waits.push((wait, sample.subject)).ok()
+        id: KEY.id,
+        attempt,
+    }
 }
 
-fn sample_changes(alloc: Global, sample: &Sample) -> Option<Changes> {
+// The id of a version, and its deadline.
+type Deadline = (u64, Option<u64>);
+
+static FIRST_DEADLINES: [Deadline; 4] = [(1, Some(30)), (2, Some(10)), (3, Some(20)), (4, None)];
+
+// The second version loses its deadline, and a fifth is added.
+static NEXT_DEADLINES: [Deadline; 2] = [(2, None), (5, Some(40))];
+
+// Returns changes with these versions, and with these attempts of the first, sent to the carrier.
+fn changes_of(
+    alloc: Global,
+    sample: &Sample,
+    deadlines: &[Deadline],
+    attempts: &[u64],
+) -> Option<Changes> {
+    let mut versions = Vec::new(alloc);
+    for (id, deadline) in deadlines {
+        versions
+            .push((*id, version_row(sample, *id, *deadline)))
+            .ok()?;
+    }
+    let mut broadcasts = Vec::new(alloc);
+    let mut changes = Changes::none(alloc);
+    for attempt in attempts {
+        let key = BroadcastKey {
+            id: KEY.id,
+            attempt: *attempt,
+        };
+        let sent = Broadcast::send(Minute::ZERO, sample.subject, Action::Create, None);
+        broadcasts.push((key, sent)).ok()?;
+        let wait = wait_of(sample.carrier, *attempt);
+        changes.waits.push((wait, sample.subject)).ok()?;
+    }
+    changes.versions = Few::Many(versions);
+    changes.broadcasts = Few::Many(broadcasts);
+    Some(changes)
+}
+
+// Returns the first changes, with a row of each kind besides.
+fn first_changes(alloc: Global, sample: &Sample, attempts: &[u64]) -> Option<Changes> {
     let row = BlockRow {
         donor: sample.carrier,
         last: None,
     };
-    let mut changes = Changes {
+    let changes = changes_of(alloc, sample, &FIRST_DEADLINES, attempts)?;
+    Some(Changes {
         carrier: Some(sample.carrier),
         lrn: Some((sample.lrn, sample.carrier)),
         code: Some((sample.code, sample.carrier)),
@@ -97,19 +136,7 @@ fn sample_changes(alloc: Global, sample: &Sample) -> Option<Changes> {
             number: 1,
             windows: WINDOWS,
         }),
-        ..Changes::none(alloc)
-    };
-    add_version(&mut changes, sample)?;
-    Some(changes)
-}
-
-// Returns the key of a download for another carrier.
-pub fn another_wait() -> Option<WaitKey> {
-    Some(WaitKey {
-        carrier: Spid::read("B001")?,
-        minute: Minute::ZERO,
-        id: KEY.id,
-        attempt: KEY.attempt,
+        ..changes
     })
 }
 
@@ -129,120 +156,76 @@ fn registry_checks(store: &mut MemoryStore, sample: &Sample) -> Option<[bool; 6]
 // Returns whether there is a version by id, in force and open, and a broadcast, and whether another
 // carrier's download would be the last.
 fn version_checks(store: &mut MemoryStore, sample: &Sample) -> Option<[bool; 5]> {
+    let another = wait_of(Spid::read("B001")?, KEY.attempt);
     Some([
         store.version(1).ok()?.is_some(),
         store.version_in_force(sample.subject).ok()?.is_some(),
         store.open_version(sample.subject).ok()?.is_some(),
         store.broadcast(KEY).ok()?.is_some(),
-        store.is_last_wait(another_wait()?).ok()?,
+        store.is_last_wait(another).ok()?,
     ])
 }
 
-// Returns how many downloads of the sample are pending for its carrier.
-fn count_waits_about(store: &mut MemoryStore, sample: &Sample) -> Option<usize> {
+// Returns whether `count` downloads of the sample are pending for its carrier, with consecutive
+// attempts from the first on.
+fn are_waits_about(store: &mut MemoryStore, sample: &Sample, count: usize) -> Option<bool> {
     let about = store.waits_about(sample.carrier, sample.subject).ok()?;
-    Some(about.as_slice().len())
+    let mut next: u64 = 1;
+    for download in about.as_slice() {
+        if download.attempt != next {
+            return Some(false);
+        }
+        next = next.saturating_add(1);
+    }
+    Some(about.as_slice().len() == count)
 }
 
-// Returns how many rows each list of one carrier or one broadcast has.
-fn waiting_counts(store: &mut MemoryStore, sample: &Sample) -> Option<[usize; 4]> {
-    let waits = store.waits(sample.carrier).ok()?.len();
+// Returns how many rows the lists have with a row for each download: the first downloads of the
+// carrier, and the open broadcasts.
+fn download_counts(store: &mut MemoryStore, sample: &Sample) -> Option<[usize; 2]> {
     let first = store.front(sample.carrier, 10).ok()?.len();
-    let waiters = store.waiters(Minute::ZERO, KEY).ok()?.len();
-    Some([count_waits_about(store, sample)?, waits, first, waiters])
+    let broadcasts = store.open_broadcasts().ok()?.len();
+    Some([first, broadcasts])
 }
 
 // Returns how many rows each other list has.
-fn list_counts(store: &mut MemoryStore) -> Option<[usize; 4]> {
+fn list_counts(store: &mut MemoryStore, sample: &Sample) -> Option<[usize; 5]> {
     let block = BlockId::read("2025331")?;
+    let waits = store.waits(sample.carrier).ok()?.len();
+    let waiters = store.waiters(Minute::ZERO, KEY).ok()?.len();
     let carriers = store.carriers().ok()?.len();
-    let broadcasts = store.open_broadcasts().ok()?.len();
     let in_force = store.in_force().ok()?.len();
     let in_block = store.in_block(block).ok()?.len();
-    Some([carriers, broadcasts, in_force, in_block])
+    Some([waits, waiters, carriers, in_force, in_block])
 }
 
-fn is_committed(store: &mut MemoryStore, changes: &Changes) -> bool {
-    store.commit(changes).is_ok()
-}
-
-// Returns whether the reads are right after a commit that was made, or was refused.
-fn are_reads_expected(store: &mut MemoryStore, sample: &Sample, is_done: bool) -> Option<bool> {
+// Returns whether the reads are right after a commit with `count` downloads, or none.
+fn are_reads_expected(store: &mut MemoryStore, sample: &Sample, count: usize) -> Option<bool> {
+    let is_done = count > 0;
     let registered = registry_checks(store, sample)?;
     let ported = version_checks(store, sample)?;
-    let lists = [waiting_counts(store, sample)?, list_counts(store)?];
     let are_rows = registered == [false, is_done, is_done, is_done, is_done, is_done];
     let are_versions = ported == [is_done, is_done, false, is_done, !is_done];
-    let are_lists = lists == [[usize::from(is_done); 4]; 2];
-    Some(are_rows && are_versions && are_lists && store.failures() == 0)
+    let are_lists = download_counts(store, sample)? == [count; 2]
+        && list_counts(store, sample)? == [usize::from(is_done); 5];
+    let are_waits = are_waits_about(store, sample, count)?;
+    Some(are_rows && are_versions && are_lists && are_waits && store.failures() == 0)
 }
 
 // Commits, and checks the reads. After a refused commit nothing is read, and the next commit must be
-// made. Only one allocation is ever refused.
-fn are_reads_expected_in(
+// made.
+fn are_first_committed(
     store: &mut MemoryStore,
     sample: &Sample,
     changes: &Changes,
 ) -> Option<bool> {
-    if is_committed(store, changes) {
-        return are_reads_expected(store, sample, true);
+    let count = changes.waits.len();
+    if store.commit(changes).is_ok() {
+        return are_reads_expected(store, sample, count);
     }
-    let is_unchanged = are_reads_expected(store, sample, false)?;
-    let is_made = is_committed(store, changes);
-    Some(is_unchanged && is_made && are_reads_expected(store, sample, true)?)
-}
-
-fn is_sample_read(alloc: Global) -> Option<bool> {
-    let sample = make_sample()?;
-    let changes = sample_changes(alloc, &sample)?;
-    let mut store = MemoryStore::new(alloc);
-    are_reads_expected_in(&mut store, &sample, &changes)
-}
-
-// Returns the first result, or the second if an allocation of the test or of a read was refused.
-pub fn with_retry(first: Option<bool>, second: Option<bool>) -> Option<bool> {
-    match first {
-        None => second,
-        result => result,
-    }
-}
-
-#[test]
-fn commits_and_reads(rt: HostRuntime) {
-    let results = (is_sample_read(rt.alloc()), is_sample_read(rt.alloc()));
-    assert_eq!(rt; with_retry(results.0, results.1), Some(true));
-}
-
-// The id of a version, and its deadline.
-type Deadline = (u64, Option<u64>);
-
-fn changes_of(alloc: Global, versions: &[Deadline]) -> Option<Changes> {
-    let sample = make_sample()?;
-    let mut rows = Vec::new(alloc);
-    for (id, deadline) in versions {
-        let mut row = version_row(&sample);
-        row.deadline = deadline.and_then(Minute::new);
-        rows.push((*id, row)).ok()?;
-    }
-    Some(Changes {
-        versions: Few::Many(rows),
-        ..Changes::none(alloc)
-    })
-}
-
-// Commits the versions. After a refused commit the least deadline is still `before`, and the next
-// commit must be made.
-fn are_committed(
-    alloc: Global,
-    store: &mut MemoryStore,
-    versions: &[Deadline],
-    before: Option<u64>,
-) -> Option<bool> {
-    let changes = changes_of(alloc, versions)?;
-    if is_committed(store, &changes) {
-        return Some(true);
-    }
-    Some(least_due(store, 1000)? == before && is_committed(store, &changes))
+    let is_unchanged = are_reads_expected(store, sample, 0)?;
+    let is_made = store.commit(changes).is_ok();
+    Some(is_unchanged && is_made && are_reads_expected(store, sample, count)?)
 }
 
 // Returns the id of the version with the least deadline, if that is not after `now`.
@@ -251,117 +234,81 @@ fn least_due(store: &mut MemoryStore, now: u64) -> Option<Option<u64>> {
     Some(least.map(|version| version.id))
 }
 
-static FIRST_DEADLINES: [Deadline; 4] = [(1, Some(30)), (2, Some(10)), (3, Some(20)), (4, None)];
-
-// The second version loses its deadline, and a fifth is added.
-static NEXT_DEADLINES: [Deadline; 2] = [(2, None), (5, Some(40))];
-
-// Returns whether the least deadline is right after the first commit: none is due at 9, and the
-// second is from 10 on.
-fn is_second_due(store: &mut MemoryStore) -> Option<bool> {
-    Some(
-        least_due(store, 9)?.is_none()
-            && least_due(store, 10)? == Some(2)
-            && least_due(store, 1000)? == Some(2),
-    )
+// Commits the next changes. Returns whether the least deadline is right before and after: none is
+// due at 9, and the second version is from 10 on. A refused commit must be made the second time.
+fn are_next_committed(store: &mut MemoryStore, changes: &Changes) -> Option<bool> {
+    let is_second = least_due(store, 9)?.is_none() && least_due(store, 10)? == Some(2);
+    let is_made = store.commit(changes).is_ok()
+        || (least_due(store, 1000)? == Some(2) && store.commit(changes).is_ok());
+    Some(is_second && is_made && least_due(store, 1000)? == Some(3))
 }
 
-fn is_least_found_in(alloc: Global, store: &mut MemoryStore) -> Option<bool> {
-    let is_first_made = are_committed(alloc, store, &FIRST_DEADLINES, None)?;
-    let is_second = is_second_due(store)?;
-    let is_next_made = are_committed(alloc, store, &NEXT_DEADLINES, Some(2))?;
-    Some(is_first_made && is_second && is_next_made && least_due(store, 1000)? == Some(3))
-}
-
-fn is_least_found(alloc: Global) -> Option<bool> {
-    let mut store = MemoryStore::new(alloc);
-    is_least_found_in(alloc, &mut store)
-}
-
-#[test]
-fn the_least_deadline_is_found(rt: HostRuntime) {
-    let results = (is_least_found(rt.alloc()), is_least_found(rt.alloc()));
-    assert_eq!(rt; with_retry(results.0, results.1), Some(true));
-}
-
-// Adds downloads of one subject, attempts of one version, in this order.
-fn add_waits(changes: &mut Changes, sample: &Sample, attempts: &[u64]) -> Option<()> {
-    for attempt in attempts {
-        let wait = WaitKey {
-            carrier: sample.carrier,
-            minute: Minute::ZERO,
-            id: 1,
-            attempt: *attempt,
-        };
-        changes.waits.push((wait, sample.subject)).ok()?;
-    }
-    Some(())
-}
-
-fn waits_of(alloc: Global, sample: &Sample, attempts: &[u64]) -> Option<Changes> {
-    let mut changes = Changes::none(alloc);
-    add_waits(&mut changes, sample, attempts)?;
-    Some(changes)
-}
-
-// Returns whether the attempts are consecutive from the first on.
-fn are_ascending(downloads: &[DownloadKey]) -> bool {
-    let mut next: u64 = 1;
-    for download in downloads {
-        if download.attempt != next {
-            return false;
-        }
-        next = next.saturating_add(1);
-    }
-    true
-}
-
-// Returns whether `count` downloads are pending, consecutive from the first attempt on.
-fn are_downloads_read(store: &mut MemoryStore, sample: &Sample, count: usize) -> Option<bool> {
-    let downloads = store.waits_about(sample.carrier, sample.subject).ok()?;
-    Some(downloads.as_slice().len() == count && are_ascending(downloads.as_slice()))
-}
-
-// Returns whether all downloads of a commit are read. After a refused commit none is, and the next
-// commit must be made.
-fn are_committed_and_read(
-    store: &mut MemoryStore,
-    sample: &Sample,
-    changes: &Changes,
-) -> Option<bool> {
-    let count = changes.waits.len();
-    if is_committed(store, changes) {
-        return are_downloads_read(store, sample, count);
-    }
-    let is_unchanged = are_downloads_read(store, sample, 0)?;
-    let is_made = is_committed(store, changes);
-    Some(is_unchanged && is_made && are_downloads_read(store, sample, count)?)
-}
-
-fn are_read_in_order(alloc: Global, attempts: &[u64]) -> Option<bool> {
+fn are_committed(alloc: Global, attempts: &[u64]) -> Option<bool> {
     let sample = make_sample()?;
-    let changes = waits_of(alloc, &sample, attempts)?;
+    let first = first_changes(alloc, &sample, attempts)?;
+    let next = changes_of(alloc, &sample, &NEXT_DEADLINES, &[])?;
     let mut store = MemoryStore::new(alloc);
-    are_committed_and_read(&mut store, &sample, &changes)
+    let is_first = are_first_committed(&mut store, &sample, &first)?;
+    Some(is_first && are_next_committed(&mut store, &next)?)
 }
 
-static ATTEMPTS: [&[u64]; 4] = [&[], &[2, 1], &[3, 1, 2], &[5, 3, 1, 4, 2]];
+static ATTEMPTS: [&[u64]; 4] = [&[1], &[2, 1], &[3, 1, 2], &[5, 3, 1, 4, 2]];
 
-// Returns the first row whose downloads are read in another order.
-fn first_wrong_order(alloc: Global) -> Option<usize> {
+// Returns the first result, or the second if an allocation of the test or of a read was refused.
+fn with_retry(first: Option<bool>, second: Option<bool>) -> Option<bool> {
+    match first {
+        None => second,
+        result => result,
+    }
+}
+
+// Returns the first row with another result.
+fn first_wrong_row(alloc: Global) -> Option<usize> {
     for (index, attempts) in ATTEMPTS.iter().enumerate() {
-        let results = (
-            are_read_in_order(alloc, attempts),
-            are_read_in_order(alloc, attempts),
-        );
-        if with_retry(results.0, results.1) != Some(true) {
+        let first = are_committed(alloc, attempts);
+        if with_retry(first, are_committed(alloc, attempts)) != Some(true) {
             return Some(index);
         }
     }
     None
 }
 
+// Returns a store in which a version is sent to two carriers.
+fn store_with_broadcast(alloc: Global) -> Option<MemoryStore> {
+    let mut register = new_register(alloc)?;
+    match are_answered(alloc, &mut register, &FIRST_PORT[..8]) {
+        Some(true) => Some(register.close()),
+        _ => None,
+    }
+}
+
+fn is_taken(store: &mut MemoryStore, carrier: &str, id: u64) -> Option<bool> {
+    let taken = store.take_shared(Spid::read(carrier)?, id, KEY.attempt);
+    Some(taken.ok()?.is_some())
+}
+
+// Returns whether each acknowledgement is taken, in turn: of a carrier that is not registered, of a
+// version that is not there, of a shared download, whether its broadcast says so then, of the same
+// one again, and of the last one.
+fn turns(store: &mut MemoryStore) -> Option<[bool; 6]> {
+    Some([
+        is_taken(store, "CCCC", 1)?,
+        is_taken(store, "AAAA", 2)?,
+        is_taken(store, "AAAA", 1)?,
+        store.broadcast(KEY).ok()??.is_acknowledged,
+        is_taken(store, "AAAA", 1)?,
+        is_taken(store, "BBBB", 1)?,
+    ])
+}
+
+fn are_turns_expected(alloc: Global) -> Option<bool> {
+    let mut store = store_with_broadcast(alloc)?;
+    Some(turns(&mut store)? == [false, false, true, true, false, false])
+}
+
 #[test]
-fn downloads_about_a_subject_are_read_in_order(rt: HostRuntime) {
-    assert_eq!(rt; first_wrong_order(rt.alloc()), None);
+fn commits_and_reads(rt: HostRuntime) {
+    let alloc = rt.alloc();
+    let taken = with_retry(are_turns_expected(alloc), are_turns_expected(alloc));
+    assert_eq!(rt; (first_wrong_row(alloc), taken), (None, Some(true)));
 }

@@ -1,10 +1,9 @@
 //! Tests that each row of a report, an export and an audit is flushed before the next is written,
 //! and that only flushed rows are counted.
-use crate::files::audits::register_with_pool;
-use crate::files::fixture::{MemoryRegister, register_with_carriers, register_with_port};
-use crate::files::io_faults::{HEADER, ROWS, is_rerun_reported, text_of};
-use bulk::{BulkFault, FaultKind, audit, export, run_file};
-use numbers::Spid;
+use crate::files::fixture::{
+    CASES, FileCase, MemoryRegister, is_written_again, prepared_register, write_file,
+};
+use bulk::{BulkFault, FaultKind};
 use std::alloc::Global;
 use std::io;
 use std::io::{ErrorKind, Write};
@@ -27,13 +26,6 @@ impl Write for FlushMarker {
         }
         self.flushes_left -= 1;
         self.text.write_all(b"|")
-    }
-}
-
-fn marker(alloc: Global, flushes: usize) -> FlushMarker {
-    FlushMarker {
-        text: Vec::new(alloc),
-        flushes_left: flushes,
     }
 }
 
@@ -62,82 +54,44 @@ fn result_after(lines: &[&str], flushes: usize) -> Result<u64, BulkFault> {
     }
 }
 
-fn is_marked(
-    alloc: Global,
-    writer: &FlushMarker,
-    actual: Result<u64, BulkFault>,
-    lines: &[&str],
-    flushes: usize,
-) -> Option<bool> {
-    let text = marked_text(alloc, lines, flushes)?;
-    let is_written = writer.text.as_slice() == text.as_bytes();
-    Some(is_written && actual == result_after(lines, flushes))
-}
-
-static REPORT: [&str; 4] = [
-    "row,subject,result,id\n",
-    "1,2025331234,ok,1\n",
-    "2,2025331234,busy,\n",
-    "3,2025331234,ok,1\n",
-];
-
-// Returns whether, besides, no command was executed after a line that was not flushed.
-fn is_report_flushed_in(
+// Returns whether a file is written like this by a writer that flushes so often. No command is
+// executed after a line that is not flushed.
+fn is_flushed_in(
     alloc: Global,
     register: &mut MemoryRegister,
+    case: &FileCase,
     flushes: usize,
 ) -> Option<bool> {
-    let file = text_of(alloc, HEADER, &ROWS)?;
-    let mut writer = marker(alloc, flushes);
-    let actual = run_file(alloc, register, file.as_bytes(), &mut writer);
-    let executed = flushes.min(ROWS.len());
-    let is_flushed = is_marked(alloc, &writer, actual, &REPORT, flushes)?;
-    Some(is_flushed && is_rerun_reported(alloc, register, file.as_bytes(), executed)?)
+    let expected = marked_text(alloc, case.lines, flushes)?;
+    let mut writer = FlushMarker {
+        text: Vec::new(alloc),
+        flushes_left: flushes,
+    };
+    let written = write_file(
+        alloc,
+        register,
+        case.task,
+        case.file.as_bytes(),
+        &mut writer,
+    );
+    let is_written = writer.text.as_slice() == expected.as_bytes();
+    let is_counted = written == result_after(case.lines, flushes);
+    let executed = flushes.min(case.lines.len().saturating_sub(1));
+    Some(is_written && is_counted && is_written_again(alloc, register, case, executed)?)
 }
 
-fn is_report_flushed(alloc: Global, flushes: usize) -> Option<bool> {
-    let mut register = register_with_carriers(alloc)?;
-    is_report_flushed_in(alloc, &mut register, flushes)
+fn is_flushed(alloc: Global, case: &FileCase, flushes: usize) -> Option<bool> {
+    let mut register = prepared_register(alloc, case.preparation)?;
+    is_flushed_in(alloc, &mut register, case, flushes)
 }
 
-static EXPORT: [&str; 4] = [
-    "subject,lrn,cic\n",
-    "2025337,2025550000,\n",
-    "2025337001,2025330000,\n",
-    "2025337002,2025330000,\n",
-];
-
-fn is_export_flushed(alloc: Global, flushes: usize) -> Option<bool> {
-    let mut register = register_with_pool(alloc)?;
-    let mut writer = marker(alloc, flushes);
-    let actual = export(alloc, &mut register, &mut writer);
-    is_marked(alloc, &writer, actual, &EXPORT, flushes)
-}
-
-const COPY: &str = "subject,lrn,cic\n2025331234,2025550000,\n2025339999,2025330000,\n";
-
-static FINDINGS: [&str; 3] = [
-    "subject,finding\n",
-    "2025331234,different\n",
-    "2025339999,extra\n",
-];
-
-fn is_audit_flushed(alloc: Global, flushes: usize) -> Option<bool> {
-    let carrier = Spid::read("AAAA")?;
-    let mut register = register_with_port(alloc)?;
-    let mut writer = marker(alloc, flushes);
-    let actual = audit(alloc, &mut register, carrier, COPY.as_bytes(), &mut writer);
-    is_marked(alloc, &writer, actual, &FINDINGS, flushes)
-}
-
-// Returns the first number of flushes with another report, export or audit.
-fn first_wrong_flush(alloc: Global) -> Option<usize> {
-    for flushes in 0..=4 {
-        let is_report = is_report_flushed(alloc, flushes) == Some(true);
-        let is_export = is_export_flushed(alloc, flushes) == Some(true);
-        let is_audit = is_audit_flushed(alloc, flushes) == Some(true);
-        if !is_report || !is_export || !is_audit {
-            return Some(flushes);
+// Returns the first file, and number of flushes, that is written differently.
+fn first_wrong_flush(alloc: Global) -> Option<(usize, usize)> {
+    for (place, case) in CASES.iter().enumerate() {
+        for flushes in 0..=4 {
+            if is_flushed(alloc, case, flushes) != Some(true) {
+                return Some((place, flushes));
+            }
         }
     }
     None

@@ -4,17 +4,12 @@
 //! A run that meets the failure reports `Storage`: its lines are whole, their commands were
 //! executed and no others. Over the mended store, the rest of the file is answered as if nothing
 //! had failed. An export or an audit that meets it writes nothing, and the next is whole.
-use crate::files::actions::{
-    CREATES, FIRST_REPORT, MODIFIES, MODIFIES_REPORT, PORTS, PORTS_REPORT, RETURNS, RETURNS_REPORT,
-};
-use crate::files::audits::{POOL_EXPORT, ROWS as AUDITS, register_with_pool};
-use crate::files::bulk_files::{RANGES, RANGES_REPORT, ROWS as FILES};
 use crate::files::fixture::{
-    MemoryRegister, acknowledge_all, is_run_in, register_with_carriers, register_with_port,
+    HEADER, MODIFIES, MODIFIES_REPORT, MemoryRegister, PORTS, PORTS_REPORT, Preparation,
+    REPORT_HEADER, Task, prepared_register, write_file,
 };
 use crate::fixture::open_register;
-use bulk::{BulkFault, FaultKind, audit, export, run_file};
-use numbers::Spid;
+use bulk::{BulkFault, FaultKind};
 use register::Register;
 use settle::Store;
 use std::alloc::Global;
@@ -23,64 +18,370 @@ use store::{Failing, Flaky, MemoryStore};
 /// A register over a store that fails at one call, or from then on.
 type FlakyRegister = Register<Flaky<MemoryStore>>;
 
-fn storage_after(rows: u64) -> Result<u64, BulkFault> {
-    Err(BulkFault {
-        kind: FaultKind::Storage,
-        rows,
-    })
-}
-
-// What a register has before a file.
+// A register, what is done with a file, what is written, and the result.
 #[derive(Clone, Copy)]
-enum Preparation {
-    // Three carriers.
-    Carriers,
-    // The ports of the actions, and their acknowledgements.
-    Ports,
-    // Besides, the modifies, and their acknowledgements.
-    Modifies,
-    // A number in force.
-    Port,
-    // A block with two numbers in force.
-    Pool,
+struct Case {
+    preparation: Preparation,
+    task: Task,
+    file: &'static str,
+    text: &'static str,
+    result: Result<u64, BulkFault>,
+    // The rest of the file after each number of executed commands, with its report; empty if each
+    // row has one line.
+    rests: &'static [(&'static str, &'static str)],
 }
 
-fn add_ports(alloc: Global, register: &mut MemoryRegister) -> Option<()> {
-    if !is_run_in(alloc, register, PORTS.as_bytes(), PORTS_REPORT, Ok(22)) {
-        return None;
-    }
-    acknowledge_all(register, 3, 1)
-}
+// ---- files of commands
 
-fn add_modifies(alloc: Global, register: &mut MemoryRegister) -> Option<()> {
-    add_ports(alloc, register)?;
-    if !is_run_in(alloc, register, MODIFIES.as_bytes(), MODIFIES_REPORT, Ok(5)) {
-        return None;
-    }
-    acknowledge_all(register, 3, 2)
-}
+// The third number is in force, and another port of it is open. A disconnect takes the version in
+// force; a cancel takes the open one, or the one in force if no other is open.
+const RETURNS: &str =
+    "caller,action,subject,old,new,due,lrn,cic,flag\nCCCC,subscriptionVersionNewSP-Create,2025331003,AAAA,CCCC,0,2025550000,,\nAAAA,subscriptionVersionDisconnect,2025331003,,,,,,\nCCCC,subscriptionVersionCancel,2025331003,,,,,,\nAAAA,subscriptionVersionCancel,2025331003,,,,,,\nAAAA,subscriptionVersionDisconnect,2025331003,,,,,,\nAAAA,subscriptionVersionDisconnect,2025331003,,,,,,\n";
 
-fn prepared_register(alloc: Global, preparation: Preparation) -> Option<MemoryRegister> {
-    match preparation {
-        Preparation::Port => register_with_port(alloc),
-        Preparation::Pool => register_with_pool(alloc),
-        Preparation::Carriers => register_with_carriers(alloc),
-        Preparation::Ports => {
-            let mut register = register_with_carriers(alloc)?;
-            match add_ports(alloc, &mut register) {
-                Some(()) => Some(register),
-                None => None,
-            }
-        }
-        Preparation::Modifies => {
-            let mut register = register_with_carriers(alloc)?;
-            match add_modifies(alloc, &mut register) {
-                Some(()) => Some(register),
-                None => None,
-            }
-        }
-    }
-}
+// The report of those returns.
+const RETURNS_REPORT: &str =
+    "row,subject,result,id\n1,2025331003,ok,4\n2,2025331003,busy,\n3,2025331003,ok,4\n4,2025331003,wrong_status,\n5,2025331003,ok,3\n6,2025331003,wrong_status,\n";
+
+// Two commands on two numbers each.
+const RANGES: &str =
+    "caller,action,subject,old,new,due,lrn,cic,flag\nAAAA,subscriptionVersionNewSP-Create,2025331234-2025331235,BBBB,AAAA,100,2025440000,0288,\nAAAA,subscriptionVersionCancel,2025331234-2025331235,,,,,,\n";
+
+// The report of those ranges.
+const RANGES_REPORT: &str =
+    "row,subject,result,id\n1,2025331234,ok,1\n1,2025331235,ok,2\n2,2025331234,ok,1\n2,2025331235,ok,2\n";
+
+// Three creates of one number, the second for another new provider; and ranges.
+static COMMANDS: [Case; 4] = [
+    Case {
+        preparation: Preparation::Carriers,
+        task: Task::Run,
+        file: "caller,action,subject,old,new,due,lrn,cic,flag\nAAAA,subscriptionVersionNewSP-Create,2025331234,BBBB,AAAA,100,2025440000,,\nCCCC,subscriptionVersionNewSP-Create,2025331234,BBBB,CCCC,100,2025550000,,\nBBBB,subscriptionVersionOldSP-Create,2025331234,BBBB,AAAA,100,,,yes\n",
+        text: "row,subject,result,id\n1,2025331234,ok,1\n2,2025331234,busy,\n3,2025331234,ok,1\n",
+        result: Ok(3),
+        rests: &[],
+    },
+    Case {
+        preparation: Preparation::Ports,
+        task: Task::Run,
+        file: MODIFIES,
+        text: MODIFIES_REPORT,
+        result: Ok(5),
+        rests: &[],
+    },
+    Case {
+        preparation: Preparation::Modifies,
+        task: Task::Run,
+        file: RETURNS,
+        text: RETURNS_REPORT,
+        result: Ok(6),
+        rests: &[],
+    },
+    Case {
+        preparation: Preparation::Carriers,
+        task: Task::Run,
+        file: RANGES,
+        text: RANGES_REPORT,
+        result: Ok(4),
+        rests: &[
+            (RANGES, RANGES_REPORT),
+            (
+                "caller,action,subject,old,new,due,lrn,cic,flag\nAAAA,subscriptionVersionNewSP-Create,2025331235,BBBB,AAAA,100,2025440000,0288,\nAAAA,subscriptionVersionCancel,2025331234-2025331235,,,,,,\n",
+                "row,subject,result,id\n1,2025331235,ok,2\n2,2025331234,ok,1\n2,2025331235,ok,2\n",
+            ),
+            (
+                "caller,action,subject,old,new,due,lrn,cic,flag\nAAAA,subscriptionVersionCancel,2025331234-2025331235,,,,,,\n",
+                "row,subject,result,id\n1,2025331234,ok,1\n1,2025331235,ok,2\n",
+            ),
+            (
+                "caller,action,subject,old,new,due,lrn,cic,flag\nAAAA,subscriptionVersionCancel,2025331235,,,,,,\n",
+                "row,subject,result,id\n1,2025331235,ok,2\n",
+            ),
+        ],
+    },
+];
+
+static PORTS_RUN: Case = Case {
+    preparation: Preparation::Carriers,
+    task: Task::Run,
+    file: PORTS,
+    text: PORTS_REPORT,
+    result: Ok(22),
+    rests: &[],
+};
+
+// Files with bad rows, of which some make no call.
+static BAD_ROWS: [Case; 8] = [
+    Case {
+        preparation: Preparation::Carriers,
+        task: Task::Run,
+        file: "caller,action,subject,old,new,due,lrn,cic,flag\n",
+        text: "row,subject,result,id\n",
+        result: Ok(0),
+        rests: &[],
+    },
+    Case {
+        preparation: Preparation::Carriers,
+        task: Task::Run,
+        file: "\u{feff}caller,action,subject,old,new,due,lrn,cic,flag\r\nAAAA,subscriptionVersionActivate,2025331234,,,,,,\r\n",
+        text: "row,subject,result,id\n1,2025331234,not_found,\n",
+        result: Ok(1),
+        rests: &[],
+    },
+    Case {
+        preparation: Preparation::Carriers,
+        task: Task::Run,
+        file: "caller,action,subject,old,new,due,lrn,cic,flag\nAAAA,subscriptionVersionCancel,2025331234-2025331233,,,,,,\nAAAA,subscriptionVersionCancel,2025331000-2025332000,,,,,,\nAAAA,subscriptionVersionCancel,2025339999-2025340000,,,,,,\n",
+        text: "row,subject,result,id\n1,,bad_row,\n2,,bad_row,\n3,,bad_row,\n",
+        result: Ok(3),
+        rests: &[],
+    },
+    Case {
+        preparation: Preparation::Carriers,
+        task: Task::Run,
+        file: "caller,action,subject,old,new,due,lrn,cic,flag\nAA\"AA,subscriptionVersionCancel,2025331234,,,,,,\nDDDD,subscriptionVersionCancel,2025331234,,,,,,\n",
+        text: "row,subject,result,id\n1,,bad_row,\n2,2025331234,unknown_carrier,\n",
+        result: Ok(2),
+        rests: &[],
+    },
+    Case {
+        preparation: Preparation::Carriers,
+        task: Task::Run,
+        file: "caller,action,subject,old,new,due,lrn,cic,flag\n\"AAAA,subscriptionVersionCancel,2025331234,,,,,,\nDDDD,subscriptionVersionCancel,2025331234,,,,,,\n",
+        text: "row,subject,result,id\n1,,bad_row,\n",
+        result: Ok(1),
+        rests: &[],
+    },
+    Case {
+        preparation: Preparation::Carriers,
+        task: Task::Run,
+        file: "caller,action,subject,old,new,due,lrn,cic,flag\nAAAA,subscriptionVersionCancel,2025331234,,,,,\n\nNPAC,subscriptionVersionCancel,2025331234,,,,,,\n",
+        text: "row,subject,result,id\n1,,bad_row,\n2,2025331234,unknown_carrier,\n",
+        result: Ok(2),
+        rests: &[],
+    },
+    Case {
+        preparation: Preparation::Carriers,
+        task: Task::Run,
+        file: "caller,action,subject,old,new,due,lrn,cic,flag\nAAAA,subscriptionVersionActivate,2025331234,,,5,,,\nAAAA,subscriptionVersionDisconnect,2025331234,,,5,,,\nBBBB,subscriptionVersionOldSP-Create,2025331234,BBBB,AAAA,0,,,maybe\n",
+        text: "row,subject,result,id\n1,,bad_row,\n2,2025331234,not_found,\n3,,bad_row,\n",
+        result: Ok(3),
+        rests: &[],
+    },
+    Case {
+        preparation: Preparation::Carriers,
+        task: Task::Run,
+        file: "caller,action,subject,old,new,due,lrn,cic,flag\nBBBB,subscriptionVersionOldSP-Create,2025331234,BBBB,AAAA,0,,,no\nBBBB,subscriptionVersionOldSP-Create,2025331234,BBBB,AAAA,0,,,yes\nBBBB,subscriptionVersionModify,2025331234,,,,,,\n",
+        text: "row,subject,result,id\n1,2025331234,too_late,\n2,2025331234,ok,1\n3,,bad_row,\n",
+        result: Ok(3),
+        rests: &[],
+    },
+];
+
+// ---- exports and audits
+
+const UNKNOWN_CARRIER: Result<u64, BulkFault> = Err(BulkFault {
+    kind: FaultKind::UnknownCarrier,
+    rows: 0,
+});
+
+const BAD_HEADER: Result<u64, BulkFault> = Err(BulkFault {
+    kind: FaultKind::BadHeader,
+    rows: 0,
+});
+
+const BAD_FILE: Result<u64, BulkFault> = Err(BulkFault {
+    kind: FaultKind::BadFile,
+    rows: 0,
+});
+
+// Exports, and audits of a number that is in force at 2025440000, whose download is pending for
+// CCCC.
+static WRITINGS: [Case; 23] = [
+    Case {
+        preparation: Preparation::Carriers,
+        task: Task::Export,
+        file: "",
+        text: "subject,lrn,cic\n",
+        result: Ok(0),
+        rests: &[],
+    },
+    Case {
+        preparation: Preparation::Port,
+        task: Task::Export,
+        file: "",
+        text: "subject,lrn,cic\n2025331234,2025440000,\n",
+        result: Ok(1),
+        rests: &[],
+    },
+    Case {
+        preparation: Preparation::Pool,
+        task: Task::Export,
+        file: "",
+        text: "subject,lrn,cic\n2025337,2025550000,\n2025337001,2025330000,\n2025337002,2025330000,\n",
+        result: Ok(3),
+        rests: &[],
+    },
+    Case {
+        preparation: Preparation::Port,
+        task: Task::Audit("AAAA"),
+        file: "subject,lrn,cic\n2025331234,2025550000,\n2025339999,2025330000,\n",
+        text: "subject,finding\n2025331234,different\n2025339999,extra\n",
+        result: Ok(2),
+        rests: &[],
+    },
+    Case {
+        preparation: Preparation::Port,
+        task: Task::Audit("AAAA"),
+        file: "subject,lrn,cic\n2025339999,2025330000,\n2025331234,2025550000,\n",
+        text: "subject,finding\n2025331234,different\n2025339999,extra\n",
+        result: Ok(2),
+        rests: &[],
+    },
+    Case {
+        preparation: Preparation::Port,
+        task: Task::Audit("AAAA"),
+        file: "\u{feff}subject,lrn,cic\r\n2025331234,2025440000,\r\n",
+        text: "subject,finding\n",
+        result: Ok(0),
+        rests: &[],
+    },
+    Case {
+        preparation: Preparation::Port,
+        task: Task::Audit("AAAA"),
+        file: "subject,lrn,cic\n2025331234,2025440000,0288\n",
+        text: "subject,finding\n2025331234,different\n",
+        result: Ok(1),
+        rests: &[],
+    },
+    Case {
+        preparation: Preparation::Port,
+        task: Task::Audit("AAAA"),
+        file: "subject,lrn,cic\n",
+        text: "subject,finding\n2025331234,missing\n",
+        result: Ok(1),
+        rests: &[],
+    },
+    Case {
+        preparation: Preparation::Port,
+        task: Task::Audit("AAAA"),
+        file: "subject,lrn,cic\n2025331,2025440000,\n",
+        text: "subject,finding\n2025331,extra\n2025331234,missing\n",
+        result: Ok(2),
+        rests: &[],
+    },
+    Case {
+        preparation: Preparation::Port,
+        task: Task::Audit("CCCC"),
+        file: "subject,lrn,cic\n",
+        text: "subject,finding\n2025331234,waiting\n",
+        result: Ok(1),
+        rests: &[],
+    },
+    Case {
+        preparation: Preparation::Port,
+        task: Task::Audit("CCCC"),
+        file: "subject,lrn,cic\n2025331234,2025550000,\n2025331233,2025330000,\n",
+        text: "subject,finding\n2025331233,extra\n2025331234,waiting\n",
+        result: Ok(2),
+        rests: &[],
+    },
+    Case {
+        preparation: Preparation::Port,
+        task: Task::Audit("CCCC"),
+        file: "subject,lrn,cic\n2025331234,2025440000,\n",
+        text: "subject,finding\n2025331234,waiting\n",
+        result: Ok(1),
+        rests: &[],
+    },
+    Case {
+        preparation: Preparation::Port,
+        task: Task::Audit("DDDD"),
+        file: "subject,lrn,cic\n",
+        text: "",
+        result: UNKNOWN_CARRIER,
+        rests: &[],
+    },
+    Case {
+        preparation: Preparation::Port,
+        task: Task::Audit("NPAC"),
+        file: "",
+        text: "",
+        result: UNKNOWN_CARRIER,
+        rests: &[],
+    },
+    Case {
+        preparation: Preparation::Port,
+        task: Task::Audit("AAAA"),
+        file: "",
+        text: "",
+        result: BAD_HEADER,
+        rests: &[],
+    },
+    Case {
+        preparation: Preparation::Port,
+        task: Task::Audit("AAAA"),
+        file: "subject,lrn\n",
+        text: "",
+        result: BAD_HEADER,
+        rests: &[],
+    },
+    Case {
+        preparation: Preparation::Port,
+        task: Task::Audit("AAAA"),
+        file: "subject,lrn,cic\n2025331234,2025440000\n",
+        text: "",
+        result: BAD_FILE,
+        rests: &[],
+    },
+    Case {
+        preparation: Preparation::Port,
+        task: Task::Audit("AAAA"),
+        file: "subject,lrn,cic\n2025331234,2025440000,,\n",
+        text: "",
+        result: BAD_FILE,
+        rests: &[],
+    },
+    Case {
+        preparation: Preparation::Port,
+        task: Task::Audit("AAAA"),
+        file: "subject,lrn,cic\n202533123,2025440000,\n",
+        text: "",
+        result: BAD_FILE,
+        rests: &[],
+    },
+    Case {
+        preparation: Preparation::Port,
+        task: Task::Audit("AAAA"),
+        file: "subject,lrn,cic\n2025331234,202544000,\n",
+        text: "",
+        result: BAD_FILE,
+        rests: &[],
+    },
+    Case {
+        preparation: Preparation::Port,
+        task: Task::Audit("AAAA"),
+        file: "subject,lrn,cic\n2025331234,2025440000,288\n",
+        text: "",
+        result: BAD_FILE,
+        rests: &[],
+    },
+    Case {
+        preparation: Preparation::Port,
+        task: Task::Audit("AAAA"),
+        file: "subject,lrn,cic\n2025331234,2025440000,\n2025339999,2025330000,\n2025331234,2025440000,\n",
+        text: "",
+        result: BAD_FILE,
+        rests: &[],
+    },
+    Case {
+        preparation: Preparation::Port,
+        task: Task::Audit("AAAA"),
+        file: "subject,lrn,cic\n2025331234-2025331235,2025440000,\n",
+        text: "",
+        result: BAD_FILE,
+        rests: &[],
+    },
+];
 
 // Opens the prepared store again, with a call that fails. The first call opens the register.
 fn flaky_register(
@@ -95,23 +396,6 @@ fn flaky_register(
 
 fn mended_register(alloc: Global, register: FlakyRegister) -> Option<MemoryRegister> {
     open_register(alloc, register.close().into_store())
-}
-
-// ---- files of commands
-
-const HEADER: &str = "caller,action,subject,old,new,due,lrn,cic,flag\n";
-
-const REPORT_HEADER: &str = "row,subject,result,id\n";
-
-// A file, and its report.
-#[derive(Drop)]
-struct CommandFile<'a> {
-    preparation: Preparation,
-    file: &'a str,
-    report: &'a str,
-    // The rest of the file after each number of executed commands, with its report; empty if each
-    // row has one line.
-    rests: &'a [(&'a str, &'a str)],
 }
 
 // Returns the end of the first `count` lines.
@@ -150,6 +434,43 @@ fn rest_of_report(alloc: Global, report: &str, executed: usize) -> Option<String
     Some(rest)
 }
 
+// Does what is to be done with a file. Returns how many lines were written after the header if the
+// device failed; an export or an audit has then written nothing.
+fn lines_until_failure<S: Store>(
+    alloc: Global,
+    register: &mut Register<S>,
+    case: &Case,
+) -> Option<Option<usize>> {
+    let mut output = Vec::new(alloc);
+    let written = write_file(
+        alloc,
+        register,
+        case.task,
+        case.file.as_bytes(),
+        &mut output,
+    );
+    if written == case.result && output.as_slice() == case.text.as_bytes() {
+        return Some(None);
+    }
+    let BulkFault {
+        kind: FaultKind::Storage,
+        rows,
+    } = written.err()?
+    else {
+        return None;
+    };
+    let executed = rows as usize;
+    let end = match case.task {
+        Task::Run => end_of_lines(case.text, executed.saturating_add(1)),
+        Task::Export | Task::Audit(_) => 0,
+    };
+    if output.as_slice() == case.text.as_bytes().get(..end)? && (end > 0 || executed == 0) {
+        Some(Some(executed))
+    } else {
+        None
+    }
+}
+
 // Returns whether a file is run with this report, a line for each command.
 fn is_whole_run<S: Store>(
     alloc: Global,
@@ -157,287 +478,71 @@ fn is_whole_run<S: Store>(
     file: &str,
     report: &str,
 ) -> bool {
+    let mut output = Vec::new(alloc);
     let count = report.lines().count().saturating_sub(1) as u64;
-    is_run_in(alloc, register, file.as_bytes(), report, Ok(count))
+    let written = write_file(alloc, register, Task::Run, file.as_bytes(), &mut output);
+    written == Ok(count) && output.as_slice() == report.as_bytes()
 }
 
-// Returns whether the rest of a file is run as if nothing had failed.
-fn is_rest_run<S: Store>(
+// Returns whether the rest of a file is written as if nothing had failed: all of an export or an
+// audit.
+fn is_rest_written<S: Store>(
     alloc: Global,
     register: &mut Register<S>,
-    commands: &CommandFile<'_>,
+    case: &Case,
     executed: usize,
 ) -> Option<bool> {
-    if let Some((file, report)) = commands.rests.get(executed) {
+    match case.task {
+        Task::Run => {}
+        Task::Export | Task::Audit(_) => {
+            return Some(lines_until_failure(alloc, register, case) == Some(None));
+        }
+    }
+    if let Some((file, report)) = case.rests.get(executed) {
         return Some(is_whole_run(alloc, register, file, report));
     }
-    let file = rest_of_file(alloc, commands.file, executed)?;
-    let report = rest_of_report(alloc, commands.report, executed)?;
+    let file = rest_of_file(alloc, case.file, executed)?;
+    let report = rest_of_report(alloc, case.text, executed)?;
     Some(is_whole_run(alloc, register, file.as_str(), report.as_str()))
 }
 
-// Returns whether the rest is run over the mended store. Before, a store that still fails must do so
-// again.
-fn is_rest_run_mended(
+// Returns whether the rest is written over the mended store. Before, a store that still fails must
+// do so again.
+fn is_rest_written_mended(
     alloc: Global,
     mut register: FlakyRegister,
     failing: Failing,
-    commands: &CommandFile<'_>,
+    case: &Case,
     executed: usize,
 ) -> Option<bool> {
     if failing == Failing::Once {
-        return is_rest_run(alloc, &mut register, commands, executed);
+        return is_rest_written(alloc, &mut register, case, executed);
     }
-    let fails_again = run_to_failure(alloc, &mut register, commands).flatten();
+    let fails_again = lines_until_failure(alloc, &mut register, case).flatten();
     let mut mended = mended_register(alloc, register)?;
-    let is_run = is_rest_run(alloc, &mut mended, commands, executed);
-    is_run.map(|is_run| is_run && fails_again.is_some())
+    let is_written = is_rest_written(alloc, &mut mended, case, executed);
+    is_written.map(|is_written| is_written && fails_again.is_some())
 }
 
-// Runs a file over a store with a call that may fail. Returns how many commands were executed if it
-// failed.
-fn run_to_failure(
-    alloc: Global,
-    register: &mut FlakyRegister,
-    commands: &CommandFile<'_>,
-) -> Option<Option<usize>> {
-    let mut output = Vec::new(alloc);
-    match run_file(alloc, register, commands.file.as_bytes(), &mut output) {
-        Ok(_) if output.as_slice() == commands.report.as_bytes() => Some(None),
-        Err(
-            BulkFault {
-                kind: FaultKind::Storage,
-                rows,
-            },
-        ) => {
-            let executed = rows as usize;
-            let end = end_of_lines(commands.report, executed.saturating_add(1));
-            let is_prefix = output.as_slice() == commands.report.as_bytes().get(..end)?;
-            if is_prefix {
-                Some(Some(executed))
-            } else {
-                None
-            }
-        }
-        _ => None,
-    }
-}
-
-// Returns whether the call number `before` + 1 failed, and the rest was run over the mended store.
-fn is_failure_reported(
-    alloc: Global,
-    commands: &CommandFile<'_>,
-    before: u64,
-    failing: Failing,
-) -> Option<bool> {
-    let mut register = flaky_register(alloc, commands.preparation, before, failing)?;
-    match run_to_failure(alloc, &mut register, commands) {
+// Returns whether the call number `before` + 1 failed, and the rest was written over the mended
+// store.
+fn is_failure_reported(alloc: Global, case: &Case, before: u64, failing: Failing) -> Option<bool> {
+    let mut register = flaky_register(alloc, case.preparation, before, failing)?;
+    match lines_until_failure(alloc, &mut register, case) {
         None => None,
         Some(None) => Some(false),
         Some(Some(executed)) => {
-            let is_run = is_rest_run_mended(alloc, register, failing, commands, executed);
-            is_run.filter(|is_run| *is_run)
-        }
-    }
-}
-
-// Returns how many calls failed, each in a run of its own.
-fn count_failures(alloc: Global, commands: &CommandFile<'_>, failing: Failing) -> Option<u64> {
-    let mut failures = 0u64;
-    for before in 1..u64::MAX {
-        if !is_failure_reported(alloc, commands, before, failing)? {
-            return Some(failures);
-        }
-        failures = failures.saturating_add(1);
-    }
-    None
-}
-
-static COMMANDS: [CommandFile<'static>; 4] = [
-    CommandFile {
-        preparation: Preparation::Carriers,
-        file: CREATES,
-        report: FIRST_REPORT,
-        rests: &[],
-    },
-    CommandFile {
-        preparation: Preparation::Ports,
-        file: MODIFIES,
-        report: MODIFIES_REPORT,
-        rests: &[],
-    },
-    CommandFile {
-        preparation: Preparation::Modifies,
-        file: RETURNS,
-        report: RETURNS_REPORT,
-        rests: &[],
-    },
-    CommandFile {
-        preparation: Preparation::Carriers,
-        file: RANGES,
-        report: RANGES_REPORT,
-        rests: &[
-            (RANGES, RANGES_REPORT),
-            (
-                "caller,action,subject,old,new,due,lrn,cic,flag\nAAAA,subscriptionVersionNewSP-Create,2025331235,BBBB,AAAA,100,2025440000,0288,\nAAAA,subscriptionVersionCancel,2025331234-2025331235,,,,,,\n",
-                "row,subject,result,id\n1,2025331235,ok,2\n2,2025331234,ok,1\n2,2025331235,ok,2\n",
-            ),
-            (
-                "caller,action,subject,old,new,due,lrn,cic,flag\nAAAA,subscriptionVersionCancel,2025331234-2025331235,,,,,,\n",
-                "row,subject,result,id\n1,2025331234,ok,1\n1,2025331235,ok,2\n",
-            ),
-            (
-                "caller,action,subject,old,new,due,lrn,cic,flag\nAAAA,subscriptionVersionCancel,2025331235,,,,,,\n",
-                "row,subject,result,id\n1,2025331235,ok,2\n",
-            ),
-        ],
-    },
-];
-
-// Returns how many calls failed, as many once as from then on.
-fn count_either(alloc: Global, commands: &CommandFile<'_>) -> Option<u64> {
-    let once = count_failures(alloc, commands, Failing::Once)?;
-    let always = count_failures(alloc, commands, Failing::Always)?;
-    if once == always { Some(once) } else { None }
-}
-
-// Returns the first file with another report, or that meets no failure.
-fn first_wrong_file(alloc: Global) -> Option<usize> {
-    COMMANDS
-        .iter()
-        .position(|commands| count_either(alloc, commands).unwrap_or(0) == 0)
-}
-
-#[test]
-fn a_run_may_fail_at_each_call(rt: HostRuntime) {
-    assert_eq!(rt; first_wrong_file(rt.alloc()), None);
-}
-
-static PORTS_FILE: CommandFile<'static> = CommandFile {
-    preparation: Preparation::Carriers,
-    file: PORTS,
-    report: PORTS_REPORT,
-    rests: &[],
-};
-
-#[test]
-fn the_ports_may_fail_once_at_each_call(rt: HostRuntime) {
-    let failures = count_failures(rt.alloc(), &PORTS_FILE, Failing::Once);
-    assert!(rt; failures.unwrap_or(0) > 0);
-}
-
-#[test]
-fn the_ports_may_fail_from_each_call_on(rt: HostRuntime) {
-    let failures = count_failures(rt.alloc(), &PORTS_FILE, Failing::Always);
-    assert!(rt; failures.unwrap_or(0) > 0);
-}
-
-// Returns the first file with bad rows and another report. Those without commands meet no failure.
-fn first_wrong_bad_file(alloc: Global) -> Option<usize> {
-    for (place, (file, report, run_result)) in FILES.iter().enumerate() {
-        let commands = CommandFile {
-            preparation: Preparation::Carriers,
-            file,
-            report,
-            rests: &[],
-        };
-        if run_result.is_ok() && *file != RANGES && count_either(alloc, &commands).is_none() {
-            return Some(place);
-        }
-    }
-    None
-}
-
-#[test]
-fn a_run_with_bad_rows_may_fail_at_each_call(rt: HostRuntime) {
-    assert_eq!(rt; first_wrong_bad_file(rt.alloc()), None);
-}
-
-// ---- exports and audits
-
-// An export, or the audit of a copy, with its text and result.
-#[derive(Drop)]
-struct Writing<'a> {
-    preparation: Preparation,
-    // A carrier and its copy; none for an export.
-    copy: Option<(&'a str, &'a str)>,
-    text: &'a str,
-    run_result: Result<u64, BulkFault>,
-}
-
-fn write_to<S: Store>(
-    alloc: Global,
-    register: &mut Register<S>,
-    writing: &Writing<'_>,
-    output: &mut Vec<u8>,
-) -> Option<Result<u64, BulkFault>> {
-    match writing.copy {
-        None => Some(export(alloc, register, output)),
-        Some((name, copy)) => {
-            let carrier = Spid::read(name)?;
-            Some(audit(alloc, register, carrier, copy.as_bytes(), output))
-        }
-    }
-}
-
-// Returns whether this is written as if nothing had failed; `Some(false)` if the device failed and
-// nothing was written.
-fn is_written<S: Store>(
-    alloc: Global,
-    register: &mut Register<S>,
-    writing: &Writing<'_>,
-) -> Option<bool> {
-    let mut output = Vec::new(alloc);
-    let run_result = write_to(alloc, register, writing, &mut output)?;
-    if run_result == writing.run_result && output.as_slice() == writing.text.as_bytes() {
-        Some(true)
-    } else if run_result == storage_after(0) && output.is_empty() {
-        Some(false)
-    } else {
-        None
-    }
-}
-
-// Returns whether it is written over the mended store. Before, a store that still fails must do so
-// again.
-fn is_written_mended(
-    alloc: Global,
-    mut register: FlakyRegister,
-    failing: Failing,
-    writing: &Writing<'_>,
-) -> Option<bool> {
-    if failing == Failing::Once {
-        return is_written(alloc, &mut register, writing);
-    }
-    let fails_again = is_written(alloc, &mut register, writing) == Some(false);
-    let mut mended = mended_register(alloc, register)?;
-    let is_whole = is_written(alloc, &mut mended, writing);
-    is_whole.map(|is_whole| is_whole && fails_again)
-}
-
-// Returns whether the call number `before` + 1 failed, and all is written over the mended store.
-fn is_writing_failed(
-    alloc: Global,
-    writing: &Writing<'_>,
-    before: u64,
-    failing: Failing,
-) -> Option<bool> {
-    let mut register = flaky_register(alloc, writing.preparation, before, failing)?;
-    match is_written(alloc, &mut register, writing) {
-        None => None,
-        Some(true) => Some(false),
-        Some(false) => {
-            let is_written = is_written_mended(alloc, register, failing, writing);
+            let is_written = is_rest_written_mended(alloc, register, failing, case, executed);
             is_written.filter(|is_written| *is_written)
         }
     }
 }
 
-// Returns how many calls failed, each in an export or an audit of its own.
-fn count_failed_calls(alloc: Global, writing: &Writing<'_>, failing: Failing) -> Option<u64> {
+// Returns how many calls failed, each in a run of its own.
+fn count_failures(alloc: Global, case: &Case, failing: Failing) -> Option<u64> {
     let mut failures = 0u64;
     for before in 1..u64::MAX {
-        if !is_writing_failed(alloc, writing, before, failing)? {
+        if !is_failure_reported(alloc, case, before, failing)? {
             return Some(failures);
         }
         failures = failures.saturating_add(1);
@@ -445,59 +550,43 @@ fn count_failed_calls(alloc: Global, writing: &Writing<'_>, failing: Failing) ->
     None
 }
 
-fn is_right_at_each_call(alloc: Global, writing: &Writing<'_>) -> bool {
-    let once = count_failed_calls(alloc, writing, Failing::Once).unwrap_or(0);
-    let always = count_failed_calls(alloc, writing, Failing::Always).unwrap_or(0);
-    once > 0 && always == once
-}
-
-static EXPORTS: [Writing<'static>; 3] = [
-    Writing {
-        preparation: Preparation::Carriers,
-        copy: None,
-        text: "subject,lrn,cic\n",
-        run_result: Ok(0),
-    },
-    Writing {
-        preparation: Preparation::Port,
-        copy: None,
-        text: "subject,lrn,cic\n2025331234,2025440000,\n",
-        run_result: Ok(1),
-    },
-    Writing {
-        preparation: Preparation::Pool,
-        copy: None,
-        text: POOL_EXPORT,
-        run_result: Ok(3),
-    },
-];
-
-#[test]
-fn an_export_may_fail_at_each_call(rt: HostRuntime) {
-    let alloc = rt.alloc();
-    let wrong = EXPORTS
-        .iter()
-        .position(|writing| !is_right_at_each_call(alloc, writing));
-    assert_eq!(rt; wrong, None);
-}
-
-// Returns the first copy whose audit is wrong.
-fn first_wrong_audit(alloc: Global) -> Option<usize> {
-    for (place, (name, copy, text, run_result)) in AUDITS.iter().enumerate() {
-        let writing = Writing {
-            preparation: Preparation::Port,
-            copy: Some((name, copy)),
-            text,
-            run_result: *run_result,
-        };
-        if !is_right_at_each_call(alloc, &writing) {
-            return Some(place);
+// Returns the first case that is written differently, or with fewer failing calls than `least`.
+// As many must fail once as from then on.
+fn first_wrong_case(alloc: Global, cases: &[Case], least: u64) -> Option<usize> {
+    for (place, case) in cases.iter().enumerate() {
+        let once = count_failures(alloc, case, Failing::Once);
+        let always = count_failures(alloc, case, Failing::Always);
+        match (once, always) {
+            (Some(once), Some(always)) if once == always && once >= least => {}
+            _ => return Some(place),
         }
     }
     None
 }
 
 #[test]
-fn an_audit_may_fail_at_each_call(rt: HostRuntime) {
-    assert_eq!(rt; first_wrong_audit(rt.alloc()), None);
+fn a_run_may_fail_at_each_call(rt: HostRuntime) {
+    assert_eq!(rt; first_wrong_case(rt.alloc(), &COMMANDS, 1), None);
+}
+
+#[test]
+fn the_ports_may_fail_once_at_each_call(rt: HostRuntime) {
+    let failures = count_failures(rt.alloc(), &PORTS_RUN, Failing::Once);
+    assert!(rt; failures.unwrap_or(0) > 0);
+}
+
+#[test]
+fn the_ports_may_fail_from_each_call_on(rt: HostRuntime) {
+    let failures = count_failures(rt.alloc(), &PORTS_RUN, Failing::Always);
+    assert!(rt; failures.unwrap_or(0) > 0);
+}
+
+#[test]
+fn a_run_with_bad_rows_may_fail_at_each_call(rt: HostRuntime) {
+    assert_eq!(rt; first_wrong_case(rt.alloc(), &BAD_ROWS, 0), None);
+}
+
+#[test]
+fn an_export_or_an_audit_may_fail_at_each_call(rt: HostRuntime) {
+    assert_eq!(rt; first_wrong_case(rt.alloc(), &WRITINGS, 1), None);
 }
