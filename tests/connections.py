@@ -8,7 +8,6 @@ ones that vanish, end their input or send garbage, and more than there are place
 or takes, so this is where that is tested. The gate runs it after `rt ci`, which leaves the program that it has proved and run.
 """
 import os
-import re
 import resource
 import select
 import socket
@@ -22,6 +21,7 @@ from pathlib import Path
 
 TOP = Path(__file__).resolve().parent.parent
 sys.path.insert(0, str(TOP / "bench"))
+from lib.clients import PATIENCE, connected, log_lines, received, received_to_end, responses_to
 from lib.messages import answer, message, opened
 from lib.program import PROGRAM, command_line, processor_time, served, serving
 
@@ -31,29 +31,8 @@ ANSWERED = answer('{"uri":"tel:+12025331234;npdi;rn=+12025440000"}').encode()
 CLOSING = ASKED.replace(b"\r\n\r\n", b"\r\nconnection: close\r\n\r\n")
 BAD_HEAD = b'{"error":"bad_head","number":45}'
 
-# After this many seconds a client counts as forgotten.
-PATIENCE = 30
-
 # The longest that a quick client may wait, in seconds, on a machine that does other things too.
 WAIT = 1
-
-
-def connected(port):
-    client = socket.create_connection(("127.0.0.1", port), PATIENCE)
-    client.setsockopt(socket.IPPROTO_TCP, socket.TCP_NODELAY, 1)
-    return client
-
-
-def received(client, length):
-    """So many bytes, or those before the end."""
-    heard = b""
-    while len(heard) < length and (more := client.recv(length - len(heard))):
-        heard += more
-    return heard
-
-
-def received_to_end(client):
-    return received(client, 1 << 30)
 
 
 def is_answered(client):
@@ -162,15 +141,6 @@ def vanish(port):
     return True
 
 
-def end(port, said, ends_input):
-    """What a client receives that says this and then ends its input, or waits."""
-    with connected(port) as client:
-        client.sendall(said)
-        if ends_input:
-            client.shutdown(socket.SHUT_WR)
-        return received_to_end(client)
-
-
 def all_ends():
     """All ways for a connection to end. No reset overtakes a response, whatever follows the last message."""
     rest = b"x" * 300_000
@@ -179,9 +149,9 @@ def all_ends():
         with connected(port) as client:
             for _ in range(20):
                 found += [
-                    end(port, CLOSING + rest, False) == ANSWERED,
-                    end(port, b"GARBAGE\r\n\r\n" + rest, False).endswith(BAD_HEAD),
-                    end(port, ASKED * 3, True) == ANSWERED * 3,
+                    responses_to(port, CLOSING + rest, False) == ANSWERED,
+                    responses_to(port, b"GARBAGE\r\n\r\n" + rest, False).endswith(BAD_HEAD),
+                    responses_to(port, ASKED * 3, True) == ANSWERED * 3,
                     is_answered(client),
                 ]
     return found
@@ -253,10 +223,10 @@ def logged():
             with connected(port) as client:
                 found = [is_answered(client), is_answered(client)]
                 of_many = b"".join(ASKED.replace(b"AAAA", spid) for spid in (b"NPAC", b"ZZZ1", b"ZZZ2", b"ZZZ1", b"ZZZ3", b"ZZZ4"))
-                found += [end(port, CLOSING, False) == ANSWERED, end(port, b"GARBAGE\r\n\r\n", False).endswith(BAD_HEAD)]
-                found.append(end(port, of_many, True).startswith(ANSWERED))
+                found += [responses_to(port, CLOSING, False) == ANSWERED, responses_to(port, b"GARBAGE\r\n\r\n", False).endswith(BAD_HEAD)]
+                found.append(responses_to(port, of_many, True).startswith(ANSWERED))
                 found.append(received_to_end(client) == b"")
-        lines = re.sub(r"peer=127.0.0.1:\d+ |seconds=\d+\.\d{3} ", "", log.read_text("ascii")).splitlines()
+        lines = log_lines(log.read_text("ascii"))
     return [*found, lines == [
         "before",
         "connection=2 spids=AAAA messages=1 refusals=0 end=closed",

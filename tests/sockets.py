@@ -20,35 +20,21 @@ from pathlib import Path
 
 TOP = Path(__file__).resolve().parent.parent
 sys.path[:0] = [str(TOP / "bench"), str(TOP / "tests")]
+from lib.clients import connected, received
 from lib.messages import answer, message
 from lib.program import PROGRAM, serving
 from stories import STORIES, End, encoded, ended, names_of_all, rows_of
 
 KEPT = 3
-PATIENCE = 30
 # What a client asks meanwhile, of a number whose code no story opens.
 ASKED = message("NPAC", "/query", '{"uri":"tel:+19899989999"}').encode()
 ANSWERED = answer('{"uri":"tel:+19899989999"}').encode()
 
 
-def connected(port):
-    client = socket.create_connection(("127.0.0.1", port), PATIENCE)
-    client.setsockopt(socket.IPPROTO_TCP, socket.TCP_NODELAY, 1)
-    return client
-
-
-def received(client, length):
-    """So many bytes, or those before the end."""
-    heard = b""
-    while len(heard) < length and (more := client.recv(length - len(heard))):
-        heard += more
-    return heard
-
-
 def minute_in(row):
-    """The minute to which a message moves the clock, if it does."""
+    """The minute to which a message moves the clock, if it does, or to which it would move it back."""
     moves = re.match(r'POST /clock .*\r\n\r\n\{"minute":(\d+)\}$', row.asked, re.DOTALL)
-    return moves[1] if moves and row.answers[0].startswith("HTTP/1.1 200 ") else None
+    return moves[1] if moves and re.match(r'HTTP/1\.1 200 |.*"clock_back"', row.answers[0], re.DOTALL) else None
 
 
 def is_of_the_clock(row):
@@ -80,7 +66,7 @@ class Player:
     def is_answered(self, client, row, ends_input=False):
         """Whether a row is answered as it has to be on this connection, whose input may end with it."""
         if is_of_the_clock(row):
-            # the clock is moved from outside; a refused move moves nothing
+            # the time of day moves, back too, which the program ignores; another refused move moves nothing
             if (minute := minute_in(row)) is not None:
                 self.minute.write_text(minute, "ascii")
             return True
