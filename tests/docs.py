@@ -21,12 +21,12 @@ from pathlib import Path
 
 TOP = Path(__file__).resolve().parent.parent
 LIMITS = {
-    "README.md": 900, "docs/ARCHITECTURE.md": 1500, "docs/CHANGING.md": 1600, "docs/CONTRACTS.md": 1700, "docs/DECISIONS.md": 1700,
-    "docs/FILES.md": 1400, "docs/GLOSSARY.md": 700, "docs/INTERFACE.md": 2300, "docs/MEASUREMENTS.md": 800, "docs/OPERATING.md": 1500,
-    "docs/RULES.md": 2500, "docs/STYLE.md": 1200, "docs/TEL.md": 600, "docs/TESTING.md": 1600, "docs/THEOREM.md": 3400,
+    "README.md": 1000, "docs/ARCHITECTURE.md": 1600, "docs/CHANGING.md": 1500, "docs/CONTRACTS.md": 1800, "docs/DECISIONS.md": 1800,
+    "docs/FILES.md": 1500, "docs/GLOSSARY.md": 800, "docs/INTERFACE.md": 2400, "docs/MEASUREMENTS.md": 1000, "docs/OPERATING.md": 2200,
+    "docs/RULES.md": 2600, "docs/STYLE.md": 1000, "docs/TEL.md": 650, "docs/TESTING.md": 1800, "docs/THEOREM.md": 3600,
     "docs/openapi.yaml": 2500,
 }
-TOTAL = 25_000
+TOTAL = 27_000
 WIDEST_CELL = 80
 # phrases that STYLE.md replaces
 PHRASES = re.compile(
