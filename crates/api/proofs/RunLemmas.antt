@@ -15,7 +15,7 @@ use Rattle.http_messages.specs.declared.fault.MessageFault.TheVariants.{BadReque
 use Rattle.http_messages.specs.declared.message.NextMessage.{NextMessage}
 use Rattle.http_messages.specs.declared.message.NextMessage.TheVariants as next
 use Rattle.http_messages.specs.declared.message.Request.{Request}
-use Rattle.api.specs.Executing.{ExecutesTo, IsNextOf, body_of}
+use Rattle.api.specs.Executing.{ExecutesTo, HasNoMessage, IsNextOf, body_of}
 use Rattle.api.specs.Serving.{AfterExchanges, IoTrace, end_of}
 use Rattle.api.specs.declared.executor.Next.{Next}
 use Rattle.api.specs.declared.executor.Progress.{Progress}
@@ -60,31 +60,43 @@ next_here left has_ended arrived.Nothing n at is = absurd (no_ok n _ is)
 next_here left has_ended (arrived.Part wanted) n at is = absurd (no_ok n _ is)
 
 -- Nothing is answered next.
-pub stops_at : (offered : Bool) (most : ℕ) (has_ended : Bool) (from to : ℕ) (st : State)
+pub stops_at : (offered has_ended : Bool) (from to : ℕ) (st : State)
     (new : Content) (trace : IoTrace) (k : ℕ) (left : List ℕ) (a : Arrived) (p : Progress)
     → HasArrived left has_ended a → IsNextOf a (Err p)
     → (whole : AfterExchanges offered from to st new trace k) × (Some left ≡ Some whole.rest)
-    → ExecutesTo p offered most has_ended from to st new trace k left
-stops_at offered most has_ended from to st new trace k left (arrived.Message request head) p at is
+    → ExecutesTo p offered has_ended from to st new trace k left
+stops_at offered has_ended from to st new trace k left (arrived.Message request head) p at is
     whole = absurd (no_ok _ p (sym is))
-stops_at offered most has_ended from to st new trace k left (arrived.Refused fault) p at is whole =
+stops_at offered has_ended from to st new trace k left (arrived.Refused fault) p at is whole =
     absurd (no_ok _ p (sym is))
-stops_at offered most has_ended from to st new trace k left arrived.Nothing p at is whole =
-    subst (λ p. ExecutesTo p offered most has_ended from to st new trace k left)
+stops_at offered has_ended from to st new trace k left arrived.Nothing p at is whole =
+    subst (λ p. ExecutesTo p offered has_ended from to st new trace k left)
     (sym (err_is p (Ended Input) is)) (whole.0, sym (bytes_is left whole.0.rest whole.1), at)
-stops_at offered most has_ended from to st new trace k left (arrived.Part wanted) p at is whole =
-    subst (λ p. ExecutesTo p offered most has_ended from to st new trace k left)
+stops_at offered has_ended from to st new trace k left (arrived.Part wanted) p at is whole =
+    subst (λ p. ExecutesTo p offered has_ended from to st new trace k left)
     (sym (err_is p (Wants wanted) is)) (whole.0, sym (bytes_is left whole.0.rest whole.1), at)
 
--- As many messages were executed as were allowed.
-pub pauses_at : (offered : Bool) (most : ℕ) (has_ended : Bool) (from to : ℕ) (st : State)
-    (new : Content) (trace : IoTrace) (k : ℕ) (left : List ℕ) → k ≡ most
+-- As much was executed as the limit allows.
+pub pauses_at : (offered has_ended : Bool) (from to : ℕ) (st : State)
+    (new : Content) (trace : IoTrace) (k : ℕ) (left : List ℕ)
     → (whole : AfterExchanges offered from to st new trace k) × (Some left ≡ Some whole.rest)
-    → ExecutesTo Paused offered most has_ended from to st new trace most left
-pauses_at offered most has_ended from to st new trace k left all whole =
-    let w = subst (λ (n : ℕ). (whole : AfterExchanges offered from to st new trace n)
-    × (Some left ≡ Some whole.rest)) all whole in
-    (w.0, sym (bytes_is left w.0.rest w.1), refl)
+    → ExecutesTo Paused offered has_ended from to st new trace k left
+pauses_at offered has_ended from to st new trace k left whole =
+    (whole.0, sym (bytes_is left whole.0.rest whole.1))
+
+-- One more is some.
+pub no_more : (n : ℕ) → n + 1 ≡ 0 → ⊥
+no_more n e = omega (arith, e)
+
+-- Nothing is answered at the start of the input.
+pub nothing_whole : (has_ended : Bool) (left : List ℕ) (a : Arrived) (p : Progress)
+    → HasArrived left has_ended a → IsNextOf a (Err p) → HasNoMessage p has_ended left
+nothing_whole has_ended left (arrived.Message request head) p at is = absurd (no_ok _ p (sym is))
+nothing_whole has_ended left (arrived.Refused fault) p at is = absurd (no_ok _ p (sym is))
+nothing_whole has_ended left arrived.Nothing p at is =
+    subst (λ p. HasNoMessage p has_ended left) (sym (err_is p (Ended Input) is)) at
+nothing_whole has_ended left (arrived.Part wanted) p at is =
+    subst (λ p. HasNoMessage p has_ended left) (sym (err_is p (Wants wanted) is)) at
 
 refused_is : (a b : MessageFault) → next.Refused a ≡ next.Refused b → a ≡ b
 refused_is a b e = cc
@@ -122,27 +134,27 @@ refused_end (next.Refused other) fault e = ap next.Refused (fault_is other fault
     fault_is a b e = cc
 
 -- The response was the last.
-pub ends_at : (offered : Bool) (most : ℕ) (has_ended : Bool) (from to : ℕ) (st : State)
+pub ends_at : (offered has_ended : Bool) (from to : ℕ) (st : State)
     (new : Content) (trace : IoTrace) (k : ℕ) (input : List ℕ) (consumed : ℕ) (a : Arrived)
     (n : Next) (end : End) → HasArrived (drop consumed input) has_ended a → IsNextOf a (Ok n)
     → end_of n.message ≡ Some end
     → HasEnded end offered from to st new trace k (Some (drop consumed input))
     (Some (drop n.end (drop consumed input)))
-    → ExecutesTo (Ended end) offered most has_ended from to st new trace k
+    → ExecutesTo (Ended end) offered has_ended from to st new trace k
     (drop (consumed + n.end) input)
-ends_at offered most has_ended from to st new trace k input consumed a n Input at is ends has =
+ends_at offered has_ended from to st new trace k input consumed a n Input at is ends has =
     absurd has
-ends_at offered most has_ended from to st new trace k input consumed a n Closed at is ends has = (
+ends_at offered has_ended from to st new trace k input consumed a n Closed at is ends has = (
   has.0,
   sym (bytes_is (drop n.end (drop consumed input)) has.0.rest_after has.1)
       ∙ dropped_more input consumed n.end,
 )
-ends_at offered most has_ended from to st new trace k input consumed a n (Refused fault) at is ends
+ends_at offered has_ended from to st new trace k input consumed a n (Refused fault) at is ends
     has =
     let stays = refusal_stays (drop consumed input) has_ended a n fault at is
     (refused_end n.message fault ends) in
     let same : consumed ≡ consumed + n.end = omega (arith, stays.0) in
-    subst (λ (n : ℕ). ExecutesTo (Ended (Refused fault)) offered most has_ended from to st new trace
+    subst (λ (n : ℕ). ExecutesTo (Ended (Refused fault)) offered has_ended from to st new trace
     k (drop n input)) same
     (has.0, sym (bytes_is (drop consumed input) has.0.rest has.1), stays.1)
 

@@ -9,7 +9,7 @@ ghost use Rattle.std.specs.Io.KnownBytes.{Keeps};
 ghost use Rattle.http_messages.specs.Table.{table};
 ghost use Rattle.json_api.specs.ResponseBuffers.{HasCapacity};
 ghost use Rattle.api.specs.Crashes.{LeavesNext, LeavesPrefix};
-ghost use Rattle.api.specs.Executing.{Executes, IsNextOf, IsReady, body_of, consumed_of, read_as};
+ghost use Rattle.api.specs.Executing.{Executes, IsNextOf, IsReady, PausesAt, Progresses, StaysWithin, body_of, consumed_of, read_as};
 ghost use Rattle.api.specs.Serving.{IsUnavailableResponse, RefinesReachable, Responds, WritesUntil, end_of};
 ghost use Rattle.api.specs.Step.{IsUnavailableText};
 
@@ -38,7 +38,7 @@ const FIELD_LIMIT: usize = 64;
 pub enum Progress {
     /// A part of a message, or nothing yet. It stays so with fewer than `wanted` bytes.
     Wants { wanted: usize },
-    /// Not known: as many messages were executed as were allowed.
+    /// Not known: as much was executed as the limit allows.
     Paused,
     /// Nothing that is executed.
     Ended(End),
@@ -51,6 +51,15 @@ pub struct Executed {
     pub count: u64,
     pub consumed: usize,
     pub progress: Progress,
+}
+
+/// How much is executed at once.
+#[derive(Clone, Copy, Debug, PartialEq, Eq)]
+pub struct TurnLimit {
+    /// The most messages.
+    pub messages: u64,
+    /// With more bytes of output than this, no further message is executed.
+    pub output: usize,
 }
 
 /// How many messages were answered before the one whose response could not be appended.
@@ -285,7 +294,7 @@ impl Executor {
         }
     }
 
-    /// Executes the whole messages at the start of `input`, at most `most`, and appends each
+    /// Executes the whole messages at the start of `input`, within the limit, and appends each
     /// response to `output` before the next message is executed. `has_ended` says that no more input
     /// follows.
     ///
@@ -303,14 +312,14 @@ impl Executor {
         options: &Options,
         input: &[u8],
         has_ended: bool,
-        most: u64,
+        limit: TurnLimit,
         output: &mut Vec<u8>,
     ) -> Result<Executed, Lost>
         // If the store is usable afterwards: every message that was executed, its response, and
         // what is left of the input.
         ensures executes { S.IsUsable register.new.store → (st : State)
             → Refines (S.content register.old.store) st
-            → Executes result options.now.clock_route most has_ended
+            → Executes result options.now.clock_route has_ended
             (S.failed register.old.store) (S.failed register.new.store) st
             (S.content register.new.store)
             (record {
@@ -322,7 +331,11 @@ impl Executor {
               written_after = Some output.new.items;
             }) }
         ensures within { IfOk result
-            (λ done. (done.consumed ≤ length input.now) × (done.count ≤ most)) }
+            (λ done. (done.consumed ≤ length input.now) × (done.count ≤ limit.messages)) }
+        ensures pauses { IfOk result (PausesAt limit output.new.items) }
+        ensures output { StaysWithin limit.output output.old.items output.new.items }
+        ensures progress { IfOk result
+            (Progresses limit has_ended input.now output.old.items) }
         // If the store shuts over an honest device: the responses up to some `Storage` or
         // `NoMemory` are those of a run.
         ensures until { S.IsUsable register.old.store → S.HasHonestDevice register.new.store
@@ -349,7 +362,14 @@ impl Executor {
     {
         let clock = options.clock_route;
         let mut consumed = 0;
-        for count in 0..most {
+        for count in 0..limit.messages {
+            if output.len() > limit.output {
+                return Ok(Executed {
+                    count,
+                    consumed,
+                    progress: Progress::Paused,
+                });
+            }
             let rest = &input[consumed..];
             let arrived = next_arrived(rest, has_ended, &mut self.headers, &self.router);
             let next = match next_of(&arrived) {
@@ -381,7 +401,7 @@ impl Executor {
             }
         }
         Ok(Executed {
-            count: most,
+            count: limit.messages,
             consumed,
             progress: Progress::Paused,
         })

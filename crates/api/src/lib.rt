@@ -11,7 +11,7 @@ mod serving;
 mod tally;
 mod tick;
 
-pub use executor::{Executed, Executor, Lost, Progress};
+pub use executor::{Executed, Executor, Lost, Progress, TurnLimit};
 pub use http_messages::{MessageFault, parse_is_unique};
 pub use json_api::body_asks_once;
 pub use laws::{message_step_is_deterministic, storage_reports_failure, uris_need_no_escape};

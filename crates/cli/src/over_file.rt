@@ -1,6 +1,6 @@
 //! Works over the store in a file.
 //!
-//! A call that needs a file to be a store takes a minute to prove, in each function anew. So only
+//! A call that needs a file to be a store takes a minute to prove, again in each function. So only
 //! `over_open` makes such calls, and `feed_at` for its contract.
 ghost use Rattle.std.specs.Prelude.{◌⊎◌, IfErr};
 ghost use Rattle.cli.specs.Faults.{IsOfOpening};
@@ -17,7 +17,7 @@ pub(crate) trait StoreTask {
     /// What it returns.
     type Output: Drop;
 
-    // The faults with which it may end.
+    // The faults that it may end with.
     ghost may_end: { Self → FaultImpl → Type 0 };
 
     /// Does it, and returns the store.

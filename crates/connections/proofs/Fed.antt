@@ -169,17 +169,17 @@ pub same_end_after : (c d : ConnectionModel) (result : Result Executed LostRespo
 same_end_after c d (Ok done) e = ap (λ (m : ConnectionModel). m.has_ended) e
 same_end_after c d (Err lost) e = ap (λ (m : ConnectionModel). m.has_ended) e
 
-module _ (most from to : ℕ) (st : State) (new : Content) (c d : ConnectionModel) where
+module _ (from to : ℕ) (st : State) (new : Content) (c d : ConnectionModel) where
   wants_so : (result : Result Executed LostResponse) (trace : IoTrace) → trace.input ≡ c.unread
-      → Executes result true most c.has_ended from to st new trace
+      → Executes result true c.has_ended from to st new trace
       → WantsMore c.unread c.wanted
       → WantsMore (with_executed c result d.unsent).unread
       (with_executed c result d.unsent).wanted
   wants_so (Ok done) trace same is wants =
-      by_cases done.progress (subst (λ (t : List ℕ). ExecutesTo done.progress true most c.has_ended
+      by_cases done.progress (subst (λ (t : List ℕ). ExecutesTo done.progress true c.has_ended
       from to st new trace done.count (drop done.consumed t)) same is)
     where
-      by_cases : (progress : Progress) → ExecutesTo progress true most c.has_ended from to st new
+      by_cases : (progress : Progress) → ExecutesTo progress true c.has_ended from to st new
           trace done.count (drop done.consumed c.unread)
           → WantsMore (drop done.consumed c.unread) (wanted_after progress)
       by_cases (Wants wanted) is = is.2.2
@@ -189,11 +189,11 @@ module _ (most from to : ℕ) (st : State) (new : Content) (c d : ConnectionMode
 
   -- A turn of a connection that is fed.
   pub steps_turned : (result : Result Executed LostResponse)
-      → Executes result true most c.has_ended from to st new (turn_trace true most from to st new
+      → Executes result true c.has_ended from to st new (turn_trace true from to st new
       (Some []) (Some []) c d result)
       → d ≡ with_executed c result d.unsent → c.phase ≡ Open → StepsOn from to st new c d
   steps_turned result is e opened = λ input received earlier was.
-      let steps = turned true most from to st new (Some []) (Some []) c d result input received
+      let steps = turned true from to st new (Some []) (Some []) c d result input received
       earlier is e opened was.0 in
       let wants = subst (λ (m : ConnectionModel). WantsMore m.unread m.wanted) (sym e)
       (wants_so result _ refl is was.1) in (

@@ -1,3 +1,4 @@
+mod Ahead
 mod Chains
 mod Fed
 mod FedEnds

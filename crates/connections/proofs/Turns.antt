@@ -131,17 +131,17 @@ module _ (offered : Bool) (from to : ℕ) (st : State) (new : Content) (has_ende
     );
   }
 
-  executed : (progress : Progress) (most k : ℕ) (rest : List ℕ)
-      → ExecutesTo progress offered most has_ended from to st new trace k rest
+  executed : (progress : Progress) (k : ℕ) (rest : List ℕ)
+      → ExecutesTo progress offered has_ended from to st new trace k rest
       → TakesSteps offered from to st new before after
       (λ ys. Answers (phase_after progress) rest input has_ended (xs ++ ys) (received ++ has))
-  executed (Wants wanted) most k rest is =
+  executed (Wants wanted) k rest is =
       exchanged k rest _ is.0 is.1 (λ begins output. (begins, output))
-  executed Paused most k rest is = exchanged k rest _ is.0 is.1 (λ begins output. (begins, output))
-  executed (EndsWith Input) most k rest is =
+  executed Paused k rest is = exchanged k rest _ is.0 is.1 (λ begins output. (begins, output))
+  executed (EndsWith Input) k rest is =
       exchanged k rest _ is.0 is.1 (λ begins output. (rest, begins, is.2, output))
-  executed (EndsWith Closed) most k rest is = closed k is.0
-  executed (EndsWith (Refused fault)) most k rest is = refused fault k rest is.0 is.1 is.2
+  executed (EndsWith Closed) k rest is = closed k is.0
+  executed (EndsWith (Refused fault)) k rest is = refused fault k rest is.0 is.1 is.2
 
   -- The output when the next response is lost.
   kept_output : (ys : List Exchange) (part : ℕ) (response : List ℕ) → part ≡ 0
@@ -301,7 +301,7 @@ is_open_then Lost e = impossible (sym e)
 pub open_with_work : (c : ConnectionModel) → has_work c ≡ true → c.phase ≡ Open
 open_with_work c e = is_open_then c.phase (first_of (is_open c.phase) _ (first_of _ _ e))
 
-module _ (offered : Bool) (most from to : ℕ) (st : State) (new : Content)
+module _ (offered : Bool) (from to : ℕ) (st : State) (new : Content)
     (before after : Option (List (Option ℕ))) (c d : ConnectionModel) where
   abbrev pub turn_trace : Result Executed LostResponse → IoTrace
   turn_trace result = record {
@@ -315,14 +315,14 @@ module _ (offered : Bool) (most from to : ℕ) (st : State) (new : Content)
 
   turned_so : (result : Result Executed LostResponse) (input received : List ℕ)
       (xs : List Exchange)
-      → Executes result offered most c.has_ended from to st new (turn_trace result)
+      → Executes result offered c.has_ended from to st new (turn_trace result)
       → Begins input xs c.unread → received ++ c.unsent ≡ responses xs
       → TakesSteps offered from to st new before after
       (λ ys. AnswersTo (with_executed c result d.unsent) input received (xs ++ ys))
   turned_so (Ok done) input received xs is begins was =
       executed offered from to st new c.has_ended c.unread c.unsent d.unsent
       (Some (drop done.consumed c.unread)) before after input received xs begins was done.progress
-      most done.count (drop done.consumed c.unread) is
+      done.count (drop done.consumed c.unread) is
   turned_so (Err lost) input received xs is begins was =
       next_lost offered from to st new c.has_ended c.unread c.unsent d.unsent is.0 before after
       input
@@ -330,7 +330,7 @@ module _ (offered : Bool) (most from to : ℕ) (st : State) (new : Content)
 
   pub turned : (result : Result Executed LostResponse) (input received : List ℕ)
       (xs : List Exchange)
-      → Executes result offered most c.has_ended from to st new (turn_trace result)
+      → Executes result offered c.has_ended from to st new (turn_trace result)
       → d ≡ with_executed c result d.unsent → c.phase ≡ Open → AnswersTo c input received xs
       → TakesSteps offered from to st new before after (λ ys. AnswersTo d input received (xs ++ ys))
   turned result input received xs is e opened was =

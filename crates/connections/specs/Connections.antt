@@ -1,5 +1,5 @@
 -- What is known of a connection.
-use Rattle.std.specs.Prelude.{ℕ, List, [], ◌++◌, length, drop, Result, Ok, Err, Bool, true, false, not, ◌&&◌, ◌||◌, nat_le, if◌then◌else◌}
+use Rattle.std.specs.Prelude.{◌≡◌, ℕ, List, [], ◌++◌, length, drop, Option, Some, None, Result, Ok, Err, Bool, true, false, not, ◌&&◌, ◌||◌, nat_eq, nat_le, if◌then◌else◌}
 use Rattle.api.specs.declared.executor.Executed.{Executed}
 use Rattle.api.specs.declared.executor.Lost.{Lost as LostResponse}
 use Rattle.api.specs.declared.executor.Progress.{Progress}
@@ -21,13 +21,19 @@ pub record ConnectionModel : Type 0 where
 abbrev pub queued : ByteQueue → List ℕ
 queued queue = drop queue.start queue.bytes.items
 
+-- What is to be sent: nothing of what was executed ahead.
+abbrev pub unsent_of : Option (Result Executed LostResponse) → ByteQueue → List ℕ
+unsent_of None output = queued output
+unsent_of (Some ahead) output = []
+
+-- The connection, without what was executed ahead.
 abbrev pub connection_of : Connection → ConnectionModel
 connection_of connection = record {
   phase = connection.phase;
   unread = queued connection.input;
   wanted = connection.wanted;
   has_ended = connection.has_ended;
-  unsent = queued connection.output;
+  unsent = unsent_of connection.ahead connection.output;
 }
 
 -- A connection before anything arrives.
@@ -78,12 +84,9 @@ with_stop c = record c { phase = stopped_phase c.phase }
 abbrev pub may_go_on : ConnectionModel → Bool
 may_go_on c = c.has_ended || nat_le c.wanted (length c.unread)
 
--- The most bytes that may be unsent when messages are executed.
-abbrev pub unsent_limit : ℕ
-unsent_limit = 65536
-
+-- Whether messages may be executed: none is while bytes are unsent.
 abbrev pub has_work : ConnectionModel → Bool
-has_work c = is_open c.phase && may_go_on c && nat_le (length c.unsent) unsent_limit
+has_work c = is_open c.phase && may_go_on c && nat_eq (length c.unsent) 0
 
 abbrev pub wants_input : ConnectionModel → Bool
 wants_input c = is_open c.phase && not (may_go_on c)
@@ -108,3 +111,21 @@ with_executed c (Ok done) unsent = record c {
   unsent = unsent;
 }
 with_executed c (Err lost) unsent = record c { phase = Lost; unsent = unsent }
+
+abbrev pub with_ahead : Option (Result Executed LostResponse) → ConnectionModel
+    → (responses : List ℕ) → ConnectionModel
+with_ahead None c responses = c
+with_ahead (Some result) c responses = with_executed c result responses
+
+-- The connection, with what was executed ahead.
+abbrev pub kept_of : Connection → ConnectionModel
+kept_of connection = with_ahead connection.ahead (connection_of connection)
+    (queued connection.output)
+
+-- Holds if nothing was executed ahead.
+abbrev pub HasNothingAhead : Connection → Type 0
+HasNothingAhead connection = connection.ahead ≡ None
+
+-- Holds if a call that makes `new` of `old` executes nothing ahead.
+abbrev pub StaysInStep : (old new : Connection) → Type 0
+StaysInStep old new = HasNothingAhead old → HasNothingAhead new

@@ -12,12 +12,14 @@ use Rattle.register.specs.Refinement.{Refines}
 use Rattle.http_messages.specs.Arrived.{HasArrived}
 use Rattle.http_messages.specs.Parsing.{ParsesAs, WholeMessage}
 use Rattle.http_messages.specs.declared.arrived.Arrived.TheVariants as arrived
+use Rattle.api.specs.Executing.{Progresses}
 use Rattle.api.specs.Run.{Exchange, responses, ticks_of}
 use Rattle.api.specs.Serving.{message_refusal_text}
 use Rattle.api.specs.Step.{Step}
 use Rattle.api.specs.Ticks.{ConsumesTicks}
 use Rattle.api.specs.declared.executor.Executed.{Executed}
 use Rattle.api.specs.declared.executor.Lost.{Lost as LostResponse}
+use Rattle.api.specs.declared.executor.TurnLimit.{TurnLimit}
 use Rattle.api.specs.declared.serving.End.TheVariants.{Input, Closed, Refused}
 use Rattle.connections.specs.Connections.{ConnectionModel, connection_of, has_work, with_end, with_executed, with_input, with_sent}
 use Rattle.connections.specs.declared.connection.Phase.{Phase}
@@ -139,12 +141,17 @@ with_received m count =
       received = m.received ++ take n m.connection.unsent;
     }
 
+-- How much a turn with at most `most` messages takes.
+abbrev pub turn_limit : (most : ℕ) → TurnLimit
+turn_limit most = record { messages = most; output = 65536 }
+
 -- Holds if a turn makes this of the client: if its connection has work, at most `most` messages are
--- executed.
+-- executed, and at least one if one is whole.
 abbrev pub HasTurn : (most : ℕ) → ClientModel → ClientModel → Type 0
 HasTurn most old new =
     ((has_work old.connection ≡ false) × (new ≡ old))
-    ⊎ ((result : Result Executed LostResponse) × IfOk result (λ done. done.count ≤ most)
+    ⊎ ((result : Result Executed LostResponse) × IfOk result (λ done. (done.count ≤ most)
+    × Progresses (turn_limit most) old.connection.has_ended old.connection.unread [] done)
     × (new ≡ record old {
       connection = with_executed old.connection result new.connection.unsent;
     }))

@@ -1,5 +1,5 @@
 //! Bytes that are added at the end and taken from the start.
-ghost use Rattle.std.specs.Prelude.{◌≡◌, ◌≤◌, [], ◌++◌, drop, vec_len, IfOk, OnOk, OnErr};
+ghost use Rattle.std.specs.Prelude.{◌≡◌, ◌≤◌, [], ◌++◌, drop, vec_len, OnOk, OnErr};
 
 use std::alloc::{AllocError, Global};
 
@@ -27,20 +27,6 @@ impl ByteQueue {
         }
     }
 
-    /// Copies the queue.
-    ///
-    /// # Errors
-    ///
-    /// `AllocError` if an allocation fails.
-    pub fn copy(&self) -> Result<ByteQueue, AllocError>
-        ensures { IfOk result (λ copy. drop copy.start copy.bytes.items
-            ≡ drop self.now.start self.now.bytes.items) }
-    {
-        let mut copy = ByteQueue::new(self.alloc);
-        copy.add(self.as_slice())?;
-        Ok(copy)
-    }
-
     /// Returns the bytes.
     pub fn as_slice(&self) -> &[u8]
         ensures { result.now ≡ drop self.now.start self.now.bytes.items }
@@ -48,8 +34,8 @@ impl ByteQueue {
         &self.bytes[self.start..]
     }
 
-    // Removes all bytes, and frees a large buffer.
-    fn clear(&mut self)
+    /// Removes all bytes, and frees a large buffer.
+    pub fn clear(&mut self)
         ensures start { self.new.start ≡ 0 }
         ensures bytes { self.new.bytes.items ≡ [] }
     {
@@ -61,8 +47,8 @@ impl ByteQueue {
         }
     }
 
-    /// Moves the bytes to the start of `bytes`.
-    pub fn move_to_start(&mut self)
+    // Moves the bytes to the start of `bytes`.
+    fn move_to_start(&mut self)
         ensures start { self.new.start ≡ 0 }
         ensures bytes { self.new.bytes.items ≡ drop self.old.start self.old.bytes.items }
     {

@@ -1,22 +1,19 @@
 //! A connection as two byte lists: what has arrived, and what is to be sent.
-ghost use Rattle.std.specs.Prelude.{◌≡◌, ◌≤◌, ◌⊎◌, ◌++◌, Err, Some, drop, length, IfOk, OnOk, OnErr};
+ghost use Rattle.std.specs.Prelude.{◌≡◌, ◌≤◌, ◌⊎◌, [], Some, drop, length, true, false, IfOk, OnOk, OnErr};
 ghost use Rattle.model.specs.State.{State};
 ghost use Rattle.settle.specs.StoreContract.{AddsOnlyCrashStates, BeginsNoGroup, EndsNoGroup};
 ghost use Rattle.register.specs.Refinement.{Refines};
 ghost use Rattle.api.specs.Crashes.{LeavesPrefix};
-ghost use Rattle.api.specs.Executing.{Executes, consumed_of};
+ghost use Rattle.api.specs.Executing.{Executes, PausesAt, Progresses, consumed_of};
 ghost use Rattle.api.specs.Serving.{WritesUntil};
-ghost use Rattle.connections.specs.Connections.{connection_of, has_work, is_open, may_go_on, new_connection, phase_after, wanted_after, wants_input, with_end, with_executed, with_input, with_sent, with_stop};
+ghost use Rattle.connections.specs.Connections.{HasNothingAhead, StaysInStep, connection_of, has_work, is_open, kept_of, may_go_on, new_connection, phase_after, wanted_after, wants_input, with_end, with_executed, with_input, with_sent, with_stop};
 ghost use Rattle.connections.specs.Rows.{RowsFollow};
 
 use crate::byte_queue::ByteQueue;
-use api::{End, Executed, Executor, Lost, Options, Progress, Ticks};
+use api::{End, Executed, Executor, Lost, Options, Progress, Ticks, TurnLimit};
 use register::Register;
 use settle::Store;
 use std::alloc::{AllocError, Global};
-
-/// With more unsent bytes than this no message is executed.
-pub const UNSENT_LIMIT: usize = 65_536;
 
 /// How far a connection is.
 #[derive(Clone, Copy, Debug, PartialEq, Eq)]
@@ -33,6 +30,9 @@ pub enum Phase {
 
 /// A connection: the bytes that have arrived and were not executed, and the bytes that are to be
 /// sent. It knows neither a socket nor the time.
+///
+/// Messages are executed ahead: their responses are not sent before `keep_ahead`, and after
+/// `drop_ahead` the messages are unread again.
 #[derive(Drop)]
 pub struct Connection {
     phase: Phase,
@@ -40,7 +40,10 @@ pub struct Connection {
     wanted: usize,
     has_ended: bool,
     input: ByteQueue,
+    // The bytes that are to be sent, or the responses to what was executed ahead.
     output: ByteQueue,
+    // What was executed ahead.
+    ahead: Option<Result<Executed, Lost>>,
 }
 
 // Returns how far a connection is after messages were executed.
@@ -66,7 +69,8 @@ fn wanted_of(progress: Progress) -> usize
 impl Connection {
     /// Creates a connection before anything arrives.
     pub fn new(alloc: Global) -> Connection
-        ensures { connection_of result ≡ new_connection }
+        ensures connection { connection_of result ≡ new_connection }
+        ensures ahead { HasNothingAhead result }
     {
         Connection {
             phase: Phase::Open,
@@ -74,24 +78,8 @@ impl Connection {
             has_ended: false,
             input: ByteQueue::new(alloc),
             output: ByteQueue::new(alloc),
+            ahead: None,
         }
-    }
-
-    /// Copies the connection.
-    ///
-    /// # Errors
-    ///
-    /// `AllocError` if an allocation fails.
-    pub fn copy(&self) -> Result<Connection, AllocError>
-        ensures { IfOk result (λ copy. connection_of copy ≡ connection_of self.now) }
-    {
-        Ok(Connection {
-            phase: self.phase,
-            wanted: self.wanted,
-            has_ended: self.has_ended,
-            input: self.input.copy()?,
-            output: self.output.copy()?,
-        })
     }
 
     /// Returns how far the connection is.
@@ -112,7 +100,17 @@ impl Connection {
     pub fn unsent(&self) -> &[u8]
         ensures { result.now ≡ (connection_of self.now).unsent }
     {
-        self.output.as_slice()
+        match self.ahead {
+            None => self.output.as_slice(),
+            Some(_) => &[],
+        }
+    }
+
+    /// Returns whether messages were executed ahead.
+    pub fn has_ahead(&self) -> bool
+        ensures { result ≡ false → HasNothingAhead self.now }
+    {
+        self.ahead.is_some()
     }
 
     /// Returns whether no more input will arrive.
@@ -136,12 +134,12 @@ impl Connection {
         matches!(self.phase, Phase::Open)
     }
 
-    /// Returns whether `execute` may find a message, a refusal, or the end of the input, and no more
-    /// than `UNSENT_LIMIT` bytes are unsent.
+    /// Returns whether `execute_ahead` may find a message, a refusal, or the end of the input, and
+    /// nothing is unsent.
     pub fn has_work(&self) -> bool
         ensures { result ≡ has_work (connection_of self.now) }
     {
-        self.is_open() && self.may_go_on() && self.unsent().len() <= UNSENT_LIMIT
+        self.is_open() && self.may_go_on() && self.unsent().is_empty()
     }
 
     /// Returns whether more has to arrive before the next message is whole.
@@ -163,6 +161,7 @@ impl Connection {
         ensures taken { OnOk result
             (connection_of self.new ≡ with_input (connection_of self.old) bytes.now) }
         ensures refused { OnErr result (connection_of self.new ≡ connection_of self.old) }
+        ensures ahead { StaysInStep self.old self.new }
     {
         if self.has_ended || !self.is_open() {
             return Ok(());
@@ -172,30 +171,31 @@ impl Connection {
 
     /// Notes that no more input will arrive.
     pub fn end_input(&mut self)
-        ensures { connection_of self.new ≡ with_end (connection_of self.old) }
+        ensures ended { connection_of self.new ≡ with_end (connection_of self.old) }
+        ensures ahead { StaysInStep self.old self.new }
     {
         self.has_ended = true;
     }
 
-    /// Executes the whole messages that have arrived, at most `most`, as `Executor::execute` does.
-    /// Their responses are to be sent.
+    /// Executes the whole messages that have arrived, within the limit, as `Executor::execute` does,
+    /// ahead.
     ///
     /// # Errors
     ///
-    /// `Lost` if the output cannot grow. The connection is `Phase::Lost`: one message more was
-    /// executed, or refused, than was answered.
-    pub fn execute<S: Store, T: Ticks>(
+    /// `Lost` if memory for the responses cannot grow. With `keep_ahead`, the connection is
+    /// `Phase::Lost`: one message more was executed, or refused, than is answered.
+    pub fn execute_ahead<S: Store, T: Ticks>(
         &mut self,
         executor: &mut Executor,
         register: &mut Register<S>,
         ticks: &mut T,
         options: &Options,
-        most: u64,
+        limit: TurnLimit,
     ) -> Result<Executed, Lost>
-        requires open { self.old.phase ≡ Phase.Open }
+        requires work { has_work (connection_of self.old) ≡ true }
         ensures executes { S.IsUsable register.new.store → (st : State)
             → Refines (S.content register.old.store) st
-            → Executes result options.now.clock_route most self.old.has_ended
+            → Executes result options.now.clock_route self.old.has_ended
             (S.failed register.old.store) (S.failed register.new.store) st
             (S.content register.new.store)
             (record {
@@ -204,29 +204,34 @@ impl Connection {
               ticks_before = T.remaining ticks.old;
               ticks_after = T.remaining ticks.new;
               written_before = Some (connection_of self.old).unsent;
-              written_after = Some (connection_of self.new).unsent;
+              written_after = Some (kept_of self.new).unsent;
             }) }
-        ensures connection { connection_of self.new
-            ≡ with_executed (connection_of self.old) result (connection_of self.new).unsent }
+        ensures stays { connection_of self.new ≡ connection_of self.old }
+        ensures ahead { kept_of self.new
+            ≡ with_executed (connection_of self.old) result (kept_of self.new).unsent }
         ensures within { IfOk result (λ done.
-            (done.consumed ≤ length (connection_of self.old).unread) × (done.count ≤ most)) }
+            (done.consumed ≤ length (connection_of self.old).unread)
+            × (done.count ≤ limit.messages)) }
+        ensures pauses { IfOk result (PausesAt limit (kept_of self.new).unsent) }
+        ensures progress { IfOk result
+            (Progresses limit self.old.has_ended (connection_of self.old).unread []) }
         ensures until { S.IsUsable register.old.store → S.HasHonestDevice register.new.store
             → S.IsUsable register.new.store
             ⊎ ((st : State) → Refines (S.content register.old.store) st
             → WritesUntil options.now.clock_route (S.failed register.old.store) st
             (connection_of self.old).unread (T.remaining ticks.old)
-            (Some (connection_of self.old).unsent) (Some (connection_of self.new).unsent)) }
+            (Some (connection_of self.old).unsent) (Some (kept_of self.new).unsent)) }
         ensures left { AddsOnlyCrashStates S.StoreModel register.old.store register.new.store
             (λ m. S.IsUsable register.old.store × ((st : State)
             → Refines (S.content register.old.store) st
             → LeavesPrefix options.now.clock_route (S.failed register.old.store) st
             (connection_of self.old).unread (T.remaining ticks.old)
-            (connection_of self.old).unsent (connection_of self.new).unsent m)) }
+            (connection_of self.old).unsent (kept_of self.new).unsent m)) }
         ensures follows { RowsFollow S.StoreModel register.old.store register.new.store }
         ensures begins { BeginsNoGroup S.StoreModel register.old.store register.new.store }
         ensures ends { EndsNoGroup S.StoreModel register.old.store register.new.store }
     {
-        self.output.move_to_start();
+        self.output.clear();
         let input = self.input.as_slice();
         let output = &mut self.output.bytes;
         let result = executor.execute(
@@ -235,17 +240,18 @@ impl Connection {
             options,
             input,
             self.has_ended,
-            most,
+            limit,
             output,
         );
-        self.note_executed(&result);
+        self.ahead = Some(result);
         result
     }
 
     // Takes what was executed from the input.
     fn note_executed(&mut self, executed: &Result<Executed, Lost>)
-        ensures { connection_of self.new ≡ with_executed (connection_of self.old) executed.now
-            (connection_of self.old).unsent }
+        ensures connection { connection_of self.new ≡ with_executed (connection_of self.old)
+            executed.now (connection_of self.old).unsent }
+        ensures ahead { StaysInStep self.old self.new }
     {
         match executed {
             Ok(done) => {
@@ -257,86 +263,41 @@ impl Connection {
         }
     }
 
-    /// Executes the whole messages that have arrived, at most `most`, as `Executor::execute` does,
-    /// and appends their responses to `responses`. The connection stays as it is until
-    /// `take_executed`; without that, the same messages are executed by the next call.
-    ///
-    /// # Errors
-    ///
-    /// `Lost` if `responses` cannot grow.
-    pub fn execute_ahead<S: Store, T: Ticks>(
-        &self,
-        executor: &mut Executor,
-        register: &mut Register<S>,
-        ticks: &mut T,
-        options: &Options,
-        most: u64,
-        responses: &mut Vec<u8>,
-    ) -> Result<Executed, Lost>
-        ensures executes { S.IsUsable register.new.store → (st : State)
-            → Refines (S.content register.old.store) st
-            → Executes result options.now.clock_route most self.now.has_ended
-            (S.failed register.old.store) (S.failed register.new.store) st
-            (S.content register.new.store)
-            (record {
-              input = (connection_of self.now).unread;
-              unread = Some (drop (consumed_of result) (connection_of self.now).unread);
-              ticks_before = T.remaining ticks.old;
-              ticks_after = T.remaining ticks.new;
-              written_before = Some responses.old.items;
-              written_after = Some responses.new.items;
-            }) }
-        ensures within { IfOk result (λ done.
-            (done.consumed ≤ length (connection_of self.now).unread) × (done.count ≤ most)) }
-        ensures until { S.IsUsable register.old.store → S.HasHonestDevice register.new.store
-            → S.IsUsable register.new.store
-            ⊎ ((st : State) → Refines (S.content register.old.store) st
-            → WritesUntil options.now.clock_route (S.failed register.old.store) st
-            (connection_of self.now).unread (T.remaining ticks.old)
-            (Some responses.old.items) (Some responses.new.items)) }
-        ensures follows { RowsFollow S.StoreModel register.old.store register.new.store }
-        ensures begins { BeginsNoGroup S.StoreModel register.old.store register.new.store }
-        ensures ends { EndsNoGroup S.StoreModel register.old.store register.new.store }
+    /// Keeps what was executed ahead: the messages are no longer unread, and their responses are to
+    /// be sent.
+    pub fn keep_ahead(&mut self)
+        ensures kept { connection_of self.new ≡ kept_of self.old }
+        ensures ahead { HasNothingAhead self.new }
     {
-        let input = self.unread();
-        executor.execute(
-            register,
-            ticks,
-            options,
-            input,
-            self.has_ended(),
-            most,
-            responses,
-        )
+        if let Some(executed) = self.ahead.take() {
+            self.note_executed(&executed);
+        }
     }
 
-    /// Takes what `execute_ahead` executed: the messages are no longer unread, and `responses` are to
-    /// be sent. Without memory for them, they are lost, and the connection is `Phase::Lost`.
-    pub fn take_executed(&mut self, executed: &Result<Executed, Lost>, responses: &[u8])
-        ensures { (connection_of self.new ≡ with_executed (connection_of self.old) executed.now
-            ((connection_of self.old).unsent ++ responses.now))
-            ⊎ (connection_of self.new ≡ with_executed (connection_of self.old) (Err (record {
-              count = 0;
-            }))
-            (connection_of self.old).unsent) }
+    /// Drops what was executed ahead: its responses are not sent, and the messages are unread.
+    pub fn drop_ahead(&mut self)
+        ensures dropped { connection_of self.new ≡ connection_of self.old }
+        ensures ahead { HasNothingAhead self.new }
     {
-        if self.output.add(responses).is_ok() {
-            self.note_executed(executed);
-        } else {
-            self.phase = Phase::Lost;
+        if self.ahead.take().is_some() {
+            self.output.clear();
         }
     }
 
     /// Notes that the first `count` unsent bytes were sent: all of them if there are fewer.
     pub fn advance(&mut self, count: usize)
-        ensures { connection_of self.new ≡ with_sent (connection_of self.old) count }
+        ensures sent { connection_of self.new ≡ with_sent (connection_of self.old) count }
+        ensures ahead { StaysInStep self.old self.new }
     {
-        self.output.take(count);
+        if self.ahead.is_none() {
+            self.output.take(count);
+        }
     }
 
     /// Executes no further message. What is unsent is still to be sent.
     pub fn stop(&mut self)
-        ensures { connection_of self.new ≡ with_stop (connection_of self.old) }
+        ensures stopped { connection_of self.new ≡ with_stop (connection_of self.old) }
+        ensures ahead { StaysInStep self.old self.new }
     {
         if self.is_open() {
             self.phase = Phase::Stopped;

@@ -6,13 +6,13 @@ ghost use Rattle.http_messages.specs.Sending.{AppendsPrefix};
 ghost use Rattle.model.specs.State.{State};
 ghost use Rattle.register.specs.Refinement.{Refines};
 ghost use Rattle.settle.specs.StoreContract.{BeginsNoGroup, EndsNoGroup};
-ghost use Rattle.connections.specs.Connections.{connection_of, new_connection};
+ghost use Rattle.connections.specs.Connections.{HasNothingAhead, StaysInStep, connection_of, kept_of, new_connection};
 ghost use Rattle.connections.specs.Crashes.{LeavesContent, LeavesFirstMessages, LeavesFirstOf};
 ghost use Rattle.connections.specs.Feeding.{FeedsTo, GoesOn, IsSent, ReadsSome, Receives, io_of};
 ghost use Rattle.connections.specs.Rows.{RowsFollow};
 
 use crate::connection::{Connection, Phase};
-use api::{End, Executor, NoTicks, Options};
+use api::{End, Executor, NoTicks, Options, TurnLimit};
 use http_messages::send_whole;
 use register::Register;
 use settle::Store;
@@ -23,11 +23,11 @@ use std::io::{ErrorKind, Read, Write};
 // How many bytes are read at once.
 const READ_SIZE: usize = 65_536;
 
-// How many messages are executed between two looks at their responses.
-const SLICE: u64 = 8;
-
-// How many slices a group of commits has at most.
-const SLICES: usize = 32;
+// How much a group of commits takes.
+const GROUP: TurnLimit = TurnLimit {
+    messages: 256,
+    output: 65_536,
+};
 
 /// Why feeding ended early.
 #[derive(Clone, Copy, Debug, PartialEq, Eq)]
@@ -58,14 +58,16 @@ fn read_some<R: Read>(reader: &mut R, buffer: &mut [u8]) -> io::Result<usize>
     Err(ErrorKind::Other.into())
 }
 
-// Executes messages that have arrived: at most 256, and none while many bytes are unsent.
+// Executes messages that have arrived, ahead.
 fn execute_some<S: Store>(
     connection: &mut Connection,
     executor: &mut Executor,
     register: &mut Register<S>,
 )
+    requires ahead { HasNothingAhead connection.old }
     ensures goes_on { GoesOn S.StoreModel register.old.store register.new.store
-        (connection_of connection.old) (connection_of connection.new) }
+        (connection_of connection.old) (kept_of connection.new) }
+    ensures stays { connection_of connection.new ≡ connection_of connection.old }
     ensures follows { RowsFollow S.StoreModel register.old.store register.new.store }
     ensures left { LeavesFirstOf S.StoreModel register.old.store register.new.store
         (connection_of connection.old) }
@@ -73,12 +75,9 @@ fn execute_some<S: Store>(
     ensures ends { EndsNoGroup S.StoreModel register.old.store register.new.store }
 {
     let options = Options { clock_route: true };
-    for _ in 0..SLICES {
-        if !connection.has_work() {
-            break;
-        }
-        // A lost response has ended the connection.
-        let _ = connection.execute(executor, register, &mut NoTicks, &options, SLICE);
+    if connection.has_work() {
+        // A lost response ends the connection.
+        let _ = connection.execute_ahead(executor, register, &mut NoTicks, &options, GROUP);
     }
 }
 
@@ -93,7 +92,9 @@ struct Feeder {
 
 impl Feeder {
     fn new(alloc: Global) -> Result<Feeder, AllocError>
-        ensures { IfOk result (λ feeder. connection_of feeder.connection ≡ new_connection) }
+        ensures connection { IfOk result
+            (λ feeder. connection_of feeder.connection ≡ new_connection) }
+        ensures ahead { IfOk result (λ feeder. HasNothingAhead feeder.connection) }
     {
         Ok(Feeder {
             connection: Connection::new(alloc),
@@ -103,41 +104,46 @@ impl Feeder {
     }
 
     // Executes messages in one group of commits. Returns whether its commits last. If not, nothing
-    // has changed. It executes for a copy of the connection, which takes its place if they last.
+    // has changed.
     fn execute_group<S: Store>(&mut self, register: &mut Register<S>) -> bool
+        requires ahead { HasNothingAhead self.old.connection }
         ensures goes_on { GoesOn S.StoreModel register.old.store register.new.store
             (connection_of self.old.connection) (connection_of self.new.connection) }
         ensures follows { RowsFollow S.StoreModel register.old.store register.new.store }
         ensures left { LeavesFirstOf S.StoreModel register.old.store register.new.store
             (connection_of self.old.connection) }
+        ensures ahead { HasNothingAhead self.new.connection }
     {
-        let Ok(mut ahead) = self.connection.copy() else {
-            return false;
-        };
         let Ok(true) = register.begin_group() else {
             return false;
         };
-        execute_some(&mut ahead, &mut self.executor, register);
+        execute_some(&mut self.connection, &mut self.executor, register);
         match register.end_group() {
             Ok(()) => {
-                self.connection = ahead;
+                self.connection.keep_ahead();
                 true
             }
-            Err(_) => false,
+            Err(_) => {
+                self.connection.drop_ahead();
+                false
+            }
         }
     }
 
     // Executes messages in one group of commits. Without a group, or if it does not last, each of
     // them commits by itself.
     fn execute<S: Store>(&mut self, register: &mut Register<S>)
+        requires ahead { HasNothingAhead self.old.connection }
         ensures goes_on { GoesOn S.StoreModel register.old.store register.new.store
             (connection_of self.old.connection) (connection_of self.new.connection) }
         ensures follows { RowsFollow S.StoreModel register.old.store register.new.store }
         ensures left { LeavesFirstOf S.StoreModel register.old.store register.new.store
             (connection_of self.old.connection) }
+        ensures ahead { HasNothingAhead self.new.connection }
     {
         if !self.execute_group(register) {
             execute_some(&mut self.connection, &mut self.executor, register);
+            self.connection.keep_ahead();
         }
     }
 
@@ -148,6 +154,7 @@ impl Feeder {
         ensures part { OnErr result (AppendsPrefix (W.contents writer.old) (W.contents writer.new)
             (connection_of self.old.connection).unsent) }
         ensures fault { IfErr result (λ fault. fault ≡ FeedFault.Write) }
+        ensures ahead { StaysInStep self.old.connection self.new.connection }
     {
         let unsent = self.connection.unsent();
         let count = unsent.len();
@@ -161,8 +168,9 @@ impl Feeder {
 
     // Reads once.
     fn receive<R: Read>(&mut self, reader: &mut R) -> Result<(), FeedFault>
-        ensures { Receives result (R.remaining reader.old) (R.remaining reader.new)
+        ensures received { Receives result (R.remaining reader.old) (R.remaining reader.new)
             (connection_of self.old.connection) (connection_of self.new.connection) }
+        ensures ahead { StaysInStep self.old.connection self.new.connection }
     {
         match read_some(reader, &mut self.scratch) {
             Ok(0) => {

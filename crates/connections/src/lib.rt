@@ -13,7 +13,7 @@ mod schedule;
 mod server;
 
 pub use client::Client;
-pub use connection::{Connection, Phase, UNSENT_LIMIT};
+pub use connection::{Connection, Phase};
 pub use feeding::{FeedFault, feed};
 pub use limits::{Limits, Wait};
 pub use schedule::{Event, ScheduledEvent, play};

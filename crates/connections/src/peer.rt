@@ -9,7 +9,7 @@ ghost use Rattle.connections.specs.Waits.{limit_of, start_of, wait_of};
 use crate::connection::{Connection, Phase};
 use crate::limits::{Limits, Wait};
 use crate::log::{Ending, Summary};
-use api::{End, Executed, Executor, Lost, Options, Tally, Ticks};
+use api::{End, Executor, Options, Tally, Ticks, TurnLimit};
 use mio::event::Event;
 use mio::net::TcpStream;
 use register::Register;
@@ -18,7 +18,7 @@ use std::alloc::Global;
 use std::io;
 use std::io::{ErrorKind, Read, Write};
 use std::net::{Shutdown, SocketAddr};
-use std::time::{Clock, Duration};
+use std::time::Duration;
 
 /// How far a connection is from being closed.
 #[derive(Clone, Copy, Debug, PartialEq, Eq)]
@@ -57,8 +57,9 @@ pub struct Peer {
     address: SocketAddr,
     number: u64,
     accepted_at: Duration,
-    // What was executed.
+    // What was executed, and what was with that executed ahead.
     tally: Tally,
+    tally_ahead: Tally,
     // How it ended, if it has.
     ending: Option<Ending>,
     connection: Connection,
@@ -71,68 +72,6 @@ pub struct Peer {
     since: Duration,
     // When bytes were sent last, or began to wait.
     sent_at: Duration,
-}
-
-// How many messages are executed between two looks at the clock.
-const SLICE: u64 = 8;
-
-// How many slices a turn has at most.
-const SLICES: usize = 8;
-
-// How long a turn lasts at most, but for its first and its last slice, in milliseconds.
-const TURN: u64 = 1;
-
-/// What was executed for a connection ahead of the end of its group of commits.
-#[derive(Clone, Copy, Debug)]
-pub struct Ahead {
-    result: Result<Executed, Lost>,
-    tally: Tally,
-}
-
-impl Ahead {
-    /// Returns how many messages were answered.
-    pub fn count(&self) -> u64 {
-        match self.result {
-            Ok(executed) => executed.count,
-            Err(lost) => lost.count,
-        }
-    }
-}
-
-// Returns whether the time of a turn is over. At the first look, which begins it, it is not.
-fn is_over<C: Clock>(end: &mut Option<Duration>, clock: &C) -> bool {
-    let now = clock.monotonic().unwrap_or(Duration::MAX);
-    match *end {
-        None => {
-            *end = Some(now.saturating_add(Duration::from_millis(TURN)));
-            false
-        }
-        Some(end) => now >= end,
-    }
-}
-
-// Executes messages that have arrived until a turn is over. Returns whether it executed any.
-fn execute_some<S: Store, T: Ticks, C: Clock>(
-    connection: &mut Connection,
-    executor: &mut Executor,
-    register: &mut Register<S>,
-    ticks: &mut T,
-    clock: &C,
-) -> bool
-    ensures follows { RowsFollow S.StoreModel register.old.store register.new.store }
-{
-    let options = Options { clock_route: false };
-    let mut has_executed = false;
-    let mut end = None;
-    for _ in 0..SLICES {
-        if !connection.has_work() || has_executed && is_over(&mut end, clock) {
-            break;
-        }
-        if let Ok(executed) = connection.execute(executor, register, ticks, &options, SLICE) {
-            has_executed = has_executed || executed.count > 0;
-        }
-    }
-    has_executed
 }
 
 impl Peer {
@@ -150,6 +89,7 @@ impl Peer {
             number,
             accepted_at: now,
             tally: Tally::EMPTY,
+            tally_ahead: Tally::EMPTY,
             ending: None,
             connection: Connection::new(alloc),
             stage: Stage::Talking,
@@ -162,11 +102,6 @@ impl Peer {
             since: now,
             sent_at: now,
         }
-    }
-
-    /// Returns the connection.
-    pub fn connection(&self) -> &Connection {
-        &self.connection
     }
 
     /// Returns its number.
@@ -363,59 +298,57 @@ impl Peer {
         }
     }
 
-    /// Executes the messages of one turn: at most 64, for about a millisecond.
-    pub fn execute<S: Store, T: Ticks, C: Clock>(
+    /// Executes the messages of one turn ahead, within the limit.
+    pub fn execute_ahead<S: Store, T: Ticks>(
         &mut self,
         executor: &mut Executor,
         register: &mut Register<S>,
         ticks: &mut T,
-        clock: &C,
-        now: Duration,
+        limit: TurnLimit,
     )
-        ensures follows { RowsFollow S.StoreModel register.old.store register.new.store }
-    {
-        if !self.is_talking() {
-            return;
-        }
-        executor.tally = self.tally;
-        if execute_some(&mut self.connection, executor, register, ticks, clock) {
-            self.since = now;
-        }
-        self.tally = executor.tally;
-    }
-
-    /// Executes the messages of one turn, at most `most`, and appends their responses to
-    /// `responses`. The peer stays as it is until `take_executed`.
-    pub fn execute_ahead<S: Store, T: Ticks>(
-        &self,
-        executor: &mut Executor,
-        register: &mut Register<S>,
-        ticks: &mut T,
-        most: u64,
-        responses: &mut Vec<u8>,
-    ) -> Option<Ahead>
         ensures follows { RowsFollow S.StoreModel register.old.store register.new.store }
         ensures begins { BeginsNoGroup S.StoreModel register.old.store register.new.store }
         ensures ends { EndsNoGroup S.StoreModel register.old.store register.new.store }
     {
         if !self.is_talking() || !self.connection.has_work() {
-            return None;
+            return;
         }
         executor.tally = self.tally;
         let options = Options { clock_route: false };
-        let connection = &self.connection;
-        let result = connection.execute_ahead(executor, register, ticks, &options, most, responses);
-        let tally = executor.tally;
-        Some(Ahead { result, tally })
+        // A lost response ends the connection.
+        let _ = self
+            .connection
+            .execute_ahead(executor, register, ticks, &options, limit);
+        self.tally_ahead = executor.tally;
     }
 
-    /// Takes what `execute_ahead` executed, with its responses.
-    pub fn take_executed(&mut self, ahead: &Ahead, responses: &[u8], now: Duration) {
-        self.connection.take_executed(&ahead.result, responses);
-        self.tally = ahead.tally;
-        if ahead.count() > 0 {
+    /// Returns how many messages were executed ahead.
+    pub fn count_ahead(&self) -> u64 {
+        if self.connection.has_ahead() {
+            self.tally_ahead
+                .messages
+                .saturating_sub(self.tally.messages)
+        } else {
+            0
+        }
+    }
+
+    /// Keeps what was executed ahead. The responses are to be sent.
+    pub fn keep_ahead(&mut self, now: Duration) {
+        if !self.connection.has_ahead() {
+            return;
+        }
+        if self.count_ahead() > 0 {
             self.since = now;
         }
+        self.connection.keep_ahead();
+        self.tally = self.tally_ahead;
+        self.sent_at = now;
+    }
+
+    /// Drops what was executed ahead. The messages are unread.
+    pub fn drop_ahead(&mut self) {
+        self.connection.drop_ahead();
     }
 
     // Writes once.
@@ -458,18 +391,12 @@ impl Peer {
     }
 
     /// Writes once, if bytes are unsent, and ends the connection after its last response.
-    /// `had_unsent` says whether bytes were unsent before messages were executed.
-    pub fn write_more(&mut self, had_unsent: bool, now: Duration) {
+    pub fn write_more(&mut self, now: Duration) {
         if !self.is_talking() {
             return;
         }
-        if self.has_unsent() {
-            if !had_unsent {
-                self.sent_at = now;
-            }
-            if self.readiness.is_writable {
-                self.send(now);
-            }
+        if self.has_unsent() && self.readiness.is_writable {
+            self.send(now);
         }
         if self.is_talking() && !self.has_unsent() {
             self.end(now);

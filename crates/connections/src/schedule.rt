@@ -7,10 +7,13 @@ ghost use Rattle.connections.specs.Rows.{RowsFollow};
 ghost use Rattle.connections.specs.Schedules.{AreAnswered, Happens, HappensAt, HasTurn, IsAnswered, Plays, TakesSteps, TakesTurns, client_of, exchanges_at, with_arrived, with_ended, with_received};
 
 use crate::client::Client;
-use api::{Executor, Options, Ticks};
+use api::{Executor, Options, Ticks, TurnLimit};
 use register::Register;
 use settle::Store;
 use std::alloc::AllocError;
+
+// With more bytes of responses than this, a turn ends.
+const OUTPUT_LIMIT: usize = 65_536;
 
 /// What happens to a client.
 #[derive(Clone, Copy, Debug, PartialEq, Eq)]
@@ -19,7 +22,8 @@ pub enum Event {
     Arrives { count: usize },
     /// Its input ends: no more of its stream will arrive.
     Ends,
-    /// Its connection executes at most `most` messages, if it has work.
+    /// Its connection executes at most `most` messages, if it has work. Their responses are to be
+    /// sent.
     TakesTurn { most: u64 },
     /// It receives `count` bytes, or all that are to be sent.
     Receives { count: usize },
@@ -86,11 +90,16 @@ impl Client {
             (λ xs. IsAnswered (client_of self.new) (earlier ++ xs)) }
         ensures follows { RowsFollow S.StoreModel register.old.store register.new.store }
     {
+        let limit = TurnLimit {
+            messages: most,
+            output: OUTPUT_LIMIT,
+        };
         if self.connection.has_work() {
-            // A lost response has ended the connection.
+            // A lost response ends the connection.
             let _ = self
                 .connection
-                .execute(executor, register, ticks, options, most);
+                .execute_ahead(executor, register, ticks, options, limit);
+            self.connection.keep_ahead();
         }
     }
 

@@ -8,8 +8,8 @@ ghost use Rattle.connections.specs.Rows.{RowsFollow};
 use crate::acceptor::Acceptor;
 use crate::limits::{Limits, Wait};
 use crate::log::{Ending, log_connection, log_failure};
-use crate::peer::{Accepted, Ahead, Peer};
-use api::{Executor, Ticks};
+use crate::peer::{Accepted, Peer};
+use api::{Executor, Ticks, TurnLimit};
 use mio::net::TcpListener;
 use mio::{Events, Interest, Poll, Token};
 use register::Register;
@@ -31,11 +31,11 @@ const READ_SIZE: usize = 65_536;
 // How many events are taken at once.
 const EVENTS: usize = 256;
 
-// The most messages of one turn in a group of commits.
-const TURN: u64 = 64;
-
-// With more bytes of responses than this, a group of commits ends.
-const GROUP_RESPONSES: usize = 65_536;
+// How much a turn takes at most.
+const TURN: TurnLimit = TurnLimit {
+    messages: 64,
+    output: 65_536,
+};
 
 // How long the loop sleeps at most while all places are taken and a connection waits, in
 // milliseconds.
@@ -74,16 +74,6 @@ impl From<io::Error> for ServerFault {
     }
 }
 
-// A connection's turn in a group of commits: whether bytes were unsent before, what was executed,
-// and where its responses end among those of the group.
-#[derive(Clone, Copy, Debug)]
-struct GroupTurn {
-    key: usize,
-    had_unsent: bool,
-    ahead: Option<Ahead>,
-    end: usize,
-}
-
 // The connections, and what serving them needs.
 #[derive(Drop)]
 struct Server {
@@ -93,9 +83,8 @@ struct Server {
     // The keys of those with work.
     queue: VecDeque<usize>,
     executor: Executor,
-    // The turns of a group of commits, and the responses to their messages.
-    turns: Vec<GroupTurn>,
-    responses: Vec<u8>,
+    // The keys of those with a turn in the group of commits.
+    turns: Vec<usize>,
     scratch: Vec<u8>,
     limits: Limits,
     now: Duration,
@@ -119,7 +108,6 @@ impl Server {
             queue: VecDeque::with_capacity(alloc, limits.at_once)?,
             executor: Executor::new(alloc)?,
             turns: Vec::new(alloc),
-            responses: Vec::new(alloc),
             scratch: vec![in alloc; 0; READ_SIZE]?,
             limits,
             now: Duration::ZERO,
@@ -218,11 +206,11 @@ impl Server {
 
     // Writes once for a connection after its messages were executed. Then removes it if it is done,
     // or puts it into the queue if it has work.
-    fn end_turn<L: Write>(&mut self, key: usize, had_unsent: bool, log: &mut L) {
+    fn end_turn<L: Write>(&mut self, key: usize, log: &mut L) {
         let Some(peer) = self.peers.get_mut(key) else {
             return;
         };
-        peer.write_more(had_unsent, self.now);
+        peer.write_more(self.now);
         if peer.is_done() {
             log_connection(self.alloc, &peer.summary(self.now), log);
             drop(self.peers.try_remove(key));
@@ -232,22 +220,20 @@ impl Server {
         self.enqueue(key);
     }
 
-    // Begins the turn of a connection: reads once. Returns whether bytes were unsent before.
-    fn begin_turn(&mut self, key: usize) -> Option<bool> {
-        let peer = self.peers.get_mut(key)?;
-        peer.is_queued = false;
-        let had_unsent = !peer.connection().unsent().is_empty();
-        peer.read_more(&mut self.scratch, self.now);
-        Some(had_unsent)
+    // Begins the turn of a connection: reads once.
+    fn begin_turn(&mut self, key: usize) {
+        if let Some(peer) = self.peers.get_mut(key) {
+            peer.is_queued = false;
+            peer.read_more(&mut self.scratch, self.now);
+        }
     }
 
     // Executes some messages of a connection.
-    fn execute<S: Store, T: Ticks, C: Clock, L: Write>(
+    fn execute<S: Store, T: Ticks, L: Write>(
         &mut self,
         key: usize,
         register: &mut Register<S>,
         ticks: &mut T,
-        clock: &C,
         log: &mut L,
     )
         ensures follows { RowsFollow S.StoreModel register.old.store register.new.store }
@@ -256,34 +242,32 @@ impl Server {
             return;
         };
         let failures = register.failures();
-        peer.execute(&mut self.executor, register, ticks, clock, self.now);
+        peer.execute_ahead(&mut self.executor, register, ticks, TURN);
+        peer.keep_ahead(self.now);
         if register.failures() != failures {
             log_failure(self.alloc, peer.number(), register.failures(), log);
         }
     }
 
     // Gives each connection in the queue its turn: one read, some messages, one write.
-    fn turns_alone<S: Store, T: Ticks, C: Clock, L: Write>(
+    fn turns_alone<S: Store, T: Ticks, L: Write>(
         &mut self,
         register: &mut Register<S>,
         ticks: &mut T,
-        clock: &C,
         log: &mut L,
     )
         ensures follows { RowsFollow S.StoreModel register.old.store register.new.store }
     {
         for _ in 0..self.queue.len() {
-            if let Some(key) = self.queue.pop_front()
-                && let Some(had_unsent) = self.begin_turn(key)
-            {
-                self.execute(key, register, ticks, clock, log);
-                self.end_turn(key, had_unsent, log);
+            if let Some(key) = self.queue.pop_front() {
+                self.begin_turn(key);
+                self.execute(key, register, ticks, log);
+                self.end_turn(key, log);
             }
         }
     }
 
-    // Executes messages of a connection ahead of the end of their group, at most `most`. Returns how
-    // many.
+    // Executes messages of a connection ahead of the end of their group. Returns how many.
     fn execute_ahead<S: Store, T: Ticks>(
         &mut self,
         key: usize,
@@ -295,28 +279,20 @@ impl Server {
         ensures begins { BeginsNoGroup S.StoreModel register.old.store register.new.store }
         ensures ends { EndsNoGroup S.StoreModel register.old.store register.new.store }
     {
-        if self.turns.reserve(1).is_err() {
+        if self.turns.push(key).is_err() {
             let _ = self.queue.push_back(key);
             return 0;
         }
-        let Some(had_unsent) = self.begin_turn(key) else {
-            return 0;
+        self.begin_turn(key);
+        let limit = TurnLimit {
+            messages: most.min(TURN.messages),
+            output: TURN.output,
         };
-        let Some(peer) = self.peers.get(key) else {
-            return 0;
-        };
-        let responses = &mut self.responses;
-        let ahead = peer.execute_ahead(&mut self.executor, register, ticks, most, responses);
-        let end = self.responses.len();
-        let turn = GroupTurn {
-            key,
-            had_unsent,
-            ahead,
-            end,
-        };
-        let _ = self.turns.push(turn);
-        match ahead {
-            Some(ahead) => ahead.count(),
+        match self.peers.get_mut(key) {
+            Some(peer) => {
+                peer.execute_ahead(&mut self.executor, register, ticks, limit);
+                peer.count_ahead()
+            }
             None => 0,
         }
     }
@@ -329,11 +305,11 @@ impl Server {
     {
         let mut left = self.limits.group;
         for _ in 0..self.queue.len() {
-            if left == 0 || self.responses.len() > GROUP_RESPONSES {
+            if left == 0 {
                 break;
             }
             if let Some(key) = self.queue.pop_front() {
-                let executed = self.execute_ahead(key, register, ticks, left.min(TURN));
+                let executed = self.execute_ahead(key, register, ticks, left);
                 left = left.saturating_sub(executed);
             }
         }
@@ -341,42 +317,39 @@ impl Server {
 
     // Ends the turns of a group. If its commits last, its responses are sent. Otherwise each message
     // is executed again, and commits by itself.
-    fn end_turns<S: Store, T: Ticks, C: Clock, L: Write>(
+    fn end_turns<S: Store, T: Ticks, L: Write>(
         &mut self,
         lasts: bool,
         register: &mut Register<S>,
         ticks: &mut T,
-        clock: &C,
         log: &mut L,
     )
         ensures follows { RowsFollow S.StoreModel register.old.store register.new.store }
     {
         let mut turns = mem::replace(&mut self.turns, Vec::new(self.alloc));
-        let mut start = 0;
-        for turn in turns.iter() {
-            if !lasts {
-                self.execute(turn.key, register, ticks, clock, log);
-            } else if let Some(peer) = self.peers.get_mut(turn.key)
-                && let Some(ahead) = turn.ahead
-            {
-                let responses = self.responses.get(start..turn.end).unwrap_or(&[]);
-                peer.take_executed(&ahead, responses, self.now);
+        for key in turns.iter() {
+            if let Some(peer) = self.peers.get_mut(*key) {
+                if lasts {
+                    peer.keep_ahead(self.now);
+                } else {
+                    peer.drop_ahead();
+                }
             }
-            start = turn.end;
-            self.end_turn(turn.key, turn.had_unsent, log);
+            if !lasts {
+                self.execute(*key, register, ticks, log);
+            }
+            self.end_turn(*key, log);
         }
         turns.clear();
         self.turns = turns;
-        self.responses.clear();
     }
 
     // Gives the connections in the queue a turn each: if the store has groups of commits, as many as
     // one group takes.
-    fn turns<S: Store, T: Ticks, C: Clock, L: Write>(
+    fn turns<S: Store, T: Ticks, L: Write>(
         &mut self,
         register: &mut Register<S>,
         ticks: &mut T,
-        clock: &C,
         log: &mut L,
     )
         ensures follows { RowsFollow S.StoreModel register.old.store register.new.store }
@@ -389,19 +362,18 @@ impl Server {
         {
             self.turns_ahead(register, ticks);
             let ended = register.end_group();
-            self.end_turns(ended.is_ok(), register, ticks, clock, log);
+            self.end_turns(ended.is_ok(), register, ticks, log);
         } else {
-            self.turns_alone(register, ticks, clock, log);
+            self.turns_alone(register, ticks, log);
         }
     }
 
     // Gives each connection in the queue one turn. If the device failed meanwhile, looks whether the
     // store still answers.
-    fn round<S: Store, T: Ticks, C: Clock, L: Write>(
+    fn round<S: Store, T: Ticks, L: Write>(
         &mut self,
         register: &mut Register<S>,
         ticks: &mut T,
-        clock: &C,
         log: &mut L,
     ) -> Result<(), ServerFault>
         ensures follows { RowsFollow S.StoreModel register.old.store register.new.store }
@@ -410,7 +382,7 @@ impl Server {
         ensures memory { result ≢ Err ServerFault.NoMemory }
     {
         let failures = register.failures();
-        self.turns(register, ticks, clock, log);
+        self.turns(register, ticks, log);
         if register.failures() == failures {
             return Ok(());
         }
@@ -423,12 +395,9 @@ impl Server {
     // Gives each connection in the queue a turn without messages.
     fn last_turns<L: Write>(&mut self, log: &mut L) {
         for _ in 0..self.queue.len() {
-            if let Some(key) = self.queue.pop_front()
-                && let Some(peer) = self.peers.get_mut(key)
-            {
-                peer.is_queued = false;
-                peer.read_more(&mut self.scratch, self.now);
-                self.end_turn(key, true, log);
+            if let Some(key) = self.queue.pop_front() {
+                self.begin_turn(key);
+                self.end_turn(key, log);
             }
         }
     }
@@ -513,7 +482,7 @@ impl Server {
             }
             self.wait(events, clock)?;
             self.accept_new();
-            self.round(register, ticks, clock, log)?;
+            self.round(register, ticks, log)?;
             self.close_expired();
         }
         Ok(())

@@ -25,7 +25,7 @@ enum Turn {
     Awaits(usize),
     // The carrier applies its next download and acknowledges it.
     Follows,
-    // This is the number's routing in the copy; "" is none.
+    // This is the number's routing in the copy; the empty text for none.
     Has(&'static str),
 }
 

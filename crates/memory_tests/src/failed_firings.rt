@@ -1,13 +1,14 @@
 //! Tests windows that end together while the commit of each firing fails in turn.
 use crate::commands::add_creates;
-use crate::fixture::{new_register, open_register};
+use crate::fixture::new_register;
+use crate::over_flaky::{Commits, Failure, RegisterTask, over_flaky};
 use model::{Refusal, Status};
 use numbers::Spid;
 use register::Register;
 use settle::Store;
 use std::alloc::Global;
 use std::cell::Cell;
-use store::{CommitCounter, Failing, Flaky, MemoryStore};
+use store::{Failing, MemoryStore};
 
 // The number of versions.
 const COUNT: u64 = 10;
@@ -92,56 +93,53 @@ enum FetchOutcome {
     ReadFailed,
 }
 
-// The commits that the register asked for, and those that the store made.
-#[derive(Clone, Copy)]
-struct Commits<'a> {
-    requested: &'a Cell<u64>,
-    committed: &'a Cell<u64>,
-}
-
-// Fetches, and continues after a fetch that failed.
-fn fetch_and_recover<S: Store>(
-    register: &mut Register<S>,
+// A fetch, and what follows if it failed.
+#[derive(Drop)]
+struct Fetching<'a> {
     scenario: Scenario,
-    commits: Commits<'_>,
-) -> Option<FetchOutcome> {
-    let is_successful = is_fetch_successful(register)?;
-    let (requested, committed) = (commits.requested.get(), commits.committed.get());
-    if is_successful {
-        return if (requested, committed) == (COUNT, COUNT) {
-            Some(FetchOutcome::Succeeded)
-        } else {
+    commits: Commits<'a>,
+}
+
+impl RegisterTask for Fetching<'_> {
+    type Output = FetchOutcome;
+
+    fn run<S: Store>(&mut self, register: &mut Register<S>) -> Option<FetchOutcome> {
+        let is_successful = is_fetch_successful(register)?;
+        let (requested, committed) = (self.commits.requested.get(), self.commits.committed.get());
+        if is_successful {
+            return if (requested, committed) == (COUNT, COUNT) {
+                Some(FetchOutcome::Succeeded)
+            } else {
+                None
+            };
+        }
+        if !is_recovered(register, self.scenario)? {
             None
-        };
-    }
-    if !is_recovered(register, scenario)? {
-        None
-    } else if requested == committed {
-        Some(FetchOutcome::ReadFailed)
-    } else {
-        Some(FetchOutcome::CommitFailed(requested))
+        } else if requested == committed {
+            Some(FetchOutcome::ReadFailed)
+        } else {
+            Some(FetchOutcome::CommitFailed(requested))
+        }
     }
 }
 
-// Fetches over a store whose call number `before` + 1 fails. The first call opens the register.
+// Fetches over a store whose call number `before` + 1 fails.
 fn run_with_failure(
     alloc: Global,
     scenario: Scenario,
     commits: Commits<'_>,
     before: u64,
 ) -> Option<FetchOutcome> {
+    let store = store_after_creates(alloc, scenario.interval)?;
     commits.requested.set(0);
     commits.committed.set(0);
-    let inner = CommitCounter {
-        store: store_after_creates(alloc, scenario.interval)?,
-        commits: commits.committed,
+    let failure = Failure {
+        before,
+        failing: Failing::Once,
     };
-    let store = CommitCounter {
-        store: Flaky::new(inner, before, Failing::Once),
-        commits: commits.requested,
-    };
-    let mut register = open_register(alloc, store)?;
-    fetch_and_recover(&mut register, scenario, commits)
+    let mut task = Fetching { scenario, commits };
+    let (outcome, _) = over_flaky(alloc, store, failure, commits, &mut task)?;
+    Some(outcome)
 }
 
 // Returns how many firings failed, one in each run, from the first to the last.

@@ -164,7 +164,7 @@ fn is_answered(alloc: Global, story: &Story, exchanged: Option<Exchanged<'_>>) -
     is_answered_in(alloc, &mut register, story, exchanged)
 }
 
-// Returns the first place at which a failing reader or writer is answered differently, or 0 if
+// Returns the first place where a failing reader or writer is answered differently, or 0 if
 // interrupted ones are.
 fn first_wrong_place(alloc: Global) -> Option<Option<usize>> {
     let story = story_of_first_port(alloc)?;

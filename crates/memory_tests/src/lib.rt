@@ -36,7 +36,11 @@ mod numbers_tests;
 #[cfg(test)]
 mod opening;
 #[cfg(test)]
+mod over_flaky;
+#[cfg(test)]
 mod probing;
+#[cfg(test)]
+mod refusals;
 #[cfg(test)]
 mod retries;
 #[cfg(test)]

@@ -1,18 +1,43 @@
 //! Tests that a register counts the failures of its device, and says whether its store answers.
-use crate::fixture::open_register;
-use settle::StoreFault;
+use crate::over_flaky::{Commits, Failure, RegisterTask, over_flaky};
+use register::Register;
+use settle::{Store, StoreFault};
 use std::alloc::Global;
-use store::{Failing, Flaky, MemoryStore};
+use std::cell::Cell;
+use store::{Failing, MemoryStore};
 
-// Probes a register twice whose device fails at the first call after it is opened. Returns what
-// each probe said, and the count of failures after it.
-fn probe_twice(alloc: Global) -> Option<[(Result<(), StoreFault>, u64); 2]> {
-    let store = Flaky::new(MemoryStore::new(alloc), 2, Failing::Once);
-    let mut register = open_register(alloc, store)?;
-    let first = register.probe();
-    let count = register.failures();
-    let second = register.probe();
-    Some([(first, count), (second, register.failures())])
+// What a probe said, and the count of failures after it.
+type Probe = (Result<(), StoreFault>, u64);
+
+// Two probes.
+#[derive(Drop)]
+struct ProbesTwice;
+
+impl RegisterTask for ProbesTwice {
+    type Output = [Probe; 2];
+
+    fn run<S: Store>(&mut self, register: &mut Register<S>) -> Option<[Probe; 2]> {
+        let first = register.probe();
+        let count = register.failures();
+        let second = register.probe();
+        Some([(first, count), (second, register.failures())])
+    }
+}
+
+// Probes a register twice whose device fails at the first call after it is opened.
+fn probe_twice(alloc: Global) -> Option<[Probe; 2]> {
+    let (requested, committed) = (Cell::new(0), Cell::new(0));
+    let commits = Commits {
+        requested: &requested,
+        committed: &committed,
+    };
+    let failure = Failure {
+        before: 2,
+        failing: Failing::Once,
+    };
+    let store = MemoryStore::new(alloc);
+    let (probes, _) = over_flaky(alloc, store, failure, commits, &mut ProbesTwice)?;
+    Some(probes)
 }
 
 #[test]

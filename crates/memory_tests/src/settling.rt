@@ -1,11 +1,12 @@
 //! Tests what a call settles: the subjects that it reads, and no other.
 use crate::commands::add_creates;
-use crate::fixture::{Exchange, encode_request, encode_response, is_answered, open_register};
+use crate::fixture::{Exchange, encode_request, encode_response, is_answered};
+use crate::over_flaky::{Commits, Failure, RegisterTask, over_flaky};
 use register::Register;
 use settle::Store;
 use std::alloc::Global;
 use std::cell::Cell;
-use store::{CommitCounter, MemoryStore};
+use store::MemoryStore;
 
 // A request, the status of its response, and how many commits it makes.
 type Step = (Exchange<'static>, &'static str, u64);
@@ -79,34 +80,47 @@ fn is_step_answered<S: Store>(
     Some(is_answered(alloc, register, request.as_str(), expected.as_str()))
 }
 
-// Returns the first step with another response, or another number of commits, after a thousand
-// creates whose windows have ended.
-fn first_wrong_step<S: Store>(
+// The steps, and the commits that they ask for.
+#[derive(Drop)]
+struct Settling<'a> {
     alloc: Global,
-    register: &mut Register<S>,
-    commits: &Cell<u64>,
-) -> Option<Option<usize>> {
-    add_creates(alloc, register, (1000, 0, 120))?;
-    for (index, step) in STEPS.iter().enumerate() {
-        commits.set(0);
-        if is_step_answered(alloc, register, step) != Some(true) || commits.get() != step.2 {
-            return Some(Some(index));
-        }
-    }
-    Some(None)
+    commits: &'a Cell<u64>,
 }
 
-fn settle_and_check(alloc: Global, commits: &Cell<u64>) -> Option<Option<usize>> {
-    let store = CommitCounter {
-        store: MemoryStore::new(alloc),
-        commits,
+impl RegisterTask for Settling<'_> {
+    type Output = Option<usize>;
+
+    // Returns the first step with another response, or another number of commits, after a thousand
+    // creates whose windows have ended.
+    fn run<S: Store>(&mut self, register: &mut Register<S>) -> Option<Option<usize>> {
+        add_creates(self.alloc, register, (1000, 0, 120))?;
+        for (index, step) in STEPS.iter().enumerate() {
+            self.commits.set(0);
+            let is_right = is_step_answered(self.alloc, register, step) == Some(true);
+            if !is_right || self.commits.get() != step.2 {
+                return Some(Some(index));
+            }
+        }
+        Some(None)
+    }
+}
+
+fn settle_and_check(alloc: Global) -> Option<Option<usize>> {
+    let (requested, committed) = (Cell::new(0), Cell::new(0));
+    let commits = Commits {
+        requested: &requested,
+        committed: &committed,
     };
-    let mut register = open_register(alloc, store)?;
-    first_wrong_step(alloc, &mut register, commits)
+    let mut task = Settling {
+        alloc,
+        commits: &requested,
+    };
+    let store = MemoryStore::new(alloc);
+    let (wrong, _) = over_flaky(alloc, store, Failure::NONE, commits, &mut task)?;
+    Some(wrong)
 }
 
 #[test]
 fn a_call_settles_only_what_it_reads(rt: HostRuntime) {
-    let commits = Cell::new(0);
-    assert_eq!(rt; settle_and_check(rt.alloc(), &commits), Some(None));
+    assert_eq!(rt; settle_and_check(rt.alloc()), Some(None));
 }

@@ -273,7 +273,7 @@ fn first_wrong_row(alloc: Global) -> Option<usize> {
     None
 }
 
-// Returns a store in which a version is sent to two carriers.
+// Returns a store after a version was sent to two carriers.
 fn store_with_broadcast(alloc: Global) -> Option<MemoryStore> {
     let mut register = new_register(alloc)?;
     match are_answered(alloc, &mut register, &FIRST_PORT[..8]) {

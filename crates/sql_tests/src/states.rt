@@ -128,7 +128,7 @@ pub fn find_state(
     Some(state)
 }
 
-/// Returns whether each of so many states was found.
+/// Returns whether each of the first `count` states was found.
 pub fn are_all_reached(count: usize, judged: &[JudgedFiles]) -> bool {
     for state in 0..count {
         let mut is_reached = false;

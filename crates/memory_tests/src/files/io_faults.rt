@@ -11,9 +11,8 @@ use std::alloc::Global;
 // A row of a file of commands, its line of the report, and its line if it is cut.
 type Row = (&'static [u8], &'static str, &'static str);
 
-// Three commands. Then a bad row and what comes after it: a quote inside a field, a byte that is
-// not UTF-8, and a quote that opens a field and never closes, so that its row is the rest of the
-// file.
+// Three commands, and a bad row: a quote inside a field, a byte that is not UTF-8, and a quote that
+// opens a field and never closes, so that its row is the rest of the file.
 static FILES: [&[Row]; 4] = [
     &[
         (

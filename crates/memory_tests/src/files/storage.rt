@@ -5,18 +5,17 @@
 //! executed and no others. Over the mended store, the rest of the file is answered as if nothing
 //! had failed. An export or an audit that meets it writes nothing, and the next is whole.
 use crate::files::fixture::{
-    HEADER, MODIFIES, MODIFIES_REPORT, MemoryRegister, PORTS, PORTS_REPORT, Preparation,
-    REPORT_HEADER, Task, prepared_register, write_file,
+    HEADER, MODIFIES, MODIFIES_REPORT, PORTS, PORTS_REPORT, Preparation, REPORT_HEADER, Task,
+    prepared_register, write_file,
 };
 use crate::fixture::open_register;
+use crate::over_flaky::{Commits, Failure, RegisterTask, over_flaky};
 use bulk::{BulkFault, FaultKind};
 use register::Register;
 use settle::Store;
 use std::alloc::Global;
-use store::{Failing, Flaky, MemoryStore};
-
-/// A register over a store that fails at one call, or from then on.
-type FlakyRegister = Register<Flaky<MemoryStore>>;
+use std::cell::Cell;
+use store::Failing;
 
 // A register, what is done with a file, what is written, and the result.
 #[derive(Clone, Copy)]
@@ -109,7 +108,7 @@ static PORTS_RUN: Case = Case {
     rests: &[],
 };
 
-// Files with bad rows, of which some make no call.
+// Files with bad rows. Some make no call.
 static BAD_ROWS: [Case; 8] = [
     Case {
         preparation: Preparation::Carriers,
@@ -383,21 +382,6 @@ static WRITINGS: [Case; 23] = [
     },
 ];
 
-// Opens the prepared store again, with a call that fails. The first call opens the register.
-fn flaky_register(
-    alloc: Global,
-    preparation: Preparation,
-    before: u64,
-    failing: Failing,
-) -> Option<FlakyRegister> {
-    let store = prepared_register(alloc, preparation)?.close();
-    open_register(alloc, Flaky::new(store, before, failing))
-}
-
-fn mended_register(alloc: Global, register: FlakyRegister) -> Option<MemoryRegister> {
-    open_register(alloc, register.close().into_store())
-}
-
 // Returns the end of the first `count` lines.
 fn end_of_lines(text: &str, count: usize) -> usize {
     let mut lines = 0;
@@ -506,34 +490,65 @@ fn is_rest_written<S: Store>(
     Some(is_whole_run(alloc, register, file.as_str(), report.as_str()))
 }
 
-// Returns whether the rest is written over the mended store. Before, a store that still fails must
-// do so again.
-fn is_rest_written_mended(
+// What became of a file whose store fails.
+#[derive(Clone, Copy)]
+enum Outcome {
+    // It was written before a call failed.
+    Whole,
+    // A call failed once, and then the rest was written.
+    Continued,
+    // The calls fail from the one after this many commands on.
+    Stopped(usize),
+}
+
+// A file, and how its store fails.
+#[derive(Drop)]
+struct Writing<'a> {
     alloc: Global,
-    mut register: FlakyRegister,
+    case: &'a Case,
     failing: Failing,
-    case: &Case,
-    executed: usize,
-) -> Option<bool> {
-    if failing == Failing::Once {
-        return is_rest_written(alloc, &mut register, case, executed);
+}
+
+impl RegisterTask for Writing<'_> {
+    type Output = Outcome;
+
+    fn run<S: Store>(&mut self, register: &mut Register<S>) -> Option<Outcome> {
+        let Some(executed) = lines_until_failure(self.alloc, register, self.case)? else {
+            return Some(Outcome::Whole);
+        };
+        match self.failing {
+            Failing::Once => is_rest_written(self.alloc, register, self.case, executed)?.then_some(
+                Outcome::Continued,
+            ),
+            Failing::Always => {
+                lines_until_failure(self.alloc, register, self.case)??;
+                Some(Outcome::Stopped(executed))
+            }
+        }
     }
-    let fails_again = lines_until_failure(alloc, &mut register, case).flatten();
-    let mut mended = mended_register(alloc, register)?;
-    let is_written = is_rest_written(alloc, &mut mended, case, executed);
-    is_written.map(|is_written| is_written && fails_again.is_some())
 }
 
 // Returns whether the call number `before` + 1 failed, and the rest was written over the mended
 // store.
-fn is_failure_reported(alloc: Global, case: &Case, before: u64, failing: Failing) -> Option<bool> {
-    let mut register = flaky_register(alloc, case.preparation, before, failing)?;
-    match lines_until_failure(alloc, &mut register, case) {
-        None => None,
-        Some(None) => Some(false),
-        Some(Some(executed)) => {
-            let is_written = is_rest_written_mended(alloc, register, failing, case, executed);
-            is_written.filter(|is_written| *is_written)
+fn is_failure_reported(alloc: Global, case: &Case, failure: Failure) -> Option<bool> {
+    let (requested, committed) = (Cell::new(0), Cell::new(0));
+    let commits = Commits {
+        requested: &requested,
+        committed: &committed,
+    };
+    let mut task = Writing {
+        alloc,
+        case,
+        failing: failure.failing,
+    };
+    let store = prepared_register(alloc, case.preparation)?.close();
+    let (outcome, store) = over_flaky(alloc, store, failure, commits, &mut task)?;
+    match outcome {
+        Outcome::Whole => Some(false),
+        Outcome::Continued => Some(true),
+        Outcome::Stopped(executed) => {
+            let mut mended = open_register(alloc, store)?;
+            is_rest_written(alloc, &mut mended, case, executed)?.then_some(true)
         }
     }
 }
@@ -542,7 +557,7 @@ fn is_failure_reported(alloc: Global, case: &Case, before: u64, failing: Failing
 fn count_failures(alloc: Global, case: &Case, failing: Failing) -> Option<u64> {
     let mut failures = 0u64;
     for before in 1..u64::MAX {
-        if !is_failure_reported(alloc, case, before, failing)? {
+        if !is_failure_reported(alloc, case, Failure { before, failing })? {
             return Some(failures);
         }
         failures = failures.saturating_add(1);

@@ -3,7 +3,7 @@ use Rattle.model.specs.State.{State}
 use Rattle.register.specs.Refinement.{Refines}
 use Rattle.connections.specs.Crashes.{LeavesFirstMessages}
 use Rattle.connections.specs.Rows.{RowsFollow}
-use Rattle.connections.specs.Connections.{ConnectionModel, connection_of}
+use Rattle.connections.specs.Connections.{ConnectionModel, HasNothingAhead, connection_of}
 use Rattle.connections.proofs.FedEnds.{Fed, at_break, at_end, fed_nothing, moved, not_begun, not_received, not_sent, received, sent, unsent_received, unsent_sent, went}
 use Rattle.connections.proofs.LeftFed.{left_fed}
 use Rattle.connections.proofs.RowsLemmas.{rows_last, rows_stay, rows_then}
@@ -19,11 +19,12 @@ pub loop-init : goal.loop-init
 loop-init g c = record {
   follows = rows_stay g.S.StoreModel c.args.register.now.store;
   left = λ honest m may. inl may;
-  sent = ap (λ (m : ConnectionModel). m.unsent) c.in-Ok.ensures;
+  ahead = c.in-Ok.ensures.ahead;
+  sent = ap (λ (m : ConnectionModel). m.unsent) c.in-Ok.ensures.connection;
   fed = λ usable st refines. fed_nothing (g.S.StoreModel.failed c.args.register.now.store) st
       (g.W.Write.contents c.args.writer.now) (g.R.Read.remaining c.args.reader.now)
       (g.S.StoreModel.content c.args.register.now.store)
-      (connection_of c.in-Ok.feeder.connection) c.in-Ok.ensures refines;
+      (connection_of c.in-Ok.feeder.connection) c.in-Ok.ensures.connection refines;
 }
 
 pub returns-in-Ended-clause-feeds : goal.returns-in-Ended-clause-feeds
@@ -53,7 +54,7 @@ returns-in-Err-clause-feeds g c = λ usable st refines.
     (g.S.StoreModel.content c.loop.register.store) (g.R.Read.remaining c.loop.reader)
     (g.R.Read.remaining c.receive.new.reader) (g.W.Write.contents c.loop.writer)
     (connection_of c.loop.feeder.connection) (connection_of c.receive.new.self.connection)
-    c.receive.result _ c.in-Err.is c.receive.ensures
+    c.receive.result _ c.in-Err.is c.receive.ensures.received
     (sym c.wants_input.ensures ∙ c.if-wants_input.true) c.loop.invariant.sent
     (c.loop.invariant.fed usable st refines)
 
@@ -106,13 +107,20 @@ loop-preserved g c =
           w.execute.ensures.follows.honest c.loop.invariant.follows.usable c.loop.invariant.fed
           c.loop.invariant.left w.execute.ensures.left)
     ] in
+    let ahead : HasNothingAhead c.if-wants_input.feeder.connection =
+    elim c.if-wants_input.branch [
+      | then-wants_input+in-Ok-receive w ↦ subst (λ f. HasNothingAhead f.connection)
+          (sym w.feeder-is) (w.receive.ensures.ahead c.loop.invariant.ahead)
+      | in-Open-2+in-Ok-send w ↦ subst (λ f. HasNothingAhead f.connection) (sym w.feeder-is)
+          (w.send.ensures.ahead w.execute.ensures.ahead)
+    ] in
     let sends : (connection_of c.if-wants_input.feeder.connection).unsent ≡ [] =
     elim c.if-wants_input.branch [
       | then-wants_input+in-Ok-receive w ↦
           subst (λ f. (connection_of f.connection).unsent ≡ []) (sym w.feeder-is)
           (unsent_received (g.R.Read.remaining c.loop.reader)
           (g.R.Read.remaining w.receive.new.reader) before
-          (connection_of w.receive.new.self.connection) w.in-Ok-receive.ensures
+          (connection_of w.receive.new.self.connection) w.in-Ok-receive.ensures.received
           c.loop.invariant.sent)
       | in-Open-2+in-Ok-send w ↦
           subst (λ f. (connection_of f.connection).unsent ≡ []) (sym w.feeder-is)
@@ -139,7 +147,7 @@ loop-preserved g c =
           (g.W.Write.contents c.loop.writer) before
           (c.loop.invariant.fed usable st refines) (g.R.Read.remaining w.receive.new.reader)
           (connection_of w.receive.new.self.connection)
-          (sym c.wants_input.ensures ∙ w.if-wants_input.true) w.in-Ok-receive.ensures)
+          (sym c.wants_input.ensures ∙ w.if-wants_input.true) w.in-Ok-receive.ensures.received)
       | in-Open-2+in-Ok-send w ↦
           moved (λ r reader writer f. store.IsUsable r.store → (st : State)
           → Refines (store.content start) st
@@ -158,7 +166,7 @@ loop-preserved g c =
           (g.W.Write.contents w.send.new.writer) (connection_of w.send.new.self.connection)
           w.in-Ok-send.ensures.sent)
     ] in
-    record { follows = follows; left = left; sent = sends; fed = fed }
+    record { follows = follows; left = left; ahead = ahead; sent = sends; fed = fed }
 
 pub returns-in_default-clause-left : goal.returns-in_default-clause-left
 returns-in_default-clause-left g c = λ honest m may. inl may

@@ -1,7 +1,7 @@
 use Rattle.std.proofs.Common.{◌≡◌, []}
 use Rattle.model.specs.State.{State}
 use Rattle.register.specs.Refinement.{Refines}
-use Rattle.connections.specs.Connections.{connection_of}
+use Rattle.connections.specs.Connections.{HasNothingAhead, connection_of}
 use Rattle.connections.specs.Crashes.{LeavesFirstMessages}
 use Rattle.connections.specs.Rows.{RowsFollow}
 use Rattle.connections.proofs.FedEnds.{Fed}
@@ -12,6 +12,7 @@ invariant-loop g l = record {
   follows : RowsFollow g.S.StoreModel l.fn.register.store l.register.store;
   left : LeavesFirstMessages g.S.StoreModel l.fn.register.store l.register.store
       (g.R.Read.remaining l.fn.reader);
+  ahead : HasNothingAhead l.feeder.connection;
   sent : (connection_of l.feeder.connection).unsent ≡ [];
   fed : g.S.StoreModel.IsUsable l.register.store → (st : State)
       → Refines (g.S.StoreModel.content l.fn.register.store) st

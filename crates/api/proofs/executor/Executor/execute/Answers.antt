@@ -1,20 +1,21 @@
-use Rattle.std.proofs.Common.{◌≡◌, ℕ, ◌+◌, List, [], Some, append-nil, drop, string_bytes, not, sym, ap, ◌∙◌, subst, arith, length-drop}
+use Rattle.std.proofs.Common.{◌≡◌, inr, ℕ, ◌+◌, List, [], Some, append-nil, drop, string_bytes, not, sym, ap, ◌∙◌, subst, arith, length-drop}
 use Rattle.std.proofs.Math.Nat.{le_trans}
 use Rattle.http_messages.specs.Arrived.{HasArrived}
 use Rattle.http_messages.specs.Sending.{AppendsPrefix}
 use Rattle.api.specs.Crashes.{LeavesNext}
-use Rattle.api.specs.Executing.{body_of}
+use Rattle.api.specs.Executing.{ExecutesTo, HasNoMessage, body_of}
 use Rattle.api.specs.Serving.{Responds}
+use Rattle.api.specs.declared.executor.Progress.TheVariants.{Paused}
 use Rattle.api.proofs.Going.{Progress, ends_with, parted, state_then, went_on, whole_to}
 use Rattle.api.proofs.Left.{Leaves, left_on}
 use Rattle.api.proofs.NextLemmas.{next_within}
-use Rattle.api.proofs.RunLemmas.{appended, dropped_more, ends_at, next_here, not_appended, nothing_appended, pauses_at, reads_so, rest_is, stops_at, unread_after}
+use Rattle.api.proofs.RunLemmas.{appended, dropped_more, ends_at, next_here, not_appended, no_more, nothing_appended, nothing_whole, pauses_at, reads_so, rest_is, stops_at, unread_after}
 use Rattle.api.proofs.Withheld.{already, further, further_partly, still, stopped, stopped_partly, stops}
 use Rattle.api.proofs.executor.Executor.execute.Goals as goal
 
 pub returns-in-Err-clause-executes : goal.returns-in-Err-clause-executes
 returns-in-Err-clause-executes g c =
-    λ usable st s. stops_at _ _ _ _ _ _ _ _ _ (drop c.loop-count.consumed c.args.input.now)
+    λ usable st s. stops_at _ _ _ _ _ _ _ _ (drop c.loop-count.consumed c.args.input.now)
     c.next_arrived-arrived.result c.in-Err.progress
     (subst (λ b. HasArrived b c.args.has_ended c.next_arrived-arrived.result) (rest_is
     c.args.input.now c.loop-count.consumed) c.next_arrived-arrived.ensures.arrived) c.in-Err.ensures
@@ -158,7 +159,7 @@ returns-in-Some-clause-executes g c =
     λ usable st s.
     let at = c.loop-count.invariant.5 (c.respond-end.ensures.usable usable) in
     let ends = sym c.respond-end.ensures.end ∙ c.in-Some.is in
-    ends_at _ _ _ _ _ _ _ _ _ c.args.input.now c.loop-count.consumed c.next_arrived-arrived.result
+    ends_at _ _ _ _ _ _ _ _ c.args.input.now c.loop-count.consumed c.next_arrived-arrived.result
     c.in-Ok.next c.in-Some.end (subst (λ b. HasArrived b c.args.has_ended
     c.next_arrived-arrived.result) (rest_is c.args.input.now c.loop-count.consumed)
     c.next_arrived-arrived.ensures.arrived) c.in-Ok.ensures ends
@@ -384,14 +385,21 @@ loop-count-preserved g c =
           (appended c.loop-count.output.items c.extend_from_slice.new.self.items _ _ _
           c.extend_from_slice.ensures.items (c.is_err.ensures.negation ∙ ap not c.if-is_err.false)
           c.as_bytes.ensures.value),
+      λ none. absurd (no_more c.loop-count.count none),
+      inr (
+        c.loop-count.output.items,
+        string_bytes c.respond-end.new.self.response.text,
+        appended c.loop-count.output.items c.extend_from_slice.new.self.items _ _ _
+            c.extend_from_slice.ensures.items
+            (c.is_err.ensures.negation ∙ ap not c.if-is_err.false) c.as_bytes.ensures.value,
+        omega (arith, c.if-len-limit.false),
+      ),
     )
 
-pub returns-clause-executes : goal.returns-clause-executes
-returns-clause-executes g c =
-    let last : c.loop-count.count ≡ c.args.most =
-    omega (arith, c.loop-count-test.false, c.loop-count.auto.count-end) in
-    λ usable st s. pauses_at _ _ c.args.has_ended _ _ _ _ _ _ (drop c.loop-count.consumed
-    c.args.input.now) last
+pub returns-then-len-limit-clause-executes : goal.returns-then-len-limit-clause-executes
+returns-then-len-limit-clause-executes g c =
+    λ usable st s. pauses_at _ c.args.has_ended _ _ _ _ _ _ (drop c.loop-count.consumed
+    c.args.input.now)
     (whole_to c.args.options.now.clock_route (g.S.StoreModel.failed c.args.register.now.store)
     (g.S.StoreModel.failed c.loop-count.register.store) (g.S.StoreModel.content
     c.args.register.now.store) (g.S.StoreModel.content c.loop-count.register.store) (Some
@@ -399,6 +407,51 @@ returns-clause-executes g c =
     c.args.output.now.items) (Some c.loop-count.output.items) (g.T.Ticks.remaining c.args.ticks.now)
     (g.T.Ticks.remaining c.loop-count.ticks) c.loop-count.count (c.loop-count.invariant.5 usable)
     (Some (drop c.loop-count.consumed c.args.input.now)) st s)
+
+pub returns-then-len-limit-clause-until : goal.returns-then-len-limit-clause-until
+returns-then-len-limit-clause-until g c =
+    λ usable honest. already (c.loop-count.invariant.4 usable honest) (stops
+    c.args.options.now.clock_route (g.S.StoreModel.failed c.args.register.now.store)
+    (g.S.StoreModel.content c.args.register.now.store) (Some c.args.input.now) (Some
+    c.args.output.now.items) (g.T.Ticks.remaining c.args.ticks.now) (Some
+    c.loop-count.output.items))
+
+pub returns-in-Err-clause-progress : goal.returns-in-Err-clause-progress
+returns-in-Err-clause-progress g c = λ none some within.
+    let at = (c.loop-count.invariant.9 none).0 in (
+      at,
+      subst (λ (n : ℕ). HasNoMessage c.in-Err.progress c.args.has_ended (drop n c.args.input.now))
+          at
+          (nothing_whole c.args.has_ended (drop c.loop-count.consumed c.args.input.now)
+          c.next_arrived-arrived.result c.in-Err.progress
+          (subst (λ b. HasArrived b c.args.has_ended c.next_arrived-arrived.result) (rest_is
+          c.args.input.now c.loop-count.consumed) c.next_arrived-arrived.ensures.arrived)
+          c.in-Err.ensures),
+    )
+
+pub returns-clause-executes : goal.returns-clause-executes
+returns-clause-executes g c =
+    let last : c.loop-count.count ≡ c.args.limit.messages =
+    omega (arith, c.loop-count-test.false, c.loop-count.auto.count-end) in
+    λ usable st s. subst (λ (k : ℕ). ExecutesTo Paused c.args.options.now.clock_route
+    c.args.has_ended (g.S.StoreModel.failed c.args.register.now.store)
+    (g.S.StoreModel.failed c.loop-count.register.store) st
+    (g.S.StoreModel.content c.loop-count.register.store) (record {
+      input = c.args.input.now;
+      unread = Some (drop c.loop-count.consumed c.args.input.now);
+      ticks_before = g.T.Ticks.remaining c.args.ticks.now;
+      ticks_after = g.T.Ticks.remaining c.loop-count.ticks;
+      written_before = Some c.args.output.now.items;
+      written_after = Some c.loop-count.output.items;
+    }) k (drop c.loop-count.consumed c.args.input.now)) last
+    (pauses_at _ c.args.has_ended _ _ _ _ _ _ (drop c.loop-count.consumed c.args.input.now)
+    (whole_to c.args.options.now.clock_route (g.S.StoreModel.failed c.args.register.now.store)
+    (g.S.StoreModel.failed c.loop-count.register.store) (g.S.StoreModel.content
+    c.args.register.now.store) (g.S.StoreModel.content c.loop-count.register.store) (Some
+    c.args.input.now) (Some (drop c.loop-count.consumed c.args.input.now)) (Some
+    c.args.output.now.items) (Some c.loop-count.output.items) (g.T.Ticks.remaining c.args.ticks.now)
+    (g.T.Ticks.remaining c.loop-count.ticks) c.loop-count.count (c.loop-count.invariant.5 usable)
+    (Some (drop c.loop-count.consumed c.args.input.now)) st s))
 
 pub returns-clause-until : goal.returns-clause-until
 returns-clause-until g c =

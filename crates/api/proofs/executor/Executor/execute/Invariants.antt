@@ -1,5 +1,6 @@
-use Rattle.std.proofs.Common.{◌⊎◌, ◌≤◌, drop, length, Some}
+use Rattle.std.proofs.Common.{◌≡◌, ◌⊎◌, ◌≤◌, drop, length, Some}
 use Rattle.settle.specs.StoreContract.{BeginsNoGroup, EndsNoGroup}
+use Rattle.api.specs.Executing.{StaysWithin}
 use Rattle.api.proofs.Going.{Progress}
 use Rattle.api.proofs.Left.{IsOfPrefix, Leaves}
 use Rattle.api.proofs.Withheld.{Past}
@@ -29,3 +30,5 @@ invariant-loop-count g l =
     (IsOfPrefix l.fn.options.clock_route (g.S.StoreModel.failed l.fn.register.store)
     (g.S.StoreModel.content l.fn.register.store) l.fn.input (g.T.Ticks.remaining l.fn.ticks)
     l.fn.output.items l.output.items)
+    × ((l.count ≡ 0) → (l.consumed ≡ 0) × (l.output ≡ l.fn.output))
+    × StaysWithin l.fn.limit.output l.fn.output.items l.output.items

@@ -1,3 +1,6 @@
+use Rattle.std.proofs.Common.{sym, subst}
+use Rattle.connections.specs.Connections.{connection_of}
+use Rattle.connections.specs.Feeding.{GoesOn}
 use Rattle.connections.proofs.Fed.{goes_then}
 use Rattle.connections.proofs.LeftFed.{left_then}
 use Rattle.connections.proofs.RowsLemmas.{rows_then}
@@ -5,9 +8,11 @@ use Rattle.connections.proofs.feeding.Feeder.execute.Goals as goal
 
 pub returns-then-not-execute_group-clause-goes_on : goal.returns-then-not-execute_group-clause-goes_on
 returns-then-not-execute_group-clause-goes_on g c =
-    goes_then g.S.StoreModel c.args.register.now.store c.execute_group.new.register.store
+    subst (GoesOn g.S.StoreModel c.args.register.now.store c.execute_some.new.register.store
+    (connection_of c.args.self.now.connection)) (sym c.keep_ahead.ensures.kept)
+    (goes_then g.S.StoreModel c.args.register.now.store c.execute_group.new.register.store
     c.execute_some.new.register.store _ _ _ c.execute_some.ensures.follows
-    c.execute_group.ensures.goes_on c.execute_some.ensures.goes_on
+    c.execute_group.ensures.goes_on c.execute_some.ensures.goes_on)
 
 pub returns-then-not-execute_group-clause-follows : goal.returns-then-not-execute_group-clause-follows
 returns-then-not-execute_group-clause-follows g c =
