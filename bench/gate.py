@@ -35,32 +35,33 @@ class Part:
 
 
 def measured(words):
-    """Runs the gate. Returns its status, each crate's parts, its time, and the processor time of all work meanwhile."""
+    """Runs the gate. Returns its status, each crate's parts, its time, and the processor time of all work meanwhile, and of the host."""
     began, before, seen, parts = time.monotonic(), busy(), {}, {}
     gate = subprocess.Popen(words, stdin=subprocess.DEVNULL)
     while gate.poll() is None:
         look(gate.pid, seen, time.monotonic() - began)
         time.sleep(0.5)
-    wall, whole = time.monotonic() - began, busy() - before
+    wall, spent = time.monotonic() - began, [now - then for now, then in zip(busy(), before)]
     for process in seen.values():
         part = parts.setdefault((process.crate(), process.part()), Part())
         part.seconds += process.seconds
         part.begun, part.ended = min(part.begun, process.begun), max(part.ended, process.ended)
-    return gate.returncode, parts, wall, whole
+    return gate.returncode, parts, wall, spent
 
 
 def minutes(*seconds):
     return [f"{it / 60:.1f}" for it in seconds]
 
 
-def print_parts(parts, wall, whole):
+def print_parts(parts, wall, spent):
     print_head("Crate", "Part", "Processor minutes", "From", "To")
     for (crate, name), part in sorted(parts.items(), key=lambda it: -it[1].seconds):
         if part.seconds >= LEAST_GROWTH / 4:
             print_row(f"`{crate}`", name, *minutes(part.seconds, part.begun, part.ended))
-    ours = sum(part.seconds for part in parts.values())
+    ours, (whole, taken) = sum(part.seconds for part in parts.values()), spent
     print(f"\n{ours / 60:.1f} processor minutes in {wall / 60:.1f} minutes on {os.cpu_count()} processors;"
-          f" other work had {max(whole - ours, 0) / 60:.1f} processor minutes of them meanwhile\n")
+          f" other work had {max(whole - ours, 0) / 60:.1f} processor minutes of them meanwhile\n"
+          f"the host took {100 * taken / (whole + taken):.0f} % of the time for which there was work: without that, the same work takes as much less\n")
 
 
 # ---- chains of parts
@@ -128,8 +129,8 @@ def write(parts):
 
 def main(words):
     is_written, crates = words[:1] == ["--write"], read_crates()
-    status, parts, wall, whole = measured(words[is_written:] or ["rt", "ci"])
-    print_parts(parts, wall, whole)
+    status, parts, wall, spent = measured(words[is_written:] or ["rt", "ci"])
+    print_parts(parts, wall, spent)
     chained = {it: part for it, part in parts.items() if it[0] in crates and it[1] != "else"}
     if chained:
         print_chains(chained, crates)

@@ -30,7 +30,7 @@ def copied(held):
     shutil.copytree(TOP / "crates", held / "crates", ignore=shutil.ignore_patterns("out", "wrong-bodies"))
     shutil.copy(TOP / "HANDLES", held)
     rows = (TOP / "crates.txt").read_text("utf-8")
-    (held / "crates.txt").write_text(re.sub(r"(?m)^(memory_tests: .*)$", r"\1 connections", rows), "utf-8")
+    (held / "crates.txt").write_text(re.sub(r"(?m)^(memory_tests: .*)$", r"\1 hub", rows), "utf-8")
     source = held / "crates/memory_tests/src"
     fixture = (source / "fixture.rt").read_text("utf-8") + BODIES
     shutil.rmtree(source)

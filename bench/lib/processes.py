@@ -77,6 +77,6 @@ def look(root, seen, now):
 
 
 def busy():
-    """Returns the seconds that all processors together were at work since the machine began."""
+    """Returns the seconds that all processors together were at work since the machine began, and those that its host took from them."""
     user, nice, system, _idle, _waits, *others = map(int, text_of("/proc/stat").split("\n")[0].split()[1:])
-    return (user + nice + system + sum(others[:3])) / TICKS
+    return (user + nice + system + sum(others[:2])) / TICKS, others[2] / TICKS

@@ -20,9 +20,9 @@ use Rattle.settle.specs.Reads.{HasDeviceFailed}
 use Rattle.register.specs.Opening.{HasOtherWindows}
 use Rattle.register.specs.declared.register.OpenFault.{OpenFault}
 use Rattle.register.specs.declared.register.OpenFault.TheVariants as opening
-use Rattle.connections.specs.Feeding.{FeedsTo}
-use Rattle.connections.specs.declared.feeding.FeedFault.{FeedFault}
-use Rattle.connections.specs.declared.feeding.FeedFault.TheVariants as feeding
+use Rattle.hub.specs.Feeding.{FeedsTo}
+use Rattle.hub.specs.declared.feeding.FeedFault.{FeedFault}
+use Rattle.hub.specs.declared.feeding.FeedFault.TheVariants as feeding
 use Rattle.cli.specs.Faults.{IsOfServing}
 use Rattle.cli.specs.Feeding.{FedInGroups, Feeds, FeedsInGroups, fault_of_end, io_of_feed, outcome_of, outcome_of_groups}
 

@@ -14,9 +14,9 @@ use Rattle.api.specs.declared.serving.End.TheVariants.{Input, Closed, Refused}
 use Rattle.api.specs.declared.serving.Served.{Served}
 use Rattle.api.specs.declared.serving.Fault.{Fault as ServingFault}
 use Rattle.api.specs.declared.serving.Fault.TheVariants as serving
-use Rattle.connections.specs.Feeding.{FeedsTo}
-use Rattle.connections.specs.declared.feeding.FeedFault.{FeedFault}
-use Rattle.connections.specs.declared.feeding.FeedFault.TheVariants as feeding
+use Rattle.hub.specs.Feeding.{FeedsTo}
+use Rattle.hub.specs.declared.feeding.FeedFault.{FeedFault}
+use Rattle.hub.specs.declared.feeding.FeedFault.TheVariants as feeding
 use Rattle.register.specs.declared.register.OpenFault.TheVariants as opening
 use Rattle.cli.specs.declared.fault.Fault.{Fault}
 use Rattle.cli.specs.declared.fault.Fault.TheVariants as fault

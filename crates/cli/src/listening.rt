@@ -1,15 +1,16 @@
 //! Serves connections to a port of this machine.
 ghost use Rattle.std.specs.Prelude.{◌≡◌, IfErr, IfOk, string_bytes};
 ghost use Rattle.settle.specs.Reads.{HasDeviceFailed};
-ghost use Rattle.connections.specs.Rows.{RowsFollow};
-ghost use Rattle.connections.specs.Waits.{AreLimits};
+ghost use Rattle.hub.specs.Rows.{RowsFollow};
+ghost use Rattle.hub.specs.Waits.{AreLimits};
 ghost use Rattle.cli.specs.Listening.{IsBeforeServing, ReportsListening, listening_line};
 
 use crate::fault::Fault;
 use api::MachineMinutes;
 use command_line::parse::ServeLimits;
-use connections::{Limits, ServerFault, Service, serve_many};
+use connections::{ServerFault, Service, serve_many};
 use http_messages::send_all;
+use hub::Limits;
 use mio::net::TcpListener;
 use register::{OpenFault, Register};
 use settle::Store;

@@ -1,5 +1,5 @@
 //! Accepts the connections of a listener.
-use crate::peer::Accepted;
+use crate::socket::Socket;
 use mio::net::TcpListener;
 use std::io::ErrorKind;
 use std::time::Duration;
@@ -20,7 +20,7 @@ pub struct Acceptor {
     // How many more are accepted, if that is bounded.
     left: Option<u16>,
     /// A connection that was accepted while all places were taken.
-    pub waiting: Option<Accepted>,
+    pub waiting: Option<Socket>,
 }
 
 impl Acceptor {
@@ -66,11 +66,7 @@ impl Acceptor {
                 // Otherwise a second small write waits for the client's acknowledgement.
                 let _ = stream.set_nodelay(true);
                 self.accepted = self.accepted.saturating_add(1);
-                self.waiting = Some(Accepted {
-                    stream,
-                    address,
-                    number: self.accepted,
-                });
+                self.waiting = Some(Socket::new(stream, address, self.accepted));
                 self.left = self.left.map(|left| left.saturating_sub(1));
             }
             Err(fault) if fault.kind() == ErrorKind::WouldBlock => self.is_ready = false,

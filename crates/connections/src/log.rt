@@ -1,59 +1,24 @@
 //! The log: a line for each connection that has ended, and for each failure of the device.
+use crate::socket::Peer;
 use api::Tally;
+use hub::Ending;
 use std::alloc::{AllocError, Global};
 use std::io::Write;
-use std::net::SocketAddr;
 use std::time::Duration;
 
-/// How a connection ended.
-#[derive(Clone, Copy, Debug, PartialEq, Eq)]
-pub enum Ending {
-    /// The client ended its input, and got all responses.
-    Ended,
-    /// A message asked for `connection: close`.
-    Closed,
-    /// A message was refused with `bad_head`, `too_large` or `cut_body`.
-    Refused,
-    /// The client was silent between messages.
-    Idle,
-    /// A message did not arrive in time.
-    Message,
-    /// The client took no bytes of a response.
-    Sending,
-    /// The socket failed.
-    Broken,
-    /// An allocation failed.
-    NoMemory,
-    /// The store has shut.
-    Storage,
-}
-
-impl Ending {
-    // Returns the word that the log has for it.
-    fn name(self) -> &'static str {
-        match self {
-            Ending::Ended => "ended",
-            Ending::Closed => "closed",
-            Ending::Refused => "refused",
-            Ending::Idle => "idle",
-            Ending::Message => "message",
-            Ending::Sending => "sending",
-            Ending::Broken => "broken",
-            Ending::NoMemory => "no_memory",
-            Ending::Storage => "storage",
-        }
+// Returns the word that the log has for how a connection ended.
+fn name(ending: Ending) -> &'static str {
+    match ending {
+        Ending::Ended => "ended",
+        Ending::Closed => "closed",
+        Ending::Refused => "refused",
+        Ending::Idle => "idle",
+        Ending::Message => "message",
+        Ending::Sending => "sending",
+        Ending::Broken => "broken",
+        Ending::NoMemory => "no_memory",
+        Ending::Storage => "storage",
     }
-}
-
-/// What the log says of a connection.
-#[derive(Clone, Copy, Debug)]
-pub struct Summary {
-    /// The connections are numbered as they are accepted, from 1.
-    pub number: u64,
-    pub peer: SocketAddr,
-    pub tally: Tally,
-    pub open_for: Duration,
-    pub ending: Ending,
 }
 
 // Returns the callers, separated by commas: `+` is for further ones, `-` for none.
@@ -74,22 +39,21 @@ fn callers(alloc: Global, tally: &Tally) -> Result<String, AllocError> {
     Ok(text)
 }
 
-// Returns the line of a connection.
-fn line(alloc: Global, summary: &Summary) -> Result<String, AllocError> {
-    let Tally {
-        messages,
-        refusals,
-        ..
-    } = summary.tally;
-    let spids = callers(alloc, &summary.tally)?;
-    let seconds = summary.open_for.as_secs();
-    let millis = summary.open_for.subsec_millis();
+// Returns the line of a connection that is closed at `now`.
+fn line(alloc: Global, peer: &Peer, now: Duration) -> Result<String, AllocError> {
+    let tally = peer.tally();
+    let spids = callers(alloc, tally)?;
+    let open_for = peer.open_for(now);
+    let seconds = open_for.as_secs();
+    let millis = open_for.subsec_millis();
     format!(in alloc;
-        "connection={} peer={} spids={spids} messages={messages} refusals={refusals} \
+        "connection={} peer={} spids={spids} messages={} refusals={} \
          seconds={seconds}.{millis:03} end={}\n",
-        summary.number,
-        summary.peer,
-        summary.ending.name()
+        peer.peer.number,
+        peer.peer.address,
+        tally.messages,
+        tally.refusals,
+        name(peer.ending().unwrap_or(Ending::Broken))
     )
 }
 
@@ -101,8 +65,8 @@ fn write<L: Write>(line: Result<String, AllocError>, log: &mut L) {
 }
 
 /// Writes the line of a connection that has ended.
-pub fn log_connection<L: Write>(alloc: Global, summary: &Summary, log: &mut L) {
-    write(line(alloc, summary), log);
+pub fn log_connection<L: Write>(alloc: Global, peer: &Peer, now: Duration, log: &mut L) {
+    write(line(alloc, peer, now), log);
 }
 
 /// Writes that the device failed while messages of a connection were executed: for the

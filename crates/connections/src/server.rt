@@ -1,20 +1,18 @@
 //! The event loop: serves the connections of a port in turns.
 ghost use Rattle.std.specs.Prelude.{◌≡◌, ◌≢◌, ◌≤◌, Err};
 ghost use Rattle.settle.specs.Reads.{HasDeviceFailed};
-ghost use Rattle.settle.specs.StoreContract.{BeginsNoGroup, EndsNoGroup};
-ghost use Rattle.connections.specs.Crashes.{LeavesContent};
-ghost use Rattle.connections.specs.Rows.{RowsFollow};
+ghost use Rattle.hub.specs.Crashes.{LeavesContent};
+ghost use Rattle.hub.specs.Rows.{RowsFollow};
 
 use crate::acceptor::Acceptor;
-use crate::limits::{Limits, Wait};
-use crate::log::{Ending, log_connection, log_failure};
-use crate::peer::{Accepted, Peer};
-use api::{Executor, Ticks, TurnLimit};
+use crate::log::{log_connection, log_failure};
+use crate::socket::{Socket, has_work, read_more, write_more};
+use api::Ticks;
+use hub::{Ending, Hub, Limits, Member, Stage, Wait};
 use mio::net::TcpListener;
 use mio::{Events, Interest, Poll, Token};
 use register::Register;
 use settle::{Store, StoreFault};
-use slab::Slab;
 use std::alloc::{AllocError, Global};
 use std::collections::VecDeque;
 use std::io::Write;
@@ -30,12 +28,6 @@ const READ_SIZE: usize = 65_536;
 
 // How many events are taken at once.
 const EVENTS: usize = 256;
-
-// How much a turn takes at most.
-const TURN: TurnLimit = TurnLimit {
-    messages: 64,
-    output: 65_536,
-};
 
 // How long the loop sleeps at most while all places are taken and a connection waits, in
 // milliseconds.
@@ -74,19 +66,16 @@ impl From<io::Error> for ServerFault {
     }
 }
 
-// The connections, and what serving them needs.
+// The connections with their sockets, and what serving them needs.
 #[derive(Drop)]
 struct Server {
     poll: Poll,
     acceptor: Acceptor,
-    peers: Slab<Peer>,
-    // The keys of those with work.
+    hub: Hub<Socket>,
+    // The keys of those with work, and of those that have their turn.
     queue: VecDeque<usize>,
-    executor: Executor,
-    // The keys of those with a turn in the group of commits.
     turns: Vec<usize>,
     scratch: Vec<u8>,
-    limits: Limits,
     now: Duration,
     // No deadline is before this time.
     next_deadline: Duration,
@@ -104,12 +93,10 @@ impl Server {
         Ok(Server {
             poll,
             acceptor: Acceptor::new(listener, connections),
-            peers: Slab::with_capacity(alloc, limits.at_once)?,
+            hub: Hub::new(alloc, limits)?,
             queue: VecDeque::with_capacity(alloc, limits.at_once)?,
-            executor: Executor::new(alloc)?,
-            turns: Vec::new(alloc),
+            turns: Vec::with_capacity(alloc, limits.at_once)?,
             scratch: vec![in alloc; 0; READ_SIZE]?,
-            limits,
             now: Duration::ZERO,
             next_deadline: Duration::MAX,
             alloc,
@@ -118,35 +105,36 @@ impl Server {
 
     // Puts a connection into the queue if it has work and is not there.
     fn enqueue(&mut self, key: usize) {
-        if let Some(peer) = self.peers.get_mut(key)
-            && !peer.is_queued
-            && peer.has_work()
+        if let Some(peer) = self.hub.members.get_mut(key)
+            && !peer.peer.is_queued
+            && has_work(peer)
         {
-            peer.is_queued = self.queue.push_back(key).is_ok();
+            peer.peer.is_queued = self.queue.push_back(key).is_ok();
         }
     }
 
     // Notes the deadline of a connection.
     fn note_deadline(&mut self, key: usize) {
-        if let Some(peer) = self.peers.get(key) {
-            self.next_deadline = self.next_deadline.min(peer.deadline(&self.limits));
+        if let Some(peer) = self.hub.members.get(key) {
+            let deadline = peer.deadline(&self.hub.limits);
+            self.next_deadline = self.next_deadline.min(deadline);
         }
     }
 
     // Gives an accepted connection a place. One that the system does not watch is closed.
-    fn insert(&mut self, accepted: Accepted) {
-        let mut accepted = accepted;
-        let key = self.peers.vacant_key();
+    fn insert(&mut self, accepted: Socket) {
+        let mut socket = accepted;
+        let key = self.hub.members.vacant_key();
         let interests = Interest::READABLE | Interest::WRITABLE;
         let registry = self.poll.registry();
         if registry
-            .register(&mut accepted.stream, Token(key), interests)
+            .register(&mut socket.stream, Token(key), interests)
             .is_err()
         {
             return;
         }
-        let peer = Peer::new(self.alloc, accepted, self.now);
-        if self.peers.insert(peer).is_ok() {
+        let peer = Member::new(self.alloc, socket, self.now);
+        if self.hub.members.insert(peer).is_ok() {
             self.note_deadline(key);
             self.enqueue(key);
         }
@@ -156,8 +144,8 @@ impl Server {
     // idle: a message may have arrived.
     fn longest_idle(&self) -> Option<(usize, Duration)> {
         let mut longest: Option<(usize, Duration)> = None;
-        for (key, peer) in self.peers.iter() {
-            let is_idle = !peer.is_queued && peer.wait() == Wait::Idle;
+        for (key, peer) in self.hub.members.iter() {
+            let is_idle = !peer.peer.is_queued && peer.wait() == Wait::Idle;
             let since = peer.wait_start();
             if is_idle && longest.is_none_or(|(_, earliest)| since < earliest) {
                 longest = Some((key, since));
@@ -171,23 +159,23 @@ impl Server {
         let Some((key, since)) = self.longest_idle() else {
             return;
         };
-        if self.now < since.saturating_add(self.limits.idle_when_full) {
+        if self.now < since.saturating_add(self.hub.limits.idle_when_full) {
             return;
         }
-        if let Some(peer) = self.peers.get_mut(key) {
+        if let Some(peer) = self.hub.members.get_mut(key) {
             peer.close(Ending::Idle);
         }
         self.enqueue(key);
     }
 
     fn has_place(&self) -> bool {
-        self.peers.len() < self.limits.at_once
+        self.hub.members.len() < self.hub.limits.at_once
     }
 
     // Accepts connections while places are free. One more is accepted and waits, so that an idle
     // connection is closed only if another waits.
     fn accept_new(&mut self) {
-        for _ in 0..self.limits.at_once {
+        for _ in 0..self.hub.limits.at_once {
             if self.acceptor.waiting.is_none() {
                 self.acceptor.accept(self.now);
             }
@@ -204,168 +192,52 @@ impl Server {
         }
     }
 
-    // Writes once for a connection after its messages were executed. Then removes it if it is done,
-    // or puts it into the queue if it has work.
-    fn end_turn<L: Write>(&mut self, key: usize, log: &mut L) {
-        let Some(peer) = self.peers.get_mut(key) else {
+    // Begins the turns of the connections in the queue, as many as share a group of commits: reads once
+    // for each.
+    fn begin_turns(&mut self) {
+        let most = if self.hub.limits.group > 1 {
+            self.hub.limits.group as usize
+        } else {
+            usize::MAX
+        };
+        for _ in 0..self.queue.len().min(most) {
+            if let Some(key) = self.queue.pop_front()
+                && let Some(peer) = self.hub.members.get_mut(key)
+            {
+                peer.peer.is_queued = false;
+                read_more(peer, &mut self.scratch, self.now);
+                let _ = self.turns.push(key);
+            }
+        }
+    }
+
+    // Ends the turn of a connection: writes once. Then removes it if it is done, or puts it into the
+    // queue if it has work.
+    fn end_turn<L: Write>(&mut self, key: usize, failures: u64, log: &mut L) {
+        let Some(peer) = self.hub.members.get_mut(key) else {
             return;
         };
-        peer.write_more(self.now);
-        if peer.is_done() {
-            log_connection(self.alloc, &peer.summary(self.now), log);
-            drop(self.peers.try_remove(key));
+        if peer.take_failure() {
+            log_failure(self.alloc, peer.peer.number, failures, log);
+        }
+        write_more(peer, self.now);
+        if matches!(peer.stage(), Stage::Done) {
+            log_connection(self.alloc, peer, self.now, log);
+            drop(self.hub.members.try_remove(key));
             return;
         }
         self.note_deadline(key);
         self.enqueue(key);
     }
 
-    // Begins the turn of a connection: reads once.
-    fn begin_turn(&mut self, key: usize) {
-        if let Some(peer) = self.peers.get_mut(key) {
-            peer.is_queued = false;
-            peer.read_more(&mut self.scratch, self.now);
-        }
-    }
-
-    // Executes some messages of a connection.
-    fn execute<S: Store, T: Ticks, L: Write>(
-        &mut self,
-        key: usize,
-        register: &mut Register<S>,
-        ticks: &mut T,
-        log: &mut L,
-    )
-        ensures follows { RowsFollow S.StoreModel register.old.store register.new.store }
-    {
-        let Some(peer) = self.peers.get_mut(key) else {
-            return;
-        };
-        let failures = register.failures();
-        peer.execute_ahead(&mut self.executor, register, ticks, TURN);
-        peer.keep_ahead(self.now);
-        if register.failures() != failures {
-            log_failure(self.alloc, peer.number(), register.failures(), log);
-        }
-    }
-
-    // Gives each connection in the queue its turn: one read, some messages, one write.
-    fn turns_alone<S: Store, T: Ticks, L: Write>(
-        &mut self,
-        register: &mut Register<S>,
-        ticks: &mut T,
-        log: &mut L,
-    )
-        ensures follows { RowsFollow S.StoreModel register.old.store register.new.store }
-    {
-        for _ in 0..self.queue.len() {
-            if let Some(key) = self.queue.pop_front() {
-                self.begin_turn(key);
-                self.execute(key, register, ticks, log);
-                self.end_turn(key, log);
-            }
-        }
-    }
-
-    // Executes messages of a connection ahead of the end of their group. Returns how many.
-    fn execute_ahead<S: Store, T: Ticks>(
-        &mut self,
-        key: usize,
-        register: &mut Register<S>,
-        ticks: &mut T,
-        most: u64,
-    ) -> u64
-        ensures follows { RowsFollow S.StoreModel register.old.store register.new.store }
-        ensures begins { BeginsNoGroup S.StoreModel register.old.store register.new.store }
-        ensures ends { EndsNoGroup S.StoreModel register.old.store register.new.store }
-    {
-        if self.turns.push(key).is_err() {
-            let _ = self.queue.push_back(key);
-            return 0;
-        }
-        self.begin_turn(key);
-        let limit = TurnLimit {
-            messages: most.min(TURN.messages),
-            output: TURN.output,
-        };
-        match self.peers.get_mut(key) {
-            Some(peer) => {
-                peer.execute_ahead(&mut self.executor, register, ticks, limit);
-                peer.count_ahead()
-            }
-            None => 0,
-        }
-    }
-
-    // Executes messages of the connections in the queue, until the group is full.
-    fn turns_ahead<S: Store, T: Ticks>(&mut self, register: &mut Register<S>, ticks: &mut T)
-        ensures follows { RowsFollow S.StoreModel register.old.store register.new.store }
-        ensures begins { BeginsNoGroup S.StoreModel register.old.store register.new.store }
-        ensures ends { EndsNoGroup S.StoreModel register.old.store register.new.store }
-    {
-        let mut left = self.limits.group;
-        for _ in 0..self.queue.len() {
-            if left == 0 {
-                break;
-            }
-            if let Some(key) = self.queue.pop_front() {
-                let executed = self.execute_ahead(key, register, ticks, left);
-                left = left.saturating_sub(executed);
-            }
-        }
-    }
-
-    // Ends the turns of a group. If its commits last, its responses are sent. Otherwise each message
-    // is executed again, and commits by itself.
-    fn end_turns<S: Store, T: Ticks, L: Write>(
-        &mut self,
-        lasts: bool,
-        register: &mut Register<S>,
-        ticks: &mut T,
-        log: &mut L,
-    )
-        ensures follows { RowsFollow S.StoreModel register.old.store register.new.store }
-    {
+    // Ends the turns.
+    fn end_turns<L: Write>(&mut self, failures: u64, log: &mut L) {
         let mut turns = mem::replace(&mut self.turns, Vec::new(self.alloc));
         for key in turns.iter() {
-            if let Some(peer) = self.peers.get_mut(*key) {
-                if lasts {
-                    peer.keep_ahead(self.now);
-                } else {
-                    peer.drop_ahead();
-                }
-            }
-            if !lasts {
-                self.execute(*key, register, ticks, log);
-            }
-            self.end_turn(*key, log);
+            self.end_turn(*key, failures, log);
         }
         turns.clear();
         self.turns = turns;
-    }
-
-    // Gives the connections in the queue a turn each: if the store has groups of commits, as many as
-    // one group takes.
-    fn turns<S: Store, T: Ticks, L: Write>(
-        &mut self,
-        register: &mut Register<S>,
-        ticks: &mut T,
-        log: &mut L,
-    )
-        ensures follows { RowsFollow S.StoreModel register.old.store register.new.store }
-    {
-        if self.queue.is_empty() {
-            return;
-        }
-        if self.limits.group > 1
-            && let Ok(true) = register.begin_group()
-        {
-            self.turns_ahead(register, ticks);
-            let ended = register.end_group();
-            self.end_turns(ended.is_ok(), register, ticks, log);
-        } else {
-            self.turns_alone(register, ticks, log);
-        }
     }
 
     // Gives each connection in the queue one turn. If the device failed meanwhile, looks whether the
@@ -382,7 +254,9 @@ impl Server {
         ensures memory { result ≢ Err ServerFault.NoMemory }
     {
         let failures = register.failures();
-        self.turns(register, ticks, log);
+        self.begin_turns();
+        self.hub.round(&self.turns, register, ticks, self.now);
+        self.end_turns(register.failures(), log);
         if register.failures() == failures {
             return Ok(());
         }
@@ -392,25 +266,15 @@ impl Server {
         }
     }
 
-    // Gives each connection in the queue a turn without messages.
-    fn last_turns<L: Write>(&mut self, log: &mut L) {
-        for _ in 0..self.queue.len() {
-            if let Some(key) = self.queue.pop_front() {
-                self.begin_turn(key);
-                self.end_turn(key, log);
-            }
-        }
-    }
-
     // Closes the connections whose time is up, and finds the next deadline.
     fn close_expired(&mut self) {
         if self.now < self.next_deadline {
             return;
         }
         self.next_deadline = Duration::MAX;
-        for key in 0..self.limits.at_once {
-            if let Some(peer) = self.peers.get_mut(key)
-                && peer.deadline(&self.limits) <= self.now
+        for key in 0..self.hub.limits.at_once {
+            if let Some(peer) = self.hub.members.get_mut(key)
+                && peer.deadline(&self.hub.limits) <= self.now
             {
                 peer.expire();
             }
@@ -444,8 +308,8 @@ impl Server {
             let token = event.token();
             if token == LISTENER {
                 self.acceptor.is_ready = true;
-            } else if let Some(peer) = self.peers.get_mut(token.0) {
-                peer.note(event);
+            } else if let Some(peer) = self.hub.members.get_mut(token.0) {
+                peer.peer.note(event);
                 self.enqueue(token.0);
             }
         }
@@ -477,7 +341,7 @@ impl Server {
         ensures memory { result ≢ Err ServerFault.NoMemory }
     {
         for _ in 0..u64::MAX {
-            if self.acceptor.is_closed() && self.peers.is_empty() {
+            if self.acceptor.is_closed() && self.hub.members.is_empty() {
                 break;
             }
             self.wait(events, clock)?;
@@ -496,19 +360,20 @@ impl Server {
         log: &mut L,
     ) -> io::Result<()> {
         self.acceptor.close();
-        for key in 0..self.limits.at_once {
-            if let Some(peer) = self.peers.get_mut(key) {
+        for key in 0..self.hub.limits.at_once {
+            if let Some(peer) = self.hub.members.get_mut(key) {
                 peer.stop(self.now);
             }
             self.enqueue(key);
             self.note_deadline(key);
         }
         for _ in 0..u64::MAX {
-            if self.peers.is_empty() {
+            if self.hub.members.is_empty() {
                 break;
             }
             self.wait(events, clock)?;
-            self.last_turns(log);
+            self.begin_turns();
+            self.end_turns(0, log);
             self.close_expired();
         }
         Ok(())

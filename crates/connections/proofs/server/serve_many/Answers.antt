@@ -1,4 +1,4 @@
-use Rattle.connections.proofs.RowsLemmas.{rows_last}
+use Rattle.hub.proofs.RowsLemmas.{rows_last}
 use Rattle.connections.proofs.server.serve_many.Goals as goal
 
 pub returns-clause-lasts : goal.returns-clause-lasts

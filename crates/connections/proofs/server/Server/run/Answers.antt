@@ -1,4 +1,4 @@
-use Rattle.connections.proofs.RowsLemmas.{rows_then}
+use Rattle.hub.proofs.RowsLemmas.{rows_then}
 use Rattle.connections.proofs.server.Server.run.Goals as goal
 
 pub loop-preserved : goal.loop-preserved

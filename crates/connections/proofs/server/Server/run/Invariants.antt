@@ -1,4 +1,4 @@
-use Rattle.connections.specs.Rows.{RowsFollow}
+use Rattle.hub.specs.Rows.{RowsFollow}
 use Rattle.connections.proofs.server.Server.run.Given as goal
 
 abbrev pub invariant-loop : goal.invariant-loop

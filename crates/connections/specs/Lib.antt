@@ -1,6 +1,0 @@
-pub mod Connections
-pub mod Crashes
-pub mod Feeding
-pub mod Rows
-pub mod Schedules
-pub mod Waits
